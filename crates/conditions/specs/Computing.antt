@@ -1,0 +1,6 @@
+-- One name that opens every definition of this crate, for proofs that compute.
+use Rattle.conditions.specs.Truth.{equality, inequality, comparison, truthOf}
+
+unfoldable pub computing : Unit {0}
+unfolding equality inequality comparison truthOf
+computing = tt

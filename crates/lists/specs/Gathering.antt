@@ -1,0 +1,92 @@
+-- What an ending makes of delivered rows: its list as words, merging, tests 12 and 13, and the room that it needs.
+-- Assumes nothing: these are definitions.
+use Prim.Native.Nat.{ℕ, _+_, _*_, _/_, _%_}
+use mathlib.Core.List.{List, [], _∷_, _++_, map, flatten}
+use mathlib.Core.Bool.{Bool, true, false, cond, _&&_, _||_, not}
+use lib.ListN.{length}
+use lib.Dec.{eqb, ltb, leb}
+use Rattle.words.specs.Words.{isVariable, isNumber, valueRank, unbound}
+use Rattle.words.specs.Bindings.{Bindings}
+use Rattle.words.specs.Sequences.{all, neighbours, parts}
+use Rattle.plans.specs.Endings.{Ending, rows, top, group}
+use Rattle.lists.specs.Rows.{project, rowBefore, bestBy, ahead}
+use Rattle.lists.specs.Groups.{Group, totalsWidth, groupsOf, addGroups, keysBefore, groupWords, groupIn}
+
+-- ---- records
+-- the words of one row or one record
+abbrev pub width : Ending → ℕ
+width (rows vs) = length vs
+width (top k vs keys) = length vs
+width (group vs m) = length vs + totalsWidth
+
+-- a list cut into rows or records
+unfoldable pub recordsIn : ℕ → List ℕ → List (List ℕ)
+recordsIn w ws = parts w (length ws / w) ws
+
+abbrev pub groupsIn : List ℕ → List ℕ → List Group
+groupsIn vs ws = map (groupIn (length vs)) (recordsIn (length vs + totalsWidth) ws)
+
+-- ---- gathering: the list of some delivered rows, for a best-of list of those strictly before a threshold
+unfoldable pub gathered : Ending → List ℕ → List Bindings → List ℕ
+gathered (rows vs) threshold bs = flatten (map (project vs) bs)
+gathered (top k vs keys) threshold bs =
+    flatten (bestBy (rowBefore vs keys) k (ahead (rowBefore vs keys) threshold (map (project vs) bs)))
+gathered (group vs m) threshold bs = flatten (map groupWords (groupsOf vs m bs))
+
+-- test 7: the words that an output has at least: one row, k rows, one record
+abbrev pub leastOutput : Ending → ℕ
+leastOutput (rows vs) = length vs
+leastOutput (top k vs keys) = k * length vs
+leastOutput (group vs m) = length vs + totalsWidth
+
+-- test 11: a threshold is empty, or one row for a best-of ending
+abbrev pub isValue : ℕ → Bool
+isValue w = not (isVariable w) || eqb w unbound
+
+unfoldable pub thresholdRight : Ending → List ℕ → Bool
+thresholdRight e [] = true
+thresholdRight (rows vs) (w ∷ ws) = false
+thresholdRight (top k vs keys) (w ∷ ws) = eqb (length (w ∷ ws)) (length vs) && all isValue (w ∷ ws)
+thresholdRight (group vs m) (w ∷ ws) = false
+
+-- ---- merging
+-- the best of both, kept rows first among equals; or groups added up
+unfoldable pub merged : Ending → List ℕ → List ℕ → List ℕ
+merged (rows vs) kept list = []
+merged (top k vs keys) kept list =
+    flatten (bestBy (rowBefore vs keys) k (recordsIn (length vs) kept ++ recordsIn (length vs) list))
+merged (group vs m) kept list = flatten (map groupWords (addGroups (groupsIn vs kept) (groupsIn vs list)))
+
+-- test 12, of one list
+-- with numbers 0 the sum is 0 and least and greatest are unbound; otherwise these are numbers, least not above greatest
+abbrev pub extremesRight : Group → Bool
+extremesRight g =
+    cond (eqb (g .numbers) 0)
+    (eqb (g .sum) 0 && (eqb (g .least) unbound && eqb (g .greatest) unbound))
+    (isNumber (g .least) && (isNumber (g .greatest) && leb (valueRank (g .least)) (valueRank (g .greatest))))
+
+unfoldable pub groupRight : Group → Bool
+groupRight g =
+    all isValue (g .keys) && (leb 1 (g .rows) && (leb (g .numbers) (g .rows) && extremesRight g))
+
+unfoldable pub listRight : Ending → List ℕ → Bool
+listRight (rows vs) ws = false
+listRight (top k vs keys) ws =
+    eqb (length ws % length vs) 0
+    && (all isValue ws
+    && (leb (length ws / length vs) k
+    && neighbours (λ x y. not (rowBefore vs keys y x)) (recordsIn (length vs) ws)))
+listRight (group vs m) ws =
+    eqb (length ws % (length vs + totalsWidth)) 0 && (all groupRight (groupsIn vs ws) && neighbours keysBefore (groupsIn vs ws))
+
+-- test 13: no total of a merged group passes 2^64 - 1
+abbrev pub longValues : ℕ
+longValues = 0x1_0000_0000_0000_0000
+
+abbrev pub groupFits : Group → Bool
+groupFits g = ltb (g .rows) longValues && (ltb (g .numbers) longValues && ltb (g .sum) longValues)
+
+unfoldable pub totalsFit : Ending → List ℕ → List ℕ → Bool
+totalsFit (rows vs) kept list = true
+totalsFit (top k vs keys) kept list = true
+totalsFit (group vs m) kept list = all groupFits (addGroups (groupsIn vs kept) (groupsIn vs list))

@@ -1,0 +1,58 @@
+-- Merging: its tests in order, its answer, and the kept buffer at exit. Assumes nothing: these are definitions.
+use Prim.Native.Nat.{ℕ}
+use mathlib.Core.List.{List, [], _∷_, _++_}
+use mathlib.Core.Bool.{Bool, _&&_}
+use mathlib.Core.Option.{Option, none, some}
+use lib.ListN.{length, take}
+use lib.Dec.{leb}
+use Rattle.words.specs.declared.Written.{Written}
+use Rattle.words.specs.declared.Written.the-variants.{Words, Refused}
+use Rattle.words.specs.Sequences.{over}
+use Rattle.words.specs.Tests.{Test, firstFailing}
+use Rattle.plans.specs.Endings.{Ending}
+use Rattle.plans.specs.Plans.{planOf, planTests}
+use Rattle.lists.specs.Gathering.{listRight, totalsFit, merged}
+
+pub record MergeInput : Type 0 where
+  pub plan : List ℕ
+  pub kept : List ℕ
+  pub given : ℕ
+  pub list : List ℕ
+
+-- a kept list is the first words of its buffer, as many as the call gives
+abbrev pub givenKept : MergeInput → List ℕ
+givenKept i = take (i .given) (i .kept)
+
+abbrev pub givenEnding : MergeInput → Ending
+givenEnding i = planOf (i .plan) .ending
+
+-- the words of the result
+abbrev pub mergedWords : MergeInput → List ℕ
+mergedWords i = merged (givenEnding i) (givenKept i) (i .list)
+
+-- 5, 6; 12: both lists; 13: the totals; 14: room for the result
+abbrev pub listTests : MergeInput → List Test
+listTests i =
+    (12, leb (i .given) (length (i .kept)) && (listRight (givenEnding i) (givenKept i) && listRight (givenEnding i) (i .list)))
+    ∷ (13, totalsFit (givenEnding i) (givenKept i) (i .list))
+    ∷ (14, leb (length (mergedWords i)) (length (i .kept)))
+    ∷ []
+
+abbrev pub mergeTests : MergeInput → List Test
+mergeTests i = planTests (i .plan) ++ listTests i
+
+-- ---- what a merge answers, and what it leaves
+pub record MergeResult : Type 0 where
+  pub answer : Written
+  pub kept : List ℕ
+
+abbrev pub mergedWith : List ℕ → List ℕ → MergeResult
+mergedWith ws kept = record { answer = Words (length ws); kept = over ws kept }
+
+-- a refusal changes nothing
+abbrev pub mergedAs : MergeInput → Option ℕ → MergeResult
+mergedAs i (some n) = record { answer = Refused n; kept = i .kept }
+mergedAs i none = mergedWith (mergedWords i) (i .kept)
+
+unfoldable pub mergeOf : MergeInput → MergeResult
+mergeOf i = mergedAs i (firstFailing (mergeTests i))

@@ -1,0 +1,1 @@
+// Merging a turn's list into a kept one.

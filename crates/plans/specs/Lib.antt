@@ -1,0 +1,5 @@
+pub mod Conditions
+pub mod Branches
+pub mod Endings
+pub mod Plans
+pub mod Computing

@@ -1,0 +1,4 @@
+pub mod Levels
+pub mod Steps
+pub mod Saved
+pub mod Computing

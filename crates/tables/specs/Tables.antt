@@ -1,0 +1,91 @@
+-- The tables: rows and two lists of row numbers, the three orders that they make, and tests 1 to 4.
+-- Assumes nothing: these are definitions.
+use Prim.Native.Nat.{ℕ, suc, _+_, _-_, _*_, _/_, _%_}
+use mathlib.Core.List.{List, [], _∷_, map}
+use mathlib.Core.Bool.{Bool, cond, _&&_}
+use lib.ListN.{length, getD}
+use lib.Dec.{eqb, ltb, leb}
+use Rattle.words.specs.Words.{termKind, nameKind, variableKind}
+use Rattle.words.specs.Sequences.{all, allBelow, lexBefore}
+use Rattle.words.specs.Tests.{Test}
+use Rattle.tables.specs.declared.Order.{Order}
+use Rattle.tables.specs.declared.Order.the-variants.{Spo, Pos, Osp}
+
+-- rows, some words each; the row numbers in the orders POS and OSP
+pub record Tables : Type 0 where
+  pub rows : List ℕ
+  pub pos : List ℕ
+  pub osp : List ℕ
+
+abbrev pub tablesOf : List ℕ → List ℕ → List ℕ → Tables
+tablesOf rows pos osp = record { rows = rows; pos = pos; osp = osp }
+
+-- ---- rows
+-- the columns of a row, and how many there are
+abbrev pub subjectColumn : ℕ
+subjectColumn = 0
+
+abbrev pub predicateColumn : ℕ
+predicateColumn = 1
+
+abbrev pub objectColumn : ℕ
+objectColumn = 2
+
+abbrev pub columnCount : ℕ
+columnCount = 3
+
+abbrev pub mostRows : ℕ
+mostRows = 65536
+
+abbrev pub rowCount : Tables → ℕ
+rowCount t = length (t .rows) / columnCount
+
+abbrev pub fieldOf : List ℕ → ℕ → ℕ → ℕ
+fieldOf rows row column = getD rows (row * columnCount + column) 0
+
+-- ---- orders
+-- the columns that an order compares, first to last
+abbrev pub columnsOf : Order → List ℕ
+columnsOf Spo = subjectColumn ∷ predicateColumn ∷ objectColumn ∷ []
+columnsOf Pos = predicateColumn ∷ objectColumn ∷ subjectColumn ∷ []
+columnsOf Osp = objectColumn ∷ subjectColumn ∷ predicateColumn ∷ []
+
+-- a row's fields in the sequence of an order
+unfoldable pub fieldsOf : Order → List ℕ → ℕ → List ℕ
+fieldsOf o rows row = map (fieldOf rows row) (columnsOf o)
+
+-- the row at a place of an order
+abbrev pub rowAt : Order → Tables → ℕ → ℕ
+rowAt Spo t place = place
+rowAt Pos t place = getD (t .pos) place 0
+rowAt Osp t place = getD (t .osp) place 0
+
+abbrev pub fieldsAt : Order → Tables → ℕ → List ℕ
+fieldsAt o t place = fieldsOf o (t .rows) (rowAt o t place)
+
+-- ---- tests 1 to 4
+unfoldable pub lengthsRight : Tables → Bool
+lengthsRight t =
+    eqb (length (t .rows) % columnCount) 0
+    && (eqb (length (t .pos)) (rowCount t) && (eqb (length (t .osp)) (rowCount t) && leb (rowCount t) mostRows))
+
+-- subject and predicate are names; an object is anything but a variable
+abbrev pub fieldRight : ℕ → ℕ → Bool
+fieldRight column w = cond (eqb column objectColumn) (ltb (termKind w) variableKind) (eqb (termKind w) nameKind)
+
+unfoldable pub kindsRight : Tables → Bool
+kindsRight t = allBelow (λ row. allBelow (λ column. fieldRight column (fieldOf (t .rows) row column)) columnCount) (rowCount t)
+
+-- the fields ascend strictly from each place to the next
+unfoldable pub ascends : Order → Tables → Bool
+ascends o t = allBelow (λ place. lexBefore (fieldsAt o t place) (fieldsAt o t (suc place))) (rowCount t - 1)
+
+-- each number of a list names a row
+unfoldable pub namesRows : Tables → List ℕ → Bool
+namesRows t list = all (λ row. ltb row (rowCount t)) list
+
+abbrev pub listsRight : Tables → Bool
+listsRight t = namesRows t (t .pos) && (namesRows t (t .osp) && (ascends Pos t && ascends Osp t))
+
+abbrev pub tableTests : Tables → List Test
+tableTests t = (1, lengthsRight t) ∷ (2, kindsRight t) ∷ (3, ascends Spo t) ∷ (4, listsRight t) ∷ []

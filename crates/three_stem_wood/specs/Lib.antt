@@ -1,0 +1,5 @@
+pub mod Wood
+pub mod Calls
+pub mod Starred
+pub mod Refusals
+pub mod Misreadings

@@ -1,0 +1,17 @@
+// Opening a query, and running one turn of it.
+
+// How a turn ended: done, spent, full, or refused with its number.
+pub enum TurnEnding {
+    Done,
+    Spent,
+    Full,
+    Refused(u32),
+}
+
+// What a turn answers: its steps, its ending, and the words written to the state and to the output.
+pub struct Turned {
+    pub steps: u32,
+    pub ending: TurnEnding,
+    pub saved: usize,
+    pub listed: usize,
+}

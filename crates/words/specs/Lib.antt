@@ -1,0 +1,6 @@
+pub mod Words
+pub mod Bindings
+pub mod Sequences
+pub mod Tests
+pub mod Answers
+pub mod Computing

@@ -1,0 +1,284 @@
+// The 32-bit words of rows, plans and saved states: a kind in the top bits, a value or number in the low ones.
+ghost use mathlib.Core.Path.{_≡_};
+ghost use Prim.Native.Nat.{_%_, _<_, _≤_};
+ghost use Rattle.words.specs.Words.{termValues, termKind, termValue, name, number, text, variable, unbound, isVariable, isNumber, keyRank, lastRank, lowNumbers, kind, low, word, headKind, branchKind, trueKind, andKind, orKind, notKind, comparisonKind, rowsKind, topKind, risingKind, fallingKind, groupKind, depths, positionWord, placeWord, branchOf, depthOf};
+
+// A term: two bits of kind and a value of 30.
+pub struct Term(pub u32);
+
+// A word of a plan: four bits of kind, and a count or number of 28.
+pub struct PlanWord(pub u32);
+
+// A word of a saved state: four bits of kind, and a number of 28.
+pub struct StateWord(pub u32);
+
+// The answer of a call that writes to one buffer: how many words, or the number of the test that refused it.
+pub enum Written {
+    Words(usize),
+    Refused(u32),
+}
+
+// How many values a term has.
+pub const VALUES: u32 = 0x40000000;
+
+// How many numbers a word of a plan or a state has.
+pub const NUMBERS: u32 = 0x10000000;
+
+impl Term {
+    pub const NAME: u32 = 0;
+
+    pub const NUMBER: u32 = 1;
+
+    pub const TEXT: u32 = 2;
+
+    pub const VARIABLE: u32 = 3;
+
+    // A variable without a value, in a delivered row.
+    pub const UNBOUND: u32 = 0xC0000000;
+
+    // The last place in the order of keys.
+    pub const LAST_RANK: u32 = 0xC0000000;
+
+    pub fn name(value: u32) -> Self
+        ensures { λ r. ⌜ r .0 ≡ name (value % termValues) ⌝ }
+    {
+        Term(Term::NAME * VALUES + value % VALUES)
+    }
+
+    pub fn number(value: u32) -> Self
+        ensures { λ r. ⌜ r .0 ≡ number (value % termValues) ⌝ }
+    {
+        Term(Term::NUMBER * VALUES + value % VALUES)
+    }
+
+    pub fn text(value: u32) -> Self
+        ensures { λ r. ⌜ r .0 ≡ text (value % termValues) ⌝ }
+    {
+        Term(Term::TEXT * VALUES + value % VALUES)
+    }
+
+    pub fn variable(value: u32) -> Self
+        ensures { λ r. ⌜ r .0 ≡ variable (value % termValues) ⌝ }
+    {
+        Term(Term::VARIABLE * VALUES + value % VALUES)
+    }
+
+    pub fn unbound() -> Self
+        ensures { λ r. ⌜ r .0 ≡ unbound ⌝ }
+    {
+        Term(Term::UNBOUND)
+    }
+
+    pub fn kind(self) -> u32
+        ensures { λ r. ⌜ r ≡ termKind (self .0) ⌝ }
+    {
+        self.0 / VALUES
+    }
+
+    pub fn value(self) -> u32
+        ensures { λ r. ⌜ r ≡ termValue (self .0) ⌝ }
+    {
+        self.0 % VALUES
+    }
+
+    pub fn is_variable(self) -> bool
+        ensures { λ r. ⌜ r ≡ isVariable (self .0) ⌝ }
+    {
+        self.0 / VALUES == Term::VARIABLE
+    }
+
+    pub fn is_number(self) -> bool
+        ensures { λ r. ⌜ r ≡ isNumber (self .0) ⌝ }
+    {
+        self.0 / VALUES == Term::NUMBER
+    }
+
+    // The place in the order of keys: unbound, then names, numbers, texts, each by value.
+    pub fn key_rank(self) -> u32
+        ensures { λ r. ⌜ (r ≡ keyRank (self .0)) × (r ≤ lastRank) ⌝ }
+    {
+        if self.0 < Term::UNBOUND {
+            self.0 + 1
+        } else {
+            0
+        }
+    }
+}
+
+impl PlanWord {
+    pub const HEAD: u32 = 1;
+
+    pub const BRANCH: u32 = 2;
+
+    pub const TRUE: u32 = 3;
+
+    pub const AND: u32 = 4;
+
+    pub const OR: u32 = 5;
+
+    pub const NOT: u32 = 6;
+
+    pub const COMPARISON: u32 = 7;
+
+    pub const ROWS: u32 = 8;
+
+    pub const TOP: u32 = 9;
+
+    pub const RISING: u32 = 10;
+
+    pub const FALLING: u32 = 11;
+
+    pub const GROUP: u32 = 12;
+
+    // The comparisons, by their numbers.
+    pub const EQUAL: u32 = 0;
+
+    pub const UNEQUAL: u32 = 1;
+
+    pub const LESS: u32 = 2;
+
+    pub const AT_MOST: u32 = 3;
+
+    pub const GREATER: u32 = 4;
+
+    pub const AT_LEAST: u32 = 5;
+
+    pub fn head(branches: u32) -> Self
+        ensures { λ r. ⌜ r .0 ≡ word headKind (branches % lowNumbers) ⌝ }
+    {
+        PlanWord(PlanWord::HEAD * NUMBERS + branches % NUMBERS)
+    }
+
+    pub fn branch(patterns: u32) -> Self
+        ensures { λ r. ⌜ r .0 ≡ word branchKind (patterns % lowNumbers) ⌝ }
+    {
+        PlanWord(PlanWord::BRANCH * NUMBERS + patterns % NUMBERS)
+    }
+
+    pub fn always() -> Self
+        ensures { λ r. ⌜ r .0 ≡ word trueKind 0 ⌝ }
+    {
+        PlanWord(PlanWord::TRUE * NUMBERS)
+    }
+
+    pub fn and() -> Self
+        ensures { λ r. ⌜ r .0 ≡ word andKind 0 ⌝ }
+    {
+        PlanWord(PlanWord::AND * NUMBERS)
+    }
+
+    pub fn or() -> Self
+        ensures { λ r. ⌜ r .0 ≡ word orKind 0 ⌝ }
+    {
+        PlanWord(PlanWord::OR * NUMBERS)
+    }
+
+    pub fn not() -> Self
+        ensures { λ r. ⌜ r .0 ≡ word notKind 0 ⌝ }
+    {
+        PlanWord(PlanWord::NOT * NUMBERS)
+    }
+
+    pub fn comparison(operator: u32) -> Self
+        ensures { λ r. ⌜ r .0 ≡ word comparisonKind (operator % lowNumbers) ⌝ }
+    {
+        PlanWord(PlanWord::COMPARISON * NUMBERS + operator % NUMBERS)
+    }
+
+    pub fn rows(variables: u32) -> Self
+        ensures { λ r. ⌜ r .0 ≡ word rowsKind (variables % lowNumbers) ⌝ }
+    {
+        PlanWord(PlanWord::ROWS * NUMBERS + variables % NUMBERS)
+    }
+
+    pub fn top(count: u32) -> Self
+        ensures { λ r. ⌜ r .0 ≡ word topKind (count % lowNumbers) ⌝ }
+    {
+        PlanWord(PlanWord::TOP * NUMBERS + count % NUMBERS)
+    }
+
+    pub fn rising(variable: u32) -> Self
+        ensures { λ r. ⌜ r .0 ≡ word risingKind (variable % lowNumbers) ⌝ }
+    {
+        PlanWord(PlanWord::RISING * NUMBERS + variable % NUMBERS)
+    }
+
+    pub fn falling(variable: u32) -> Self
+        ensures { λ r. ⌜ r .0 ≡ word fallingKind (variable % lowNumbers) ⌝ }
+    {
+        PlanWord(PlanWord::FALLING * NUMBERS + variable % NUMBERS)
+    }
+
+    pub fn group(variables: u32) -> Self
+        ensures { λ r. ⌜ r .0 ≡ word groupKind (variables % lowNumbers) ⌝ }
+    {
+        PlanWord(PlanWord::GROUP * NUMBERS + variables % NUMBERS)
+    }
+
+    pub fn kind(self) -> u32
+        ensures { λ r. ⌜ r ≡ kind (self .0) ⌝ }
+    {
+        self.0 / NUMBERS
+    }
+
+    pub fn low(self) -> u32
+        ensures { λ r. ⌜ r ≡ low (self .0) ⌝ }
+    {
+        self.0 % NUMBERS
+    }
+}
+
+impl StateWord {
+    pub const POSITION: u32 = 14;
+
+    pub const PLACE: u32 = 15;
+
+    // The depths that a position has room for.
+    pub const DEPTHS: u32 = 16;
+
+    // Branch (from 0) and depth.
+    pub fn position(branch: u32, depth: u32) -> Self
+        requires { ⌜ (branch < 4) × (depth < depths) ⌝ }
+        ensures { λ r. ⌜ r .0 ≡ positionWord branch depth ⌝ }
+    {
+        StateWord(StateWord::POSITION * NUMBERS + branch * StateWord::DEPTHS + depth)
+    }
+
+    pub fn place(number: u32) -> Self
+        ensures { λ r. ⌜ r .0 ≡ placeWord (number % lowNumbers) ⌝ }
+    {
+        StateWord(StateWord::PLACE * NUMBERS + number % NUMBERS)
+    }
+
+    pub fn kind(self) -> u32
+        ensures { λ r. ⌜ r ≡ kind (self .0) ⌝ }
+    {
+        self.0 / NUMBERS
+    }
+
+    // The place of a place word.
+    pub fn number(self) -> u32
+        ensures { λ r. ⌜ r ≡ low (self .0) ⌝ }
+    {
+        self.0 % NUMBERS
+    }
+
+    pub fn branch(self) -> u32
+        ensures { λ r. ⌜ r ≡ branchOf (self .0) ⌝ }
+    {
+        self.0 % NUMBERS / StateWord::DEPTHS
+    }
+
+    pub fn depth(self) -> u32
+        ensures { λ r. ⌜ r ≡ depthOf (self .0) ⌝ }
+    {
+        self.0 % NUMBERS % StateWord::DEPTHS
+    }
+}
+
+// A word as an index.
+pub fn wide(x: u32) -> usize
+    ensures { λ r. ⌜ r ≡ x ⌝ }
+{
+    x as usize
+}
