@@ -2,7 +2,7 @@
 use borrow.Author.Needs.{needs}
 use mathlib.Core.Path.{sym}
 use native.Mathlib.Omega.{arith}
-use Rattle.words.proofs.Laws.{rank-bound, rank-unbound}
+use Rattle.words.proofs.Ranks.{rank-bound, rank-unbound}
 use Rattle.words.proofs.Term.key_rank.Statement.{statement}
 use Rattle.words.proofs.Term.key_rank.Tie as tie
 

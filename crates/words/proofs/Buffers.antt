@@ -1,0 +1,17 @@
+-- Words at the front of a buffer, and the words behind them.
+use Prim.Native.Nat.{ℕ, _≤_}
+use native.Mathlib.Omega.{arith}
+use mathlib.Core.Path.{_≡_}
+use mathlib.Core.List.{List, _++_}
+use lib.ListN.{length, take, drop, length-append, length-drop}
+use lib.Seq.{take-append-seam, drop-append-seam}
+use Rattle.words.specs.Sequences.{over}
+
+pub take-over : (ws buffer : List ℕ) → take (length ws) (over ws buffer) ≡ ws
+take-over ws buffer = take-append-seam ws (drop (length ws) buffer)
+
+pub drop-over : (ws buffer : List ℕ) → drop (length ws) (over ws buffer) ≡ drop (length ws) buffer
+drop-over ws buffer = drop-append-seam ws (drop (length ws) buffer)
+
+pub length-over : (ws buffer : List ℕ) → length ws ≤ length buffer → length (over ws buffer) ≡ length buffer
+length-over ws buffer h = omega (arith, length-append ws (drop (length ws) buffer), length-drop (length ws) buffer)
