@@ -57,6 +57,12 @@ merged (top k vs keys) kept list =
     flatten (bestBy (rowBefore vs keys) k (recordsIn (length vs) kept ++ recordsIn (length vs) list))
 merged (group vs m) kept list = flatten (map groupWords (addGroups (groupsIn vs kept) (groupsIn vs list)))
 
+-- how a turn's list is taken: joined end to end for rows, merged for any other ending
+abbrev pub takenInto : Ending → List ℕ → List ℕ → List ℕ
+takenInto (rows vs) kept list = kept ++ list
+takenInto (top k vs keys) kept list = merged (top k vs keys) kept list
+takenInto (group vs m) kept list = merged (group vs m) kept list
+
 -- test 12, of one list
 -- with numbers 0 the sum is 0 and least and greatest are unbound; otherwise these are numbers, least not above greatest
 abbrev pub extremesRight : Group → Bool
