@@ -1,3 +1,4 @@
 pub mod Histories
 pub mod Premises
 pub mod Uncut
+pub mod Computing

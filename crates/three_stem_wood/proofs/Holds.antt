@@ -15,7 +15,7 @@ use Rattle.three_stem_wood.specs.Refusals.{ofTables, ofPlans, ofTurns, o
 use Rattle.three_stem_wood.specs.Misreadings.{Told, readings, same}
 
 -- one name for all that the calls' definitions are made of
-computing : Unit {0}
+unfoldable pub computing : Unit {0}
 unfolding words.computing tables.computing plans.computing conditions.computing steps.computing lists.computing turns.computing merges.computing flatten
 computing = tt
 

@@ -3,3 +3,4 @@ pub mod Calls
 pub mod Starred
 pub mod Refusals
 pub mod Misreadings
+pub mod FinishedCut
