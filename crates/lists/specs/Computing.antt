@@ -1,8 +1,9 @@
 -- One name that opens every definition of this crate, for proofs that compute.
+use Rattle.lists.specs.Delivering.{withRow}
 use Rattle.lists.specs.Gathering.{recordsIn, gathered, thresholdRight, merged, groupRight, listRight, totalsFit}
 use Rattle.lists.specs.Groups.{lesser, greater, keysBefore, addBy, addAllBy, groupWords, groupIn}
 use Rattle.lists.specs.Rows.{indexOf, rowRanks, rowBefore, insertBy, insertAllBy, sortBy, bestBy, ahead}
 
 unfoldable pub computing : Unit {0}
-unfolding recordsIn gathered thresholdRight merged groupRight listRight totalsFit lesser greater keysBefore addBy addAllBy groupWords groupIn indexOf rowRanks rowBefore insertBy insertAllBy sortBy bestBy ahead
+unfolding withRow recordsIn gathered thresholdRight merged groupRight listRight totalsFit lesser greater keysBefore addBy addAllBy groupWords groupIn indexOf rowRanks rowBefore insertBy insertAllBy sortBy bestBy ahead
 computing = tt

@@ -1,4 +1,5 @@
 pub mod Rows
 pub mod Groups
 pub mod Gathering
+pub mod Delivering
 pub mod Computing

@@ -1,0 +1,27 @@
+-- One row more: the words of a list with a further delivered row, from the words of the list. Assumes nothing: these are definitions.
+use Prim.Native.Nat.{ℕ}
+use mathlib.Core.List.{List, [], _∷_, _++_, map, flatten}
+use mathlib.Core.Bool.{Bool, true, cond}
+use lib.ListN.{length, take}
+use Rattle.words.specs.Bindings.{Bindings}
+use Rattle.plans.specs.Endings.{Ending, rows, top, group}
+use Rattle.lists.specs.Rows.{project, rowBefore, insertBy}
+use Rattle.lists.specs.Groups.{ofRow, addBy, keysBefore, together, groupWords}
+use Rattle.lists.specs.Gathering.{recordsIn, groupsIn}
+
+-- a row comes strictly before a threshold, or there is none
+abbrev pub isAhead : (List ℕ → List ℕ → Bool) → List ℕ → List ℕ → Bool
+isAhead before [] x = true
+isAhead before (w ∷ ws) x = before x (w ∷ ws)
+
+-- a row put in among the best k
+abbrev pub withBest : ℕ → List ℕ → List ℕ → List ℕ → List ℕ → List ℕ
+withBest k vs keys list row = flatten (take k (insertBy (rowBefore vs keys) row (recordsIn (length vs) list)))
+
+-- a row at the end; among the best, if it is ahead; counted in its group
+unfoldable pub withRow : Ending → List ℕ → List ℕ → Bindings → List ℕ
+withRow (rows vs) threshold list b = list ++ project vs b
+withRow (top k vs keys) threshold list b =
+    cond (isAhead (rowBefore vs keys) threshold (project vs b)) (withBest k vs keys list (project vs b)) list
+withRow (group vs m) threshold list b =
+    flatten (map groupWords (addBy keysBefore together (ofRow vs m b) (groupsIn vs list)))
