@@ -1,7 +1,7 @@
 -- Words at the front of a buffer, and the words behind them.
 use Prim.Native.Nat.{ℕ, _≤_}
 use native.Mathlib.Omega.{arith}
-use mathlib.Core.Path.{_≡_}
+use mathlib.Core.Path.{_≡_, refl}
 use mathlib.Core.List.{List, _++_}
 use lib.ListN.{length, take, drop, length-append, length-drop}
 use lib.Seq.{take-append-seam, drop-append-seam}
@@ -15,3 +15,13 @@ drop-over ws buffer = drop-append-seam ws (drop (length ws) buffer)
 
 pub length-over : (ws buffer : List ℕ) → length ws ≤ length buffer → length (over ws buffer) ≡ length buffer
 length-over ws buffer h = omega (arith, length-append ws (drop (length ws) buffer), length-drop (length ws) buffer)
+
+-- some words stand over the first ones of a buffer, they are counted, and the words past them are untouched
+pub record Overwritten (ws before after : List ℕ) (count : ℕ) : Type 0 where
+  pub counted : count ≡ length ws
+  pub front : take count after ≡ ws
+  pub rest : drop count after ≡ drop count before
+  pub whole : after ≡ over ws before
+
+pub overwritten : (ws before : List ℕ) → Overwritten ws before (over ws before) (length ws)
+overwritten ws before = record { counted = refl; front = take-over ws before; rest = drop-over ws before; whole = refl }

@@ -2,7 +2,7 @@
 use Prim.Native.Nat.{ℕ, zero, suc, _<_}
 use native.Mathlib.Omega.{arith}
 use native.Mathlib.Decide.{decLt}
-use mathlib.Core.Path.{_≡_, refl, sym, _∙_, ap}
+use mathlib.Core.Path.{_≡_, refl, sym, _∙_, ap, ap₂}
 use mathlib.Core.Bool.{Bool, true, false, _&&_, _||_, true≢false}
 use mathlib.Core.List.{List, [], _∷_}
 use lib.ListN.{length}
@@ -84,6 +84,18 @@ lex-weak (a ∷ xs) (b ∷ ys) (c ∷ zs) l p q = go (three a b) (three c b) (le
     go (same h) (more k) ih = lex-less {x = a} {y = c} xs zs (omega arith)
     go (more h) (same k) ih = absurd-true p (lex-more xs ys h)
     go (more h) (more k) ih = absurd-true p (lex-more xs ys h)
+
+-- lists of one length of which neither comes before the other are the same
+pub lex-equal : (xs ys : List ℕ) → length xs ≡ length ys → lexBefore xs ys ≡ false → lexBefore ys xs ≡ false → xs ≡ ys
+lex-equal [] [] l p q = refl
+lex-equal [] (y ∷ ys) l p q = absurd (omega (arith, l))
+lex-equal (x ∷ xs) [] l p q = absurd (omega (arith, l))
+lex-equal (x ∷ xs) (y ∷ ys) l p q = go (three x y) (lex-equal xs ys (omega (arith, l)))
+  where
+    go : Three x y → (lexBefore xs ys ≡ false → lexBefore ys xs ≡ false → xs ≡ ys) → x ∷ xs ≡ y ∷ ys
+    go (less h) ih = absurd-true (lex-less xs ys h) p
+    go (same h) ih = ap₂ _∷_ h (ih (sym (lex-same xs ys h) ∙ p) (sym (lex-same ys xs (sym h)) ∙ q))
+    go (more h) ih = absurd-true (lex-less ys xs h) q
 
 -- the order of things by lists of one length that they have
 pub lex-ordered : {A : Type 0} (f : A → List ℕ) (n : ℕ) → ((a : A) → length (f a) ≡ n)

@@ -1,0 +1,103 @@
+-- A property that each element of a list has, and what keeps it: joining, keeping some, inserting, the best of them.
+use Prim.Native.Nat.{ℕ, zero, suc}
+use mathlib.Core.Path.{_≡_, refl}
+use mathlib.Core.Bool.{Bool, true}
+use mathlib.Core.List.{List, [], _∷_, _++_, map}
+use lib.ListN.{getD, take, drop}
+use Rattle.words.specs.Sequences.{all, keep}
+use Rattle.words.proofs.Booleans.{and-left, and-right, and-both, yes, no, decided}
+use Rattle.lists.specs.Rows.{insertBy, insertAllBy, sortBy, bestBy, ahead}
+use Rattle.lists.proofs.Inserting.{insert-nil, insert-here, insert-later, ahead-all, ahead-row}
+
+abbrev pub Each : {A : Type 0} → (A → Type 0) → List A → Type 0
+Each P [] = Unit {0}
+Each P (x ∷ xs) = P x × Each P xs
+
+-- what each element has, the elements of a list made from them have
+pub each-map : {A B : Type 0} (P : B → Type 0) (f : A → B) → ((a : A) → P (f a)) → (xs : List A) → Each P (map f xs)
+each-map P f h [] = tt
+each-map P f h (x ∷ xs) = (h x, each-map P f h xs)
+
+module _ {A : Type 0} (P : A → Type 0) where
+  pub each-append : (xs ys : List A) → Each P xs → Each P ys → Each P (xs ++ ys)
+  each-append [] ys p q = q
+  each-append (x ∷ xs) ys p q = (p .0, each-append xs ys (p .1) q)
+
+  pub each-take : (k : ℕ) (xs : List A) → Each P xs → Each P (take k xs)
+  each-take zero xs p = tt
+  each-take (suc k) [] p = tt
+  each-take (suc k) (x ∷ xs) p = (p .0, each-take k xs (p .1))
+
+  pub each-drop : (k : ℕ) (xs : List A) → Each P xs → Each P (drop k xs)
+  each-drop zero xs p = p
+  each-drop (suc k) [] p = tt
+  each-drop (suc k) (x ∷ xs) p = each-drop k xs (p .1)
+
+  pub each-keep : (f : A → Bool) (xs : List A) → Each P xs → Each P (keep f xs)
+  unfolding keep
+  each-keep f [] p = tt
+  each-keep f (x ∷ xs) p =
+      elim (decided (f x)) [ yes e ↦ rw e (p .0, each-keep f xs (p .1)) | no e ↦ rw e (each-keep f xs (p .1)) ]
+
+  -- ---- of an order: the elements put in and those that were there
+  module _ (before : A → A → Bool) where
+    pub each-insert : (y : A) (xs : List A) → P y → Each P xs → Each P (insertBy before y xs)
+    each-insert y [] h p = rw (insert-nil before y) (h, tt)
+    each-insert y (x ∷ xs) h p =
+        elim (decided (before y x)) [
+          | yes e ↦ rw (insert-here before y x xs e) (h, p)
+          | no e ↦ rw (insert-later before y x xs e) (p .0, each-insert y xs h (p .1))
+        ]
+
+    pub each-insertAll : (ys xs : List A) → Each P ys → Each P xs → Each P (insertAllBy before xs ys)
+    unfolding insertAllBy
+    each-insertAll [] xs q p = p
+    each-insertAll (y ∷ ys) xs q p = each-insertAll ys (insertBy before y xs) (q .1) (each-insert y xs (q .0) p)
+
+    pub each-best : (k : ℕ) (xs : List A) → Each P xs → Each P (bestBy before k xs)
+    unfolding bestBy sortBy
+    each-best k xs p = each-take k (insertAllBy before [] xs) (each-insertAll xs [] p tt)
+
+pub each-ahead : (P : List ℕ → Type 0) (before : List ℕ → List ℕ → Bool) (threshold : List ℕ) (xs : List (List ℕ))
+    → Each P xs → Each P (ahead before threshold xs)
+each-ahead P before [] xs p = rw (ahead-all before xs) p
+each-ahead P before (w ∷ ws) xs p = rw (ahead-row before w ws xs) (each-keep P (λ x. before x (w ∷ ws)) xs p)
+
+-- ---- a test that passes at each element
+module _ {A : Type 0} (f : A → Bool) where
+  pub each-kept : (xs : List A) → Each (λ x. f x ≡ true) (keep f xs)
+  unfolding keep
+  each-kept [] = tt
+  each-kept (x ∷ xs) = elim (decided (f x)) [ yes e ↦ rw e (e, each-kept xs) | no e ↦ rw e (each-kept xs) ]
+
+  pub each-all : (xs : List A) → Each (λ x. f x ≡ true) xs → all f xs ≡ true
+  unfolding all
+  each-all [] p = refl
+  each-all (x ∷ xs) p = and-both (f x) (all f xs) (p .0) (each-all xs (p .1))
+
+  pub all-each : (xs : List A) → all f xs ≡ true → Each (λ x. f x ≡ true) xs
+  unfolding all
+  all-each [] e = tt
+  all-each (x ∷ xs) e = (and-left (f x) (all f xs) e, all-each xs (and-right (f x) (all f xs) e))
+
+  pub all-append : (xs ys : List A) → all f xs ≡ true → all f ys ≡ true → all f (xs ++ ys) ≡ true
+  all-append xs ys p q =
+      each-all (xs ++ ys) (each-append (λ x. f x ≡ true) xs ys (all-each xs p) (all-each ys q))
+
+  pub all-take : (k : ℕ) (xs : List A) → all f xs ≡ true → all f (take k xs) ≡ true
+  all-take k xs p = each-all (take k xs) (each-take (λ x. f x ≡ true) k xs (all-each xs p))
+
+  pub all-drop : (k : ℕ) (xs : List A) → all f xs ≡ true → all f (drop k xs) ≡ true
+  all-drop k xs p = each-all (drop k xs) (each-drop (λ x. f x ≡ true) k xs (all-each xs p))
+
+  -- at each place, and past the end if it passes at what is read there
+  pub all-getD : (xs : List A) (i : ℕ) (d : A) → all f xs ≡ true → f d ≡ true → f (getD xs i d) ≡ true
+  unfolding all
+  all-getD [] i d p q = q
+  all-getD (x ∷ xs) zero d p q = and-left (f x) (all f xs) p
+  all-getD (x ∷ xs) (suc i) d p q = all-getD xs i d (and-right (f x) (all f xs) p) q
+
+-- each row that a threshold leaves comes strictly before it
+pub each-strict : (before : List ℕ → List ℕ → Bool) (w : ℕ) (ws : List ℕ) (xs : List (List ℕ))
+    → Each (λ (x : List ℕ). before x (w ∷ ws) ≡ true) (ahead before (w ∷ ws) xs)
+each-strict before w ws xs = rw (ahead-row before w ws xs) (each-kept (λ x. before x (w ∷ ws)) xs)

@@ -1,0 +1,138 @@
+-- Test 12 of one record: the record of a row passes it, and two records that pass it pass it together.
+use Prim.Native.Nat.{ℕ, _+_, _≤_, _<_}
+use native.Mathlib.Omega.{arith}
+use mathlib.Core.Path.{_≡_, refl, sym, _∙_, ap, ap₂}
+use mathlib.Core.Bool.{Bool, true, false, cond, _&&_}
+use mathlib.Core.List.{List}
+use lib.Dec.{eqb, leb}
+use borrow.Author.Tests.{eqb-true, eqb-false, eq-eqb, ne-eqb, leb-true, leb-false, le-leb}
+use Rattle.words.specs.Words.{isNumber, valueRank, unbound}
+use Rattle.words.specs.Sequences.{all}
+use Rattle.words.proofs.Booleans.{and-left, and-right, and-both}
+use Rattle.lists.specs.Groups.{Group, ofValue, lesser, greater, together}
+use Rattle.lists.specs.Gathering.{isValue, extremesRight, groupRight}
+use Rattle.lists.proofs.Extremes.{lesser-unbound, greater-unbound, unbound-lesser, unbound-greater, lesser-numbers, greater-numbers}
+
+-- what the test says of a sum and of the least and the greatest number, beside the number of numbers
+pub data Extremes (g : Group) : Type 0 where
+  none : g .numbers ≡ 0 → g .sum ≡ 0 → g .least ≡ unbound → g .greatest ≡ unbound → Extremes g
+  some : 1 ≤ g .numbers → isNumber (g .least) ≡ true → isNumber (g .greatest) ≡ true
+      → valueRank (g .least) ≤ valueRank (g .greatest) → Extremes g
+
+pub right-extremes : (g : Group) → extremesRight g ≡ true → Extremes g
+right-extremes g e = go (eqb (g .numbers) 0) refl e
+  where
+    go : (b : Bool) → eqb (g .numbers) 0 ≡ b
+        → cond b (eqb (g .sum) 0 && (eqb (g .least) unbound && eqb (g .greatest) unbound))
+        (isNumber (g .least) && (isNumber (g .greatest) && leb (valueRank (g .least)) (valueRank (g .greatest)))) ≡ true
+        → Extremes g
+    go true p h =
+        let a = eqb (g .sum) 0 in
+        let b = eqb (g .least) unbound in
+        let c = eqb (g .greatest) unbound in
+        let k = and-right a (b && c) h in
+        none (eqb-true (g .numbers) 0 p) (eqb-true (g .sum) 0 (and-left a (b && c) h))
+        (eqb-true (g .least) unbound (and-left b c k)) (eqb-true (g .greatest) unbound (and-right b c k))
+    go false p h =
+        let a = isNumber (g .least) in
+        let b = isNumber (g .greatest) in
+        let c = leb (valueRank (g .least)) (valueRank (g .greatest)) in
+        let k = and-right a (b && c) h in
+        let z = eqb-false (g .numbers) 0 p in
+        some (omega arith) (and-left a (b && c) h) (and-left b c k)
+        (leb-true (valueRank (g .least)) (valueRank (g .greatest)) (and-right b c k))
+
+pub extremes-right : (g : Group) → Extremes g → extremesRight g ≡ true
+extremes-right g (none p q r s) = rw (p, q, r, s)
+extremes-right g (some p q r s) =
+    rw (ne-eqb (g .numbers) 0 (λ e. omega arith), q, r, le-leb (valueRank (g .least)) (valueRank (g .greatest)) s)
+
+-- ---- of one row
+pub extremes-value : (keys : List ℕ) (x : ℕ) → Extremes (ofValue keys x)
+extremes-value keys x = go (isNumber x) refl
+  where
+    go : (b : Bool) → isNumber x ≡ b → Extremes (ofValue keys x)
+    go true p = some (rw p (omega arith)) (rw p p) (rw p p) (omega arith)
+    go false p = none (rw p) (rw p) (rw p) (rw p)
+
+-- ---- of two together
+-- the lesser of two numbers is a number and not above either; the greater likewise
+module _ (a b : ℕ) (p : isNumber a ≡ true) (q : isNumber b ≡ true) where
+  pub lesser-is : (isNumber (lesser a b) ≡ true) × (valueRank (lesser a b) ≤ valueRank a) × (valueRank (lesser a b) ≤ valueRank b)
+  lesser-is = rw (lesser-numbers a b p q) (go (leb (valueRank a) (valueRank b)) refl)
+    where
+      go : (x : Bool) → leb (valueRank a) (valueRank b) ≡ x
+          → (isNumber (cond x a b) ≡ true) × (valueRank (cond x a b) ≤ valueRank a) × (valueRank (cond x a b) ≤ valueRank b)
+      go true e = let l = leb-true (valueRank a) (valueRank b) e in (p, omega arith, l)
+      go false e = let l = leb-false (valueRank a) (valueRank b) e in (q, omega arith, omega arith)
+
+  pub greater-is : (isNumber (greater a b) ≡ true) × (valueRank a ≤ valueRank (greater a b)) × (valueRank b ≤ valueRank (greater a b))
+  greater-is = rw (greater-numbers a b p q) (go (leb (valueRank a) (valueRank b)) refl)
+    where
+      go : (x : Bool) → leb (valueRank a) (valueRank b) ≡ x
+          → (isNumber (cond x b a) ≡ true) × (valueRank a ≤ valueRank (cond x b a)) × (valueRank b ≤ valueRank (cond x b a))
+      go true e = let l = leb-true (valueRank a) (valueRank b) e in (q, l, omega arith)
+      go false e = let l = leb-false (valueRank a) (valueRank b) e in (p, omega arith, omega arith)
+
+pub extremes-together : (g h : Group) → Extremes g → Extremes h → Extremes (together g h)
+extremes-together g h (none p q r s) (none p′ q′ r′ s′) =
+    none (omega arith) (omega arith) (rw (r, r′) (lesser-unbound unbound)) (rw (s, s′) (greater-unbound unbound))
+extremes-together g h (none p q r s) (some p′ q′ r′ s′) =
+    let a : lesser (g .least) (h .least) ≡ h .least = rw r (lesser-unbound (h .least)) in
+    let b : greater (g .greatest) (h .greatest) ≡ h .greatest = rw s (greater-unbound (h .greatest)) in
+    some (omega arith) (rw a q′) (rw b r′) (rw (a, b) s′)
+extremes-together g h (some p q r s) (none p′ q′ r′ s′) =
+    let a : lesser (g .least) (h .least) ≡ g .least = rw r′ (unbound-lesser (g .least) q) in
+    let b : greater (g .greatest) (h .greatest) ≡ g .greatest = rw s′ (unbound-greater (g .greatest) r) in
+    some (omega arith) (rw a q) (rw b r) (rw (a, b) s)
+extremes-together g h (some p q r s) (some p′ q′ r′ s′) =
+    let a = lesser-is (g .least) (h .least) q q′ in
+    let b = greater-is (g .greatest) (h .greatest) r r′ in
+    some (omega arith) (a .0) (b .0) (omega arith)
+
+-- ---- the whole test
+pub record Right (g : Group) : Type 0 where
+  pub keys : all isValue (g .keys) ≡ true
+  pub rows : 1 ≤ g .rows
+  pub numbers : g .numbers ≤ g .rows
+  pub extremes : Extremes g
+
+pub right-is : (g : Group) → groupRight g ≡ true → Right g
+unfolding groupRight
+right-is g e =
+    let a = all isValue (g .keys) in
+    let b = leb 1 (g .rows) in
+    let c = leb (g .numbers) (g .rows) in
+    let d = extremesRight g in
+    let h = and-right a (b && (c && d)) e in
+    let k = and-right b (c && d) h in
+    record {
+      keys = and-left a (b && (c && d)) e;
+      rows = leb-true 1 (g .rows) (and-left b (c && d) h);
+      numbers = leb-true (g .numbers) (g .rows) (and-left c d k);
+      extremes = right-extremes g (and-right c d k);
+    }
+
+pub is-right : (g : Group) → Right g → groupRight g ≡ true
+unfolding groupRight
+is-right g r = rw (r .keys, le-leb 1 (g .rows) (r .rows), le-leb (g .numbers) (g .rows) (r .numbers)) (extremes-right g (r .extremes))
+
+-- the record of a row whose keys are values
+pub right-value : (keys : List ℕ) (x : ℕ) → all isValue keys ≡ true → groupRight (ofValue keys x) ≡ true
+right-value keys x e = is-right (ofValue keys x) (record { keys = e; rows = omega arith; numbers = go (isNumber x); extremes = extremes-value keys x })
+  where
+    go : (b : Bool) → cond {A = ℕ} b 1 0 ≤ 1
+    go true = omega arith
+    go false = omega arith
+
+pub right-together : (g h : Group) → groupRight g ≡ true → groupRight h ≡ true → groupRight (together g h) ≡ true
+right-together g h p q =
+    let r = right-is g p in
+    let s = right-is h q in
+    is-right (together g h)
+    (record {
+      keys = r .keys;
+      rows = (let a = r .rows in omega arith);
+      numbers = (let a = r .numbers in let b = s .numbers in omega arith);
+      extremes = extremes-together g h (r .extremes) (s .extremes);
+    })

@@ -1,0 +1,54 @@
+-- Keys that are values: one word has each rank, and lists of keys are the same exactly where neither comes before the other.
+use Prim.Native.Nat.{ℕ, _+_, _<_}
+use native.Mathlib.Omega.{arith}
+use mathlib.Core.Path.{_≡_, refl, sym, _∙_, ap, ap₂}
+use mathlib.Core.Bool.{Bool, true, false, cond, _&&_, _||_, not}
+use mathlib.Core.List.{List, [], _∷_, map}
+use lib.Dec.{eqb}
+use lib.ListN.{length}
+use borrow.Author.Tests.{eqb-true, eqb-false}
+use Rattle.words.specs.Words.{termKind, variableKind, isVariable, unbound, keyRank}
+use Rattle.words.specs.Sequences.{all, lexBefore}
+use Rattle.words.proofs.Booleans.{absurd-true, and-left, and-right}
+use Rattle.words.proofs.Orders.{Three, less, same, more, three, lex-less, lex-same, lex-asym}
+use Rattle.lists.specs.Gathering.{isValue}
+
+pub rank-same : (a b : ℕ) → isValue a ≡ true → isValue b ≡ true → keyRank a ≡ keyRank b → a ≡ b
+rank-same a b p q e = go (isVariable a) refl (isVariable b) refl p q e
+  where
+    go : (x : Bool) → isVariable a ≡ x → (y : Bool) → isVariable b ≡ y → not x || eqb a unbound ≡ true
+        → not y || eqb b unbound ≡ true → keyRank a ≡ keyRank b → a ≡ b
+    go true h true k p q e = let i = eqb-true a unbound p in let j = eqb-true b unbound q in omega arith
+    go true h false k p q e = let z = rw (h, k) at e in absurd (omega arith)
+    go false h true k p q e = let z = rw (h, k) at e in absurd (omega arith)
+    go false h false k p q e = let z = rw (h, k) at e in omega arith
+
+-- the ranks of keys
+abbrev pub ranks : List ℕ → List ℕ
+ranks ks = map keyRank ks
+
+pub keys-same : (ks ls : List ℕ) → length ks ≡ length ls → all isValue ks ≡ true → all isValue ls ≡ true
+    → lexBefore (ranks ks) (ranks ls) ≡ false → lexBefore (ranks ls) (ranks ks) ≡ false → ks ≡ ls
+unfolding all
+keys-same [] [] l p q e f = refl
+keys-same [] (b ∷ ls) l p q e f = absurd (omega (arith, l))
+keys-same (a ∷ ks) [] l p q e f = absurd (omega (arith, l))
+keys-same (a ∷ ks) (b ∷ ls) l p q e f =
+    go (three (keyRank a) (keyRank b))
+    (keys-same ks ls (omega (arith, l)) (and-right (isValue a) (all isValue ks) p) (and-right (isValue b) (all isValue ls) q))
+  where
+    go : Three (keyRank a) (keyRank b)
+        → (lexBefore (ranks ks) (ranks ls) ≡ false → lexBefore (ranks ls) (ranks ks) ≡ false → ks ≡ ls) → a ∷ ks ≡ b ∷ ls
+    go (less h) ih = absurd-true (lex-less (ranks ks) (ranks ls) h) e
+    go (same h) ih =
+        ap₂ _∷_ (rank-same a b (and-left (isValue a) (all isValue ks) p) (and-left (isValue b) (all isValue ls) q) h)
+        (ih (sym (lex-same (ranks ks) (ranks ls) h) ∙ e) (sym (lex-same (ranks ls) (ranks ks) (sym h)) ∙ f))
+    go (more h) ih = absurd-true (lex-less (ranks ls) (ranks ks) h) f
+
+-- nothing comes before itself
+pub lex-irreflexive : (xs : List ℕ) → lexBefore xs xs ≡ false
+lex-irreflexive xs = go (lexBefore xs xs) refl
+  where
+    go : (b : Bool) → lexBefore xs xs ≡ b → lexBefore xs xs ≡ false
+    go true e = lex-asym xs xs e
+    go false e = e

@@ -1,0 +1,169 @@
+-- A state's words read back as the state, and words of the right shape are those of the state that they stand for.
+use Prim.Native.Nat.{ℕ, zero, suc, _+_, _-_, _*_, _≤_, _<_}
+use native.Mathlib.Omega.{arith}
+use native.Mathlib.Numerals.{add-one}
+use mathlib.Core.Path.{_≡_, refl, sym, _∙_, ap, ap₂, subst}
+use mathlib.Core.Bool.{Bool, true}
+use mathlib.Core.List.{List, [], _∷_, _++_, append-assoc}
+use lib.Dec.{ltb, leb, eqb}
+use lib.ListN.{length, take, getD, length-append}
+use lib.Seq.{getD-at, take-suc, take-all}
+use borrow.Author.Tests.{ltb-true, leb-true, eqb-true, lt-ltb, le-leb, eq-eqb}
+use Rattle.words.specs.Words.{kind, low, lowNumbers, depths, positionKind, placeKind, positionWord, placeWord, branchOf, depthOf}
+use Rattle.words.specs.Sequences.{all}
+use Rattle.words.proofs.Booleans.{absurd-true, and-left, and-right, and-both}
+use Rattle.words.proofs.Elements.{all-at, all-append, all-tail, all-head}
+use Rattle.plans.specs.Plans.{Plan, branchAt}
+use Rattle.steps.specs.Levels.{hasLevel}
+use Rattle.steps.specs.Steps.{State}
+use Rattle.steps.specs.Saved.{upperWords, positionWords, stateWords, isPlace, positionRight, shapeRight, upperIn, stateIn}
+
+-- a number that a word's low bits hold
+abbrev pub fitsLow : ℕ → Bool
+fitsLow n = ltb n lowNumbers
+
+-- a state whose words hold its numbers
+pub record Fits (s : State) : Type 0 where
+  pub position : s .branch * depths + suc (length (s .upper)) < lowNumbers
+  pub depth : suc (length (s .upper)) < depths
+  pub upper : all fitsLow (s .upper) ≡ true
+  pub place : s .place < lowNumbers
+
+-- ---- single words
+low-place : (p : ℕ) → p < lowNumbers → low (placeWord p) ≡ p
+low-place p h = omega arith
+
+place-low : (w : ℕ) → kind w ≡ placeKind → placeWord (low w) ≡ w
+place-low w e = omega arith
+
+is-place : (p : ℕ) → p < lowNumbers → isPlace (placeWord p) ≡ true
+is-place p h = eq-eqb (kind (placeWord p)) placeKind (omega arith)
+
+module _ (b d : ℕ) (h : b * depths + d < lowNumbers) (l : d < depths) where
+  branch-position : branchOf (positionWord b d) ≡ b
+  branch-position = omega arith
+
+  depth-position : depthOf (positionWord b d) ≡ d
+  depth-position = omega arith
+
+position-of : (w : ℕ) → kind w ≡ positionKind → positionWord (branchOf w) (depthOf w) ≡ w
+position-of w e = omega arith
+
+-- ---- a state's words
+pub upper-length : (upper : List ℕ) → length (upperWords upper) ≡ length upper
+unfolding upperWords
+upper-length [] = refl
+upper-length (p ∷ upper) = omega (arith, length-append (upperWords upper) (placeWord p ∷ []), upper-length upper)
+
+pub words-length : (s : State) → length (stateWords s) ≡ suc (suc (length (s .upper)))
+unfolding positionWords
+words-length s =
+    omega (arith, length-append (upperWords (s .upper)) (placeWord (s .place) ∷ []), upper-length (s .upper))
+
+-- the place word behind some upper places
+word-behind : (w : ℕ) (upper : List ℕ) (x : ℕ) (rest : List ℕ) → getD (w ∷ (upperWords upper ++ (x ∷ rest))) (length upper + 1) 0 ≡ x
+word-behind w upper x rest = rw (add-one (length upper)) (getD-at (upperWords upper) x rest 0 (length upper) (upper-length upper))
+
+upper-back : (w : ℕ) (upper rest : List ℕ) → all fitsLow upper ≡ true → upperIn (w ∷ (upperWords upper ++ rest)) (length upper) ≡ upper
+unfolding upperIn upperWords
+upper-back w [] rest e = refl
+upper-back w (p ∷ upper) rest e =
+    let f = ltb-true p lowNumbers (all-head fitsLow p upper e) in
+    rw (append-assoc (upperWords upper) (placeWord p ∷ []) rest)
+    (ap₂ _∷_ (ap low (word-behind w upper (placeWord p) rest) ∙ low-place p f) (upper-back w upper (placeWord p ∷ rest) (all-tail fitsLow p upper e)))
+
+-- what reads back is the state
+pub state-back : (s : State) → Fits s → stateIn (stateWords s) ≡ s
+unfolding stateIn positionWords
+state-back s f =
+    let w = positionWord (s .branch) (suc (length (s .upper))) in
+    let ws = stateWords s in
+    let d = depth-position (s .branch) (suc (length (s .upper))) (f .position) (f .depth) in
+    let above : depthOf w - 1 ≡ length (s .upper) = omega arith in
+    let last : depthOf w ≡ length (s .upper) + 1 = omega arith in
+    let branch-is = branch-position (s .branch) (suc (length (s .upper))) (f .position) (f .depth) in
+    let upper-is = ap (upperIn ws) above ∙ upper-back w (s .upper) (placeWord (s .place) ∷ []) (f .upper) in
+    let place-is =
+    ap (λ n. low (getD ws n 0)) last ∙ ap low (word-behind w (s .upper) (placeWord (s .place)) []) ∙ low-place (s .place) (f .place) in
+    λ i. record { branch = branch-is i; upper = upper-is i; place = place-is i }
+
+places-right : (upper : List ℕ) → all fitsLow upper ≡ true → all isPlace (upperWords upper) ≡ true
+unfolding upperWords all
+places-right [] e = refl
+places-right (p ∷ upper) e =
+    all-append isPlace (upperWords upper) (placeWord p ∷ []) (places-right upper (all-tail fitsLow p upper e))
+    (and-both (isPlace (placeWord p)) true (is-place p (ltb-true p lowNumbers (all-head fitsLow p upper e))) refl)
+
+-- a state in the plan has words of the right shape
+pub words-shape : (q : Plan) (s : State) → Fits s → s .branch < length (q .branches)
+    → hasLevel (branchAt q (s .branch) .terms) (length (s .upper)) ≡ true → shapeRight q (stateWords s) ≡ true
+unfolding shapeRight positionWords all
+words-shape q s f b l =
+    let w = positionWord (s .branch) (suc (length (s .upper))) in
+    let d = depth-position (s .branch) (suc (length (s .upper))) (f .position) (f .depth) in
+    let c = branch-position (s .branch) (suc (length (s .upper))) (f .position) (f .depth) in
+    let k : kind w ≡ positionKind = omega (arith, f .position) in
+    let above : length (s .upper) ≡ depthOf w - 1 = omega arith in
+    let level : hasLevel (branchAt q (branchOf w) .terms) (depthOf w - 1) ≡ true =
+    subst (λ i. hasLevel (branchAt q i .terms) (depthOf w - 1) ≡ true) (sym c)
+    (subst (λ n. hasLevel (branchAt q (s .branch) .terms) n ≡ true) above l) in
+    and-both (positionRight q w) _
+    (and-both (eqb (kind w) positionKind) _ (eq-eqb (kind w) positionKind k)
+    (and-both (ltb (branchOf w) (length (q .branches))) _ (lt-ltb (branchOf w) (length (q .branches)) (omega arith))
+    (and-both (leb 1 (depthOf w)) _ (le-leb 1 (depthOf w) (omega arith)) level)))
+    (and-both (eqb (length (stateWords s)) (1 + depthOf w)) _
+    (eq-eqb (length (stateWords s)) (1 + depthOf w) (omega (arith, words-length s)))
+    (all-append isPlace (upperWords (s .upper)) (placeWord (s .place) ∷ []) (places-right (s .upper) (f .upper))
+    (and-both (isPlace (placeWord (s .place))) true (is-place (s .place) (f .place)) refl)))
+
+-- ---- words of the right shape
+pub upper-in-length : (ws : List ℕ) (n : ℕ) → length (upperIn ws n) ≡ n
+unfolding upperIn
+upper-in-length ws zero = refl
+upper-in-length ws (suc n) = ap suc (upper-in-length ws n)
+
+upper-words : (w : ℕ) (ps : List ℕ) (n : ℕ) → n ≤ length ps → all isPlace ps ≡ true
+    → upperWords (upperIn (w ∷ ps) n) ≡ take n ps
+unfolding upperIn upperWords
+upper-words w ps zero h e = refl
+upper-words w ps (suc n) h e =
+    let k = eqb-true (kind (getD ps n 0)) placeKind (all-at isPlace ps n 0 e (omega arith)) in
+    let x = place-low (getD ps n 0) k in
+    rw (add-one n, upper-words w ps n (omega arith) e, x, take-suc ps n 0 (omega arith))
+
+-- what test 9 says of words
+pub record Shape (q : Plan) (ws : List ℕ) : Type 0 where
+  pub branch : stateIn ws .branch < length (q .branches)
+  pub level : hasLevel (branchAt q (stateIn ws .branch) .terms) (length (stateIn ws .upper)) ≡ true
+  pub words : stateWords (stateIn ws) ≡ ws
+
+shape-in : (q : Plan) (w : ℕ) (ps : List ℕ) → positionRight q w ≡ true → length ps ≡ depthOf w → all isPlace ps ≡ true
+    → Shape q (w ∷ ps)
+unfolding stateIn positionWords
+shape-in q w ps e l a =
+    let d = depthOf w in
+    let k = eqb-true (kind w) positionKind (and-left (eqb (kind w) positionKind) _ e) in
+    let f = and-right (eqb (kind w) positionKind) _ e in
+    let g = and-right (ltb (branchOf w) (length (q .branches))) _ f in
+    let one = leb-true 1 d (and-left (leb 1 d) _ g) in
+    let n = upper-in-length (w ∷ ps) (d - 1) in
+    let back : positionWord (branchOf w) (suc (length (upperIn (w ∷ ps) (d - 1)))) ≡ w = omega (arith, position-of w k) in
+    let last : d ≡ suc (d - 1) = omega arith in
+    let kept : getD (w ∷ ps) d 0 ≡ getD ps (d - 1) 0 = ap (λ i. getD (w ∷ ps) i 0) last in
+    let x = place-low (getD ps (d - 1) 0) (eqb-true (kind (getD ps (d - 1) 0)) placeKind (all-at isPlace ps (d - 1) 0 a (omega arith))) in
+    record {
+      branch = ltb-true (branchOf w) (length (q .branches)) (and-left (ltb (branchOf w) (length (q .branches))) _ f);
+      level = subst (λ i. hasLevel (branchAt q (branchOf w) .terms) i ≡ true) (sym n) (and-right (leb 1 d) _ g);
+      words =
+          ap₂ _∷_ back
+          (ap₂ (λ (xs : List ℕ) (y : ℕ). xs ++ (y ∷ [])) (upper-words w ps (d - 1) (omega arith) a) (ap placeWord (ap low kept) ∙ x)
+          ∙ sym (take-suc ps (d - 1) 0 (omega arith)) ∙ take-all (suc (d - 1)) ps (omega arith));
+    }
+
+pub shape-of : (q : Plan) (ws : List ℕ) → shapeRight q ws ≡ true → Shape q ws
+unfolding shapeRight
+shape-of q [] e = absurd-true refl (sym e)
+shape-of q (w ∷ ps) e =
+    let f = and-right (positionRight q w) _ e in
+    let l = eqb-true (length (w ∷ ps)) (1 + depthOf w) (and-left (eqb (length (w ∷ ps)) (1 + depthOf w)) _ f) in
+    shape-in q w ps (and-left (positionRight q w) _ e) (omega arith) (and-right (eqb (length (w ∷ ps)) (1 + depthOf w)) _ f)

@@ -1,0 +1,191 @@
+-- The ending of a served turn, in the words of document 01, each in both directions: done, spent or full, and exactly one.
+use Prim.Native.Nat.{ℕ, _≤_, _<_}
+use native.Mathlib.Omega.{arith}
+use mathlib.Core.Path.{_≡_, refl, sym, _∙_, ap, subst, subst⁻¹}
+use mathlib.Core.Logic.{_↔_}
+use mathlib.Core.Bool.{Bool, true, false}
+use mathlib.Core.Option.{Option, none, some}
+use mathlib.Core.List.{List, [], _∷_, _++_}
+use lib.ListN.{length}
+use borrow.Author.Tests.{leb-true, leb-false}
+use Rattle.words.specs.Bindings.{Bindings}
+use Rattle.words.proofs.Testing.{none-some, some-injective}
+use Rattle.steps.specs.Steps.{State, delivers, step, Run}
+use Rattle.steps.specs.Saved.{positionWords, savedWords, stateIn}
+use Rattle.lists.proofs.Room.{NoSpaceFor, no-space-longer, longer-no-space}
+use Rattle.turns.specs.declared.TurnEnding.{TurnEnding}
+use Rattle.turns.specs.declared.TurnEnding.the-variants.{Done, Spent, Full, Refused}
+use Rattle.turns.specs.Turns.{Progress, going, stopped, TurnInput, givenState, givenPlan, served, turnOf}
+use Rattle.turns.proofs.Stepping.{endingOf, stepsOf, stateOf, rowsOf, GoesOn, Stands, roomFor, served-stands}
+use Rattle.turns.proofs.Refusals.{Served}
+use Rattle.turns.proofs.Follows.{givenRun, turnRun, listOf, Follows, follows, served-steps, served-ending, served-run}
+use Rattle.turns.proofs.Progress.{TurnLimits, turn-limits}
+
+-- after n steps from a turn's state, the next would deliver a row (kind 8) or a new group for which the output has no space
+pub record NoSpace (i : TurnInput) (n : ℕ) : Type 0 where
+  pub state : State
+  pub row : Bindings
+  pub next : State
+  pub here : givenRun i n .state ≡ some state
+  pub would-deliver : step (i .tables) (givenPlan i) state ≡ delivers row next
+  pub no-space : NoSpaceFor (givenPlan i .ending) (length (i .output)) (givenRun i n .delivered) row
+
+-- done, after at most the quantum, with no state words
+pub record IsDone (i : TurnInput) : Type 0 where
+  pub over : turnRun i .state ≡ none
+  pub within : turnOf i .answer .steps ≤ i .quantum
+  pub no-state : turnOf i .answer .saved ≡ 0
+
+-- spent, after exactly the quantum, not done
+pub record IsSpent (i : TurnInput) : Type 0 where
+  pub exactly : turnOf i .answer .steps ≡ i .quantum
+  pub not-done : ¬ (turnRun i .state ≡ none)
+
+-- full, when less than the quantum was taken and there is no space for what the next step would deliver
+pub record IsFull (i : TurnInput) : Type 0 where
+  pub less : turnOf i .answer .steps < i .quantum
+  pub no-space : NoSpace i (turnOf i .answer .steps)
+
+pub data ExactlyOne (A B C : Type 0) : Type 0 where
+  first : A → ¬ B → ¬ C → ExactlyOne A B C
+  second : ¬ A → B → ¬ C → ExactlyOne A B C
+  third : ¬ A → ¬ B → C → ExactlyOne A B C
+
+pub record Endings (i : TurnInput) : Type 0 where
+  pub done : (turnOf i .answer .ending ≡ Done) ↔ IsDone i
+  pub spent : (turnOf i .answer .ending ≡ Spent) ↔ IsSpent i
+  pub full : (turnOf i .answer .ending ≡ Full) ↔ IsFull i
+  pub one : ExactlyOne (IsDone i) (IsSpent i) (IsFull i)
+  -- there are no state words exactly where the run is over
+  pub no-words : (turnOf i .answer .saved ≡ 0) ↔ (turnRun i .state ≡ none)
+  -- the steps are no more than that takes: at none before was the run over, or space lacking
+  pub no-earlier : (n : ℕ) → n < turnOf i .answer .steps → (¬ (givenRun i n .state ≡ none)) × (¬ NoSpace i n)
+
+-- ---- no two at once
+done-spent : (i : TurnInput) → IsDone i → IsSpent i → ⊥
+done-spent i d s = s .not-done (d .over)
+
+done-full : (i : TurnInput) → IsDone i → IsFull i → ⊥
+done-full i d f = none-some (sym (d .over) ∙ f .no-space .here)
+
+spent-full : (i : TurnInput) → IsSpent i → IsFull i → ⊥
+spent-full i s f = omega (arith, s .exactly, f .less)
+
+done≢spent : ¬ (_≡_ {A = TurnEnding} Done Spent)
+done≢spent e = let z : _≡_ {A = ℕ} 0 1 = cc in omega arith
+
+done≢full : ¬ (_≡_ {A = TurnEnding} Done Full)
+done≢full e = let z : _≡_ {A = ℕ} 0 1 = cc in omega arith
+
+spent≢full : ¬ (_≡_ {A = TurnEnding} Spent Full)
+spent≢full e = let z : _≡_ {A = ℕ} 0 1 = cc in omega arith
+
+neither : {A B : Type 0} → ¬ A → ¬ B → A ↔ B
+neither a b = (λ x. absurd (a x), λ x. absurd (b x))
+
+-- ---- at least one, with its answer
+data Ended (i : TurnInput) : Type 0 where
+  done : turnOf i .answer .ending ≡ Done → IsDone i → Ended i
+  spent : turnOf i .answer .ending ≡ Spent → IsSpent i → Ended i
+  full : turnOf i .answer .ending ≡ Full → IsFull i → Ended i
+
+module _ (i : TurnInput) (serve : Served i) where
+  -- the rows of the turn's steps have room
+  rows-fit : length (listOf i (turnRun i .delivered)) ≤ length (i .output)
+  rows-fit = let f = follows i serve in omega (arith, f .room, f .output .counted)
+
+  ended-as : (p : Progress) → Stands (i .tables) (givenPlan i) (roomFor i) (stateIn (givenState i)) (i .quantum) p
+      → turnOf i .answer .steps ≡ stepsOf p → turnOf i .answer .ending ≡ endingOf p
+      → turnRun i ≡ record { state = stateOf p; delivered = rowsOf p } → Ended i
+  ended-as (going n u bs) h s e r =
+      spent e (record { exactly = s ∙ h .how; not-done = λ z. none-some (sym z ∙ ap (λ (x : Run). x .state) r) })
+  ended-as (stopped Done n o bs) h s e r =
+      let z : turnRun i .state ≡ none = ap (λ (x : Run). x .state) r ∙ h .how .0 in
+      done e
+      (record {
+        over = z;
+        within = omega (arith, h .how .1);
+        no-state = follows i serve .state .counted ∙ ap (λ o. length (savedWords o)) z;
+      })
+  ended-as (stopped Full n o bs) h s e r =
+      let b = h .how .1 in
+      let longer : length (i .output) < length (listOf i (turnRun i .delivered ++ (b .row ∷ []))) =
+      subst⁻¹ (λ (x : Run). length (i .output) < length (listOf i (x .delivered ++ (b .row ∷ [])))) r
+      (leb-false (length (listOf i (bs ++ (b .row ∷ [])))) (length (i .output)) (b .unfit)) in
+      full e
+      (record {
+        less = omega (arith, h .how .0);
+        no-space = record {
+          state = b .state;
+          row = b .row;
+          next = b .next;
+          here = ap (λ (x : Run). x .state) r ∙ b .here;
+          would-deliver = b .would-deliver;
+          no-space = longer-no-space (givenPlan i .ending) (i .threshold) (length (i .output)) (turnRun i .delivered) (b .row)
+              (turn-limits i serve .output-room) rows-fit longer;
+        };
+      })
+  ended-as (stopped Spent n o bs) h s e r = absurd (h .how)
+  ended-as (stopped (Refused x) n o bs) h s e r = absurd (h .how)
+
+  ended : Ended i
+  ended = ended-as (served i) (served-stands i) (served-steps i serve) (served-ending i serve) (served-run i serve)
+
+  -- where a step was taken the run went on, and what it delivered had space
+  went-on : (n : ℕ) → GoesOn (i .tables) (givenPlan i) (roomFor i) (givenRun i n) → (¬ (givenRun i n .state ≡ none)) × (¬ NoSpace i n)
+  went-on n g = (
+    λ z. none-some (sym z ∙ g .here),
+    λ s. let same : s .state ≡ g .state = some-injective (sym (s .here) ∙ g .here) in
+        let fits = g .fitting (s .row) (s .next) (ap (step (i .tables) (givenPlan i)) (sym same) ∙ s .would-deliver) in
+        let short = leb-true (length (listOf i (givenRun i n .delivered ++ (s .row ∷ [])))) (length (i .output)) fits in
+        let long = no-space-longer (givenPlan i .ending) (i .threshold) (length (i .output)) (givenRun i n .delivered) (s .row) (s .no-space) in
+        omega arith,
+  )
+
+  taken : (n : ℕ) → n < turnOf i .answer .steps → (¬ (givenRun i n .state ≡ none)) × (¬ NoSpace i n)
+  taken n l = went-on n (served-stands i .taken n (subst (λ m. n < m) (served-steps i serve) l))
+
+  words-none : (turnOf i .answer .saved ≡ 0) ↔ (turnRun i .state ≡ none)
+  unfolding positionWords
+  words-none = (λ z. go (turnRun i .state) refl z, λ e. counted ∙ ap (λ o. length (savedWords o)) e)
+    where
+      counted : turnOf i .answer .saved ≡ length (savedWords (turnRun i .state))
+      counted = follows i serve .state .counted
+
+      go : (o : Option State) → turnRun i .state ≡ o → turnOf i .answer .saved ≡ 0 → turnRun i .state ≡ none
+      go none e z = e
+      go (some s) e z =
+          let c : turnOf i .answer .saved ≡ length (savedWords (some s)) = counted ∙ ap (λ o. length (savedWords o)) e in
+          absurd (omega arith)
+
+  pub endings : Endings i
+  endings = go ended
+    where
+      go : Ended i → Endings i
+      go (done e d) =
+          record {
+            done = (λ x. d, λ x. e);
+            spent = neither (λ x. done≢spent (sym e ∙ x)) (λ s. done-spent i d s);
+            full = neither (λ x. done≢full (sym e ∙ x)) (λ f. done-full i d f);
+            one = first d (λ s. done-spent i d s) (λ f. done-full i d f);
+            no-words = words-none;
+            no-earlier = taken;
+          }
+      go (spent e s) =
+          record {
+            done = neither (λ x. done≢spent (sym x ∙ e)) (λ d. done-spent i d s);
+            spent = (λ x. s, λ x. e);
+            full = neither (λ x. spent≢full (sym e ∙ x)) (λ f. spent-full i s f);
+            one = second (λ d. done-spent i d s) s (λ f. spent-full i s f);
+            no-words = words-none;
+            no-earlier = taken;
+          }
+      go (full e f) =
+          record {
+            done = neither (λ x. done≢full (sym x ∙ e)) (λ d. done-full i d f);
+            spent = neither (λ x. spent≢full (sym x ∙ e)) (λ s. spent-full i s f);
+            full = (λ x. f, λ x. e);
+            one = third (λ d. done-full i d f) (λ s. spent-full i s f) f;
+            no-words = words-none;
+            no-earlier = taken;
+          }

@@ -1,0 +1,109 @@
+-- A served turn is steps of the uncut run, from the state that it was given: its state is that many steps on, and its list is
+-- made of the rows of those steps alone. A served opening writes where the run starts.
+use Prim.Native.Nat.{ℕ, _≤_}
+use native.Mathlib.Omega.{arith}
+use mathlib.Core.Path.{_≡_, refl, sym, _∙_, ap, subst⁻¹}
+use mathlib.Core.Bool.{Bool, true}
+use mathlib.Core.Option.{Option, none, some}
+use mathlib.Core.List.{List, []}
+use lib.ListN.{length}
+use borrow.Author.Tests.{leb-true, le-leb}
+use Rattle.words.specs.Bindings.{Bindings}
+use Rattle.words.specs.Answers.{wordsIn}
+use Rattle.words.specs.Sequences.{iterate}
+use Rattle.words.proofs.Testing.{AllPass}
+use Rattle.words.proofs.Buffers.{Overwritten, overwritten}
+use Rattle.tables.specs.Tables.{Tables}
+use Rattle.plans.specs.Plans.{planOf}
+use Rattle.steps.specs.Steps.{Run, startOf, runFrom, after}
+use Rattle.steps.specs.Saved.{positionWords, upperWords, leastStateWords, stateWords, savedWords, stateIn}
+use Rattle.lists.specs.Gathering.{gathered}
+use Rattle.lists.proofs.OneRow.{gathered-nil}
+use Rattle.turns.specs.declared.TurnEnding.{TurnEnding}
+use Rattle.turns.specs.Opening.{Opened, openTests, openOf}
+use Rattle.turns.specs.Turns.{Progress, going, stopped, TurnInput, TurnResult, resultOf, givenState, givenPlan, turnList, finished, served, turnOf}
+use Rattle.turns.proofs.Stepping.{endingOf, stepsOf, stateOf, rowsOf, Stands, roomFor, served-stands}
+use Rattle.turns.proofs.Refusals.{open-refusals, Opens, opened-so, Served, turned-so}
+
+-- the run from the state that a turn was given
+abbrev pub givenRun : TurnInput → ℕ → Run
+givenRun i n = runFrom (i .tables) (givenPlan i) (stateIn (givenState i)) n
+
+-- that run after the steps that the turn answers
+abbrev pub turnRun : TurnInput → Run
+turnRun i = givenRun i (turnOf i .answer .steps)
+
+-- the list that a turn's ending makes of some rows
+abbrev pub listOf : TurnInput → List Bindings → List ℕ
+listOf i bs = gathered (givenPlan i .ending) (i .threshold) bs
+
+pub record Follows (i : TurnInput) : Type 0 where
+  -- the state buffer: the words of the state that many steps on, none at the run's end, over what it held
+  pub state : Overwritten (savedWords (turnRun i .state)) (i .state) (turnOf i .state) (turnOf i .answer .saved)
+  -- the output: the list of the rows of those steps, over what it held
+  pub output : Overwritten (listOf i (turnRun i .delivered)) (i .output) (turnOf i .output) (turnOf i .answer .listed)
+  -- which has room for it
+  pub room : turnOf i .answer .listed ≤ length (i .output)
+
+-- the result of some progress, by its parts
+pub by-parts : (i : TurnInput) (p : Progress)
+    → finished i p ≡ resultOf i (endingOf p) (stepsOf p) (savedWords (stateOf p)) (turnList i (endingOf p) (rowsOf p))
+by-parts i (going n s bs) = refl
+by-parts i (stopped e n s bs) = refl
+
+module _ (i : TurnInput) (serve : Served i) where
+  -- the parts of a served turn's result
+  pub served-parts : turnOf i ≡ resultOf i (endingOf (served i)) (stepsOf (served i)) (savedWords (stateOf (served i))) (listOf i (rowsOf (served i)))
+  served-parts = turned-so i serve ∙ by-parts i (served i)
+
+  pub served-steps : turnOf i .answer .steps ≡ stepsOf (served i)
+  served-steps = ap (λ (r : TurnResult). r .answer .steps) served-parts
+
+  pub served-ending : turnOf i .answer .ending ≡ endingOf (served i)
+  served-ending = ap (λ (r : TurnResult). r .answer .ending) served-parts
+
+  -- the run where the turn leaves it
+  pub served-run : turnRun i ≡ record { state = stateOf (served i); delivered = rowsOf (served i) }
+  served-run = ap (givenRun i) served-steps ∙ served-stands i .run
+
+  -- the result in terms of that run
+  served-result : turnOf i ≡ resultOf i (endingOf (served i)) (stepsOf (served i)) (savedWords (turnRun i .state)) (listOf i (turnRun i .delivered))
+  served-result =
+      served-parts
+      ∙ ap (λ (u : Run). resultOf i (endingOf (served i)) (stepsOf (served i)) (savedWords (u .state)) (listOf i (u .delivered))) (sym served-run)
+
+  -- no rows have room, and so have the rows of each step that was taken
+  rows-fit : length (listOf i (rowsOf (served i))) ≤ length (i .output)
+  rows-fit =
+      let h : roomFor i [] ≡ true = rw (gathered-nil (givenPlan i .ending) (i .threshold)) (le-leb 0 (length (i .output)) (omega arith)) in
+      leb-true (length (listOf i (rowsOf (served i)))) (length (i .output)) (served-stands i .fitted h)
+
+  pub follows : Follows i
+  follows =
+      record {
+        state = subst⁻¹ (λ (r : TurnResult). Overwritten (savedWords (turnRun i .state)) (i .state) (r .state) (r .answer .saved))
+            served-result (overwritten (savedWords (turnRun i .state)) (i .state));
+        output = subst⁻¹ (λ (r : TurnResult). Overwritten (listOf i (turnRun i .delivered)) (i .output) (r .output) (r .answer .listed))
+            served-result (overwritten (listOf i (turnRun i .delivered)) (i .output));
+        room = subst⁻¹ (λ (r : TurnResult). r .answer .listed ≤ length (i .output)) served-parts rows-fit;
+      }
+
+-- ---- opening
+-- test 7
+open-room : (t : Tables) (plan state : List ℕ) → AllPass (openTests t plan state) → leastStateWords ≤ length state
+open-room t plan state h = leb-true leastStateWords (length state) (h .1 .1 .1 .1 .1 .1 .0)
+
+-- the words that a served opening writes: the uncut run's state after no step
+pub record StartsRun (t : Tables) (plan state : List ℕ) : Type 0 where
+  pub buffer : Overwritten (savedWords (after t (planOf plan) 0 .state)) state (openOf t plan state .state) (wordsIn (openOf t plan state .answer))
+  pub room : wordsIn (openOf t plan state .answer) ≤ length state
+
+pub starts-run : (t : Tables) (plan state : List ℕ) → Opens t plan state → StartsRun t plan state
+unfolding after iterate positionWords upperWords
+starts-run t plan state h =
+    record {
+      buffer = subst⁻¹ (λ (r : Opened). Overwritten (stateWords (startOf t (planOf plan) 0)) state (r .state) (wordsIn (r .answer)))
+          (opened-so t plan state h) (overwritten (stateWords (startOf t (planOf plan) 0)) state);
+      room = subst⁻¹ (λ (r : Opened). wordsIn (r .answer) ≤ length state) (opened-so t plan state h)
+          (let l = open-room t plan state (open-refusals t plan state .serves .0 h) in omega arith);
+    }

@@ -1,0 +1,5 @@
+pub mod Stepping
+pub mod Refusals
+pub mod Follows
+pub mod Progress
+pub mod Endings
