@@ -4,11 +4,12 @@ use mathlib.Core.Path.{_≡_, refl, _∙_, ap}
 use mathlib.Core.Bool.{true}
 use mathlib.Core.List.{List, [], _∷_, map}
 use lib.ListN.{length, length-map}
+use Rattle.words.specs.Words.{isValue}
 use Rattle.words.specs.Bindings.{Bindings, valueOf}
 use Rattle.words.specs.Sequences.{all}
 use Rattle.lists.specs.Rows.{project}
 use Rattle.lists.specs.Groups.{Group, ofRow, addAllBy, addGroups, groupsOf}
-use Rattle.lists.specs.Gathering.{isValue, groupRight}
+use Rattle.lists.specs.Gathering.{groupRight}
 use Rattle.lists.proofs.Each.{Each}
 use Rattle.lists.proofs.EachMore.{each-weaken}
 use Rattle.lists.proofs.GroupsRight.{right-value}

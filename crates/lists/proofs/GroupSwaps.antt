@@ -7,11 +7,12 @@ use mathlib.Core.HLevel.{Σ-prop-path}
 use mathlib.Core.Bool.{Bool, true, false}
 use mathlib.Core.List.{List, [], _∷_, map, List·Permᴰ, Permᴰ·map}
 use lib.ListN.{length}
+use Rattle.words.specs.Words.{isValue}
 use Rattle.words.specs.Bindings.{Bindings, valueOf}
 use Rattle.words.specs.Sequences.{all}
 use Rattle.lists.specs.Rows.{project}
 use Rattle.lists.specs.Groups.{Group, ofRow, together, keysBefore, addBy, groupsOf}
-use Rattle.lists.specs.Gathering.{isValue, groupRight}
+use Rattle.lists.specs.Gathering.{groupRight}
 use Rattle.lists.proofs.Each.{Each}
 use Rattle.lists.proofs.EachMore.{each-mapped}
 use Rattle.lists.proofs.Keys.{keys-same}

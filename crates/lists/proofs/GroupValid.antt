@@ -7,14 +7,14 @@ use mathlib.Core.List.{List, [], _∷_, _++_, map, flatten}
 use lib.Dec.{eqb}
 use lib.ListN.{length, getD, length-map}
 use borrow.Author.Tests.{eqb-true, eq-eqb}
-use Rattle.words.specs.Words.{isVariable, termValue, unbound}
+use Rattle.words.specs.Words.{isVariable, termValue, unbound, isValue}
 use Rattle.words.specs.Bindings.{Bindings, valueOf}
 use Rattle.words.specs.Sequences.{all, neighbours}
 use Rattle.words.proofs.Booleans.{and-left, and-right, and-both}
 use Rattle.plans.specs.Endings.{Ending, rows, top, group}
 use Rattle.lists.specs.Rows.{project}
 use Rattle.lists.specs.Groups.{Group, totalsWidth, ofRow, together, keysBefore, addBy, addAllBy, addGroups, groupsOf, groupWords}
-use Rattle.lists.specs.Gathering.{isValue, groupsIn, gathered, merged, groupRight, listRight, leastOutput}
+use Rattle.lists.specs.Gathering.{groupsIn, gathered, merged, groupRight, listRight, leastOutput}
 use Rattle.lists.proofs.Each.{Each, all-each, each-all}
 use Rattle.lists.proofs.EachMore.{each-mapped}
 use Rattle.lists.proofs.Records.{whole-flatten, length-flatten}

@@ -6,11 +6,11 @@ use mathlib.Core.Bool.{Bool, true, false, cond, _&&_}
 use mathlib.Core.List.{List}
 use lib.Dec.{eqb, leb}
 use borrow.Author.Tests.{eqb-true, eqb-false, eq-eqb, ne-eqb, leb-true, leb-false, le-leb}
-use Rattle.words.specs.Words.{isNumber, valueRank, unbound}
+use Rattle.words.specs.Words.{isNumber, valueRank, unbound, isValue}
 use Rattle.words.specs.Sequences.{all}
 use Rattle.words.proofs.Booleans.{and-left, and-right, and-both}
 use Rattle.lists.specs.Groups.{Group, ofValue, lesser, greater, together}
-use Rattle.lists.specs.Gathering.{isValue, extremesRight, groupRight}
+use Rattle.lists.specs.Gathering.{extremesRight, groupRight}
 use Rattle.lists.proofs.Extremes.{lesser-unbound, greater-unbound, unbound-lesser, unbound-greater, lesser-numbers, greater-numbers}
 
 -- what the test says of a sum and of the least and the greatest number, beside the number of numbers

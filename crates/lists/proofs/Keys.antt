@@ -7,11 +7,10 @@ use mathlib.Core.List.{List, [], _∷_, map}
 use lib.Dec.{eqb}
 use lib.ListN.{length}
 use borrow.Author.Tests.{eqb-true, eqb-false}
-use Rattle.words.specs.Words.{termKind, variableKind, isVariable, unbound, keyRank}
+use Rattle.words.specs.Words.{termKind, variableKind, isVariable, unbound, keyRank, isValue}
 use Rattle.words.specs.Sequences.{all, lexBefore}
 use Rattle.words.proofs.Booleans.{absurd-true, and-left, and-right}
 use Rattle.words.proofs.Orders.{Three, less, same, more, three, lex-less, lex-same, lex-asym}
-use Rattle.lists.specs.Gathering.{isValue}
 
 pub rank-same : (a b : ℕ) → isValue a ≡ true → isValue b ≡ true → keyRank a ≡ keyRank b → a ≡ b
 rank-same a b p q e = go (isVariable a) refl (isVariable b) refl p q e

@@ -9,12 +9,13 @@ use mathlib.Core.List.{List, [], _∷_, _++_, map, flatten}
 use lib.ListN.{length, length-map}
 use lib.Dec.{eqb}
 use borrow.Author.Tests.{eq-eqb, le-leb}
+use Rattle.words.specs.Words.{isValue}
 use Rattle.words.specs.Bindings.{Bindings}
 use Rattle.words.specs.Sequences.{all, neighbours}
 use Rattle.words.proofs.Booleans.{and-left, and-right, and-both}
 use Rattle.plans.specs.Endings.{rows, top}
 use Rattle.lists.specs.Rows.{project, rowBefore, bestBy, ahead}
-use Rattle.lists.specs.Gathering.{recordsIn, gathered, merged, leastOutput, isValue, listRight}
+use Rattle.lists.specs.Gathering.{recordsIn, gathered, merged, leastOutput, listRight}
 use Rattle.lists.proofs.Each.{each-append, each-best, each-ahead}
 use Rattle.lists.proofs.Records.{Wide, wide-append, wide-records, wide-best, wide-project, wide-ahead, records-flatten, records-zero, whole-flatten, length-flatten}
 use Rattle.lists.proofs.Best.{Sorted, sorted-best, length-best}

@@ -4,12 +4,12 @@ use mathlib.Core.Path.{_≡_, refl}
 use mathlib.Core.Bool.{true}
 use mathlib.Core.List.{List, [], _∷_, map, flatten}
 use lib.ListN.{length, drop}
-use Rattle.words.specs.Words.{isVariable, termValue, unbound}
+use Rattle.words.specs.Words.{isVariable, termValue, unbound, isValue}
 use Rattle.words.specs.Bindings.{Bindings, valueOf}
 use Rattle.words.specs.Sequences.{all, parts}
 use Rattle.words.proofs.Booleans.{yes, no, decided}
 use Rattle.lists.specs.Rows.{project}
-use Rattle.lists.specs.Gathering.{isValue, recordsIn}
+use Rattle.lists.specs.Gathering.{recordsIn}
 use Rattle.lists.proofs.Each.{Each, each-map, each-all, all-append, all-take, all-drop, all-getD}
 
 -- each word of each list is one that a delivered row may have

@@ -5,7 +5,7 @@ use mathlib.Core.List.{List, [], _∷_, _++_, map, flatten}
 use mathlib.Core.Bool.{Bool, true, false, cond, _&&_, _||_, not}
 use lib.ListN.{length}
 use lib.Dec.{eqb, ltb, leb}
-use Rattle.words.specs.Words.{isVariable, isNumber, valueRank, unbound}
+use Rattle.words.specs.Words.{isNumber, isValue, valueRank, unbound}
 use Rattle.words.specs.Bindings.{Bindings}
 use Rattle.words.specs.Sequences.{all, neighbours, parts}
 use Rattle.plans.specs.Endings.{Ending, rows, top, group}
@@ -40,9 +40,6 @@ leastOutput (top k vs keys) = k * length vs
 leastOutput (group vs m) = length vs + totalsWidth
 
 -- test 11: a threshold is empty, or one row for a best-of ending
-abbrev pub isValue : ℕ → Bool
-isValue w = not (isVariable w) || eqb w unbound
-
 unfoldable pub thresholdRight : Ending → List ℕ → Bool
 thresholdRight e [] = true
 thresholdRight (rows vs) (w ∷ ws) = false

@@ -1,7 +1,7 @@
 -- Words: a kind in the top bits and a value or number in the low ones; the order of keys. Each kind value is written here
 -- and nowhere else in the definitions. Assumes nothing: these are definitions.
 use Prim.Native.Nat.{ℕ, _+_, _-_, _*_, _/_, _%_}
-use mathlib.Core.Bool.{Bool, cond}
+use mathlib.Core.Bool.{Bool, cond, _||_, not}
 use lib.Dec.{eqb}
 
 -- ---- terms: two bits of kind, 30 of value
@@ -51,6 +51,10 @@ isVariable w = eqb (termKind w) variableKind
 
 abbrev pub isNumber : ℕ → Bool
 isNumber w = eqb (termKind w) numberKind
+
+-- a word of a delivered row: of no kind 3 but unbound
+abbrev pub isValue : ℕ → Bool
+isValue w = not (isVariable w) || eqb w unbound
 
 -- ---- values and the order of keys
 -- what a number counts for in a sum
