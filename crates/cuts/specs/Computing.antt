@@ -1,7 +1,6 @@
 -- One name that opens every definition of this crate, for proofs that compute.
 use Rattle.cuts.specs.Histories.{stepsIn, doneIn, happens, history}
-use Rattle.cuts.specs.Premises.{mergedAll}
 
 unfoldable pub computing : Unit {0}
-unfolding stepsIn doneIn happens history mergedAll
+unfolding stepsIn doneIn happens history
 computing = tt

@@ -2,7 +2,7 @@
 use Prim.Native.Nat.{ℕ, _≤_, _<_}
 use mathlib.Core.Path.{_≡_}
 use mathlib.Core.Logic.{_↔_}
-use mathlib.Core.List.{List, [], _∷_, map, flatten}
+use mathlib.Core.List.{List, [], _∷_, flatten}
 use mathlib.Core.Bool.{true}
 use mathlib.Core.Option.{none}
 use lib.ListN.{take}
@@ -13,6 +13,7 @@ use Rattle.steps.specs.Steps.{Run, after}
 use Rattle.steps.specs.Saved.{savedWords}
 use Rattle.lists.specs.Gathering.{gathered}
 use Rattle.cuts.specs.Histories.{Served, Held, servedIn, stepsIn, doneIn}
+use Rattle.cuts.specs.Premises.{listsIn}
 
 -- the rows, best-of list or groups of a run, as words
 abbrev pub runList : Ending → Run → List ℕ
@@ -30,7 +31,7 @@ WithinQuantum (x ∷ xs) = ((1 ≤ x .steps) × (x .steps ≤ x .quantum)) × Wi
 
 -- some served turns' lists, joined end to end
 abbrev pub joinedLists : List Served → List ℕ
-joinedLists xs = flatten (map (λ (x : Served). x .list) xs)
+joinedLists xs = flatten (listsIn xs)
 
 pub record AsUncut (t : Tables) (q : Plan) (h : Held) : Type 0 where
   -- the saved words are a state of the uncut run, as many steps on as the served turns took, or none

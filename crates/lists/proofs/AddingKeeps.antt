@@ -1,7 +1,7 @@
 -- What adding keeps: a property that joining keeps, and the image under a map that keeps the order and the join.
 use mathlib.Core.Path.{_≡_, refl, sym, _∙_, ap, ap₂}
 use mathlib.Core.Bool.{Bool, true, false, cond, _&&_}
-use mathlib.Core.List.{List, [], _∷_, _++_, map}
+use mathlib.Core.List.{List, [], _∷_, map}
 use Rattle.words.specs.Sequences.{neighbours}
 use Rattle.lists.specs.Groups.{addBy, addAllBy}
 use Rattle.lists.proofs.Each.{Each}

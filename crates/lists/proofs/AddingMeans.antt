@@ -1,22 +1,19 @@
 -- What is added up: each element of the sum is the join, in sequence, of the elements of its place, and each element has its
 -- place there.
-use mathlib.Core.Path.{_≡_, refl, sym, _∙_, ap, ap₂, subst}
-use mathlib.Core.Bool.{Bool, true, false, cond, _&&_, not}
+use mathlib.Core.Path.{_≡_, refl, _∙_, ap}
+use mathlib.Core.Bool.{Bool, true, false}
 use mathlib.Core.List.{List, [], _∷_, _++_, append-nil}
 use lib.Seq.{append-snoc}
-use borrow.Author.Tests.{not-true}
 use Rattle.words.specs.Sequences.{keep}
-use Rattle.words.proofs.Booleans.{absurd-true, and-left, and-right, and-both}
 use Rattle.lists.specs.Groups.{addBy, addAllBy}
-use Rattle.lists.proofs.Keeping.{keep-append, keep-cong, keep-none}
+use Rattle.lists.proofs.Counts.{keep-append}
+use Rattle.lists.proofs.Stable.{alike}
+use Rattle.lists.proofs.Alike.{Among, here, there, neither-like, less-unlike, more-unlike, like-self, like-join, unlike}
+use Rattle.lists.proofs.Keeping.{keep-agree, keep-none}
 use Rattle.lists.proofs.Each.{Each, each-append}
-use Rattle.lists.proofs.EachMore.{each-weaken}
+use Rattle.lists.proofs.EachMore.{each-weaken, each-always}
 use Rattle.lists.proofs.Ascending.{ahead-less, Ascending}
-use Rattle.lists.proofs.Adding.{Joins, Places, less, same, more, places, add-nil, add-less, add-more, add-same, same-less, same-left, ascending-add}
-
--- neither comes before the other
-abbrev pub samePlace : {A : Type 0} → (A → A → Bool) → A → A → Bool
-samePlace before x y = not (before x y) && not (before y x)
+use Rattle.lists.proofs.Adding.{Joins, Places, less, same, more, places, add-nil, add-less, add-more, add-same, same-less, ascending-add}
 
 -- elements joined from the first on
 abbrev pub joinedFrom : {A : Type 0} → (A → A → A) → A → List A → A
@@ -36,15 +33,10 @@ join-more {A} join (z ∷ zs) x y h = go zs z h
     go [] w h = ap (λ v. join v y) h
     go (v ∷ ws) w h = go ws (join w v) h
 
--- an element of the place of y
-pub data Among {A : Type 0} (before : A → A → Bool) (y : A) : List A → Type 0 where
-  here : {x : A} {xs : List A} → samePlace before x y ≡ true → Among before y (x ∷ xs)
-  there : {x : A} {xs : List A} → Among before y xs → Among before y (x ∷ xs)
-
 -- what a list of sums has to do with the elements added
 pub record Sums {A : Type 0} (before : A → A → Bool) (join : A → A → A) (xs sums : List A) : Type 0 where
   -- each sum is the join of the elements of its place, of which there are some
-  pub joined : Each (λ s. JoinOf join (keep (samePlace before s) xs) s) sums
+  pub joined : Each (λ s. JoinOf join (keep (alike before s) xs) s) sums
   -- each element has a sum of its place
   pub among : Each (λ x. Among before x sums) xs
   -- no two sums are of one place
@@ -52,43 +44,10 @@ pub record Sums {A : Type 0} (before : A → A → Bool) (join : A → A → A) 
 
 module _ {A : Type 0} {before : A → A → Bool} {join : A → A → A} (j : Joins before join) where
   abbrev like : A → A → Bool
-  like = samePlace before
+  like = alike before
 
   abbrev add : A → List A → List A
   add x l = addBy before join x l
-
-  -- ---- elements of one place
-  like-neither : (x y : A) → like x y ≡ true → (before x y ≡ false) × (before y x ≡ false)
-  like-neither x y e =
-      (not-true (before x y) (and-left (not (before x y)) (not (before y x)) e), not-true (before y x) (and-right (not (before x y)) (not (before y x)) e))
-
-  neither-like : (x y : A) → before x y ≡ false → before y x ≡ false → like x y ≡ true
-  neither-like x y e f = rw (e, f)
-
-  less-unlike : (x y : A) → before x y ≡ true → like x y ≡ false
-  less-unlike x y e = rw e
-
-  more-unlike : (x y : A) → before y x ≡ true → like x y ≡ false
-  more-unlike x y e = rw (j .ordered .asym y x e, e)
-
-  like-self : (x : A) → like x x ≡ true
-  like-self x = go (before x x) refl
-    where
-      go : (b : Bool) → before x x ≡ b → like x x ≡ true
-      go true e = absurd-true e (j .ordered .asym x x e)
-      go false e = neither-like x x e e
-
-  like-trans : (x y z : A) → like x y ≡ true → like y z ≡ true → like x z ≡ true
-  like-trans x y z p q =
-      let a = like-neither x y p in
-      let b = like-neither y z q in
-      neither-like x z (same-left j x y z (a .0) (b .0)) (same-left j z y x (b .1) (a .1))
-
-  like-sym : (x y : A) → like x y ≡ true → like y x ≡ true
-  like-sym x y p = let a = like-neither x y p in neither-like y x (a .1) (a .0)
-
-  like-join : (x y z : A) → like (join x y) z ≡ like x z
-  like-join x y z = rw (j .left x y z, j .right x y z)
 
   -- ---- one more element
   those-more : (s x : A) (xs : List A) → like s x ≡ true → keep (like s) (xs ++ (x ∷ [])) ≡ keep (like s) xs ++ (x ∷ [])
@@ -106,13 +65,13 @@ module _ {A : Type 0} {before : A → A → Bool} {join : A → A → A} (j : Jo
 
   -- a first element of its place
   fresh : (x : A) (xs : List A) → keep (like x) xs ≡ [] → JoinOf join (keep (like x) (xs ++ (x ∷ []))) x
-  fresh x xs e = rw (those-more x x xs (like-self x), e) refl
+  fresh x xs e = rw (those-more x x xs (like-self j x), e) refl
 
   -- an element joined to the sum of its place
   grow : (x : A) (xs : List A) (s : A) → like s x ≡ true → JoinOf join (keep (like s) xs) s
       → JoinOf join (keep (like (join s x)) (xs ++ (x ∷ []))) (join s x)
   grow x xs s e h =
-      rw (keep-cong (like (join s x)) (like s) (xs ++ (x ∷ [])) (like-join s x), those-more s x xs e)
+      rw (keep-agree (like (join s x)) (like s) (xs ++ (x ∷ [])) (each-always (like-join j s x) (xs ++ (x ∷ []))), those-more s x xs e)
       (join-more join (keep (like s) xs) s x h)
 
   stay-all : (x : A) (xs sums : List A) → Each (λ s. like s x ≡ false) sums → Each (λ s. JoinOf join (keep (like s) xs) s) sums
@@ -132,22 +91,24 @@ module _ {A : Type 0} {before : A → A → Bool} {join : A → A → A} (j : Jo
       go : Places before x s → ((Each (λ t. like t x ≡ false) sums → keep (like x) xs ≡ []) → Each Sum (add x sums))
           → Each Sum (add x (s ∷ sums))
       go (less e) ih =
-          let u : Each (λ t. like t x ≡ false) sums = each-weaken (λ t. more-unlike t x) sums (ahead-less (j .ordered) x s sums e (a .0)) in
-          rw (add-less j x s sums e) (fresh x xs (f (more-unlike s x e, u)), stay-all x xs (s ∷ sums) (more-unlike s x e, u) h)
+          let u : Each (λ t. like t x ≡ false) sums =
+          each-weaken (λ t. more-unlike j t x) sums (ahead-less (j .ordered) x s sums e (a .0)) in
+          rw (add-less j x s sums e) (fresh x xs (f (more-unlike j s x e, u)), stay-all x xs (s ∷ sums) (more-unlike j s x e, u) h)
       go (same p q) ih =
-          let u : Each (λ t. like t x ≡ false) sums = each-weaken (λ t b. more-unlike t x (same-less j x s t q b)) sums (a .0) in
-          rw (add-same j x s sums p q) (grow x xs s (neither-like s x q p) (h .0), stay-all x xs sums u (h .1))
+          let u : Each (λ t. like t x ≡ false) sums =
+          each-weaken (λ t b. more-unlike j t x (same-less j x s t q b)) sums (a .0) in
+          rw (add-same j x s sums p q) (grow x xs s (neither-like j s x q p) (h .0), stay-all x xs sums u (h .1))
       go (more e) ih =
-          rw (add-more j x s sums e) (stay x xs s (less-unlike s x e) (h .0), ih (λ n. f (less-unlike s x e, n)))
+          rw (add-more j x s sums e) (stay x xs s (less-unlike j s x e) (h .0), ih (λ n. f (less-unlike j s x e, n)))
 
   -- ---- each element has a sum of its place
   among-new : (x : A) (sums : List A) → Among before x (add x sums)
-  among-new x [] = rw (add-nil j x) (here (like-self x))
+  among-new x [] = rw (add-nil j x) (here (like-self j x))
   among-new x (s ∷ sums) = go (places before x s) (among-new x sums)
     where
       go : Places before x s → Among before x (add x sums) → Among before x (add x (s ∷ sums))
-      go (less e) ih = rw (add-less j x s sums e) (here (like-self x))
-      go (same p q) ih = rw (add-same j x s sums p q) (here (like-join s x x ∙ neither-like s x q p))
+      go (less e) ih = rw (add-less j x s sums e) (here (like-self j x))
+      go (same p q) ih = rw (add-same j x s sums p q) (here (like-join j s x x ∙ neither-like j s x q p))
       go (more e) ih = rw (add-more j x s sums e) (there ih)
 
   among-stay : (x y : A) {sums : List A} → Among before y sums → Among before y (add x sums)
@@ -155,7 +116,7 @@ module _ {A : Type 0} {before : A → A → Bool} {join : A → A → A} (j : Jo
     where
       go : Places before x s → Among before y (add x (s ∷ sums))
       go (less p) = rw (add-less j x s sums p) (there (here e))
-      go (same p q) = rw (add-same j x s sums p q) (here (like-join s x y ∙ e))
+      go (same p q) = rw (add-same j x s sums p q) (here (like-join j s x y ∙ e))
       go (more p) = rw (add-more j x s sums p) (here e)
   among-stay x y (there {x = s} {xs = sums} h) = go (places before x s) (among-stay x y h)
     where
@@ -165,17 +126,9 @@ module _ {A : Type 0} {before : A → A → Bool} {join : A → A → A} (j : Jo
       go (more p) ih = rw (add-more j x s sums p) (there ih)
 
   -- an element whose place no sum has is the first of its place
-  unlike : (x y : A) {sums : List A} → Among before y sums → Each (λ s. like s x ≡ false) sums → like x y ≡ false
-  unlike x y (here {x = s} e) u = go (like x y) refl
-    where
-      go : (b : Bool) → like x y ≡ b → like x y ≡ false
-      go true f = absurd-true (like-trans s y x e (like-sym x y f)) (u .0)
-      go false f = f
-  unlike x y (there h) u = unlike x y h (u .1)
-
   none-like : (x : A) (xs sums : List A) → Each (λ y. Among before y sums) xs → Each (λ s. like s x ≡ false) sums
       → keep (like x) xs ≡ []
-  none-like x xs sums h u = keep-none (like x) xs (each-weaken (λ y m. unlike x y m u) xs h)
+  none-like x xs sums h u = keep-none (like x) xs (each-weaken (λ y m. unlike j x y m u) xs h)
 
   -- ---- all of them
   sums-add : (x : A) (xs sums : List A) → Sums before join xs sums → Sums before join (xs ++ (x ∷ [])) (add x sums)

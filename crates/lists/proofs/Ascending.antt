@@ -1,9 +1,9 @@
 -- Strictly ascending lists: each element comes before all later ones, which is the same as before its neighbour.
-use mathlib.Core.Path.{_≡_, refl, sym, _∙_}
-use mathlib.Core.Bool.{Bool, true, false, _&&_}
-use mathlib.Core.List.{List, [], _∷_, _++_}
+use mathlib.Core.Path.{_≡_, refl}
+use mathlib.Core.Bool.{Bool, true}
+use mathlib.Core.List.{List, [], _∷_}
 use Rattle.words.specs.Sequences.{neighbours}
-use Rattle.words.proofs.Booleans.{absurd-true, and-left, and-right, and-both}
+use Rattle.words.proofs.Booleans.{and-left, and-right, and-both}
 use Rattle.words.proofs.Orders.{Ordered}
 use Rattle.lists.proofs.Each.{Each}
 use Rattle.lists.proofs.EachMore.{each-weaken}

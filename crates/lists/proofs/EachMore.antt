@@ -1,11 +1,15 @@
 -- A property of each element: what follows from it, of a list made from another, of a permuted list, and of a member.
-use mathlib.Core.Path.{_≡_, sym, subst}
+use mathlib.Core.Path.{sym, subst}
 use mathlib.Core.List.{List, [], _∷_, map, List·Memᴰ, List·Memᴰ·head, List·Memᴰ·tail, List·Permᴰ, List·Permᴰ·nil, List·Permᴰ·cons, List·Permᴰ·swap, List·Permᴰ·trans}
 use Rattle.lists.proofs.Each.{Each}
 
 pub each-weaken : {A : Type 0} {P Q : A → Type 0} → ((x : A) → P x → Q x) → (xs : List A) → Each P xs → Each Q xs
 each-weaken f [] p = tt
 each-weaken f (x ∷ xs) p = (f x (p .0), each-weaken f xs (p .1))
+
+pub each-always : {A : Type 0} {P : A → Type 0} → ((x : A) → P x) → (xs : List A) → Each P xs
+each-always f [] = tt
+each-always f (x ∷ xs) = (f x, each-always f xs)
 
 -- what two properties of each element give
 pub each-both : {A : Type 0} {P Q R : A → Type 0} → ((x : A) → P x → Q x → R x) → (xs : List A) → Each P xs → Each Q xs → Each R xs

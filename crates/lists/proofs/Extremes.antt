@@ -1,11 +1,11 @@
 -- The lesser and the greater of two numbers, each of which may be unbound: associative on any words, and on numbers and
 -- unbound commutative, again a number or unbound, and one of the two.
-use Prim.Native.Nat.{ℕ, _≤_, _<_}
+use Prim.Native.Nat.{ℕ}
 use native.Mathlib.Omega.{arith}
-use mathlib.Core.Path.{_≡_, refl, sym, _∙_, ap}
+use mathlib.Core.Path.{_≡_, refl, sym, _∙_}
 use mathlib.Core.Bool.{Bool, true, false, cond}
 use lib.Dec.{eqb, leb}
-use borrow.Author.Tests.{eqb-true, eqb-false, eq-eqb, ne-eqb, leb-true, leb-false, le-leb, lt-leb}
+use borrow.Author.Tests.{eqb-true, eqb-false, ne-eqb, leb-true, leb-false, le-leb, lt-leb}
 use Rattle.words.specs.Words.{isNumber, termKind, numberKind, valueRank, unbound}
 use Rattle.lists.specs.Groups.{lesser, greater}
 

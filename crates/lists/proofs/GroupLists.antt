@@ -5,12 +5,12 @@ use mathlib.Core.Path.{_≡_, refl, sym, _∙_, ap, ap₂}
 use mathlib.Core.List.{List, [], _∷_, _++_, map, map-append, flatten}
 use lib.ListN.{length, length-map}
 use Rattle.words.specs.Bindings.{Bindings, valueOf}
-use Rattle.plans.specs.Endings.{Ending, rows, top, group}
+use Rattle.plans.specs.Endings.{group}
 use Rattle.lists.specs.Groups.{Group, ofRow, together, keysBefore, addBy, addAllBy, addGroups, groupsOf, groupWords}
 use Rattle.lists.specs.Gathering.{groupsIn, gathered, merged}
-use Rattle.lists.proofs.Each.{Each, each-map}
+use Rattle.lists.proofs.Each.{each-map}
 use Rattle.lists.proofs.Ascending.{Ascending}
-use Rattle.lists.proofs.Adding.{addAll-append, addAll-last}
+use Rattle.lists.proofs.Adding.{addAll-last}
 use Rattle.lists.proofs.GroupWords.{HaveKeys, groups-in-words}
 use Rattle.lists.proofs.GroupsAdded.{have-addAll, groups-ascending, groups-parts}
 

@@ -1,23 +1,19 @@
 -- Totals do not depend on the sequence of the rows: records that pass test 12 may be added in any sequence.
 use Prim.Native.Nat.{ℕ, _+_}
 use native.Mathlib.Omega.{arith}
-use mathlib.Core.Path.{_≡_, refl, sym, _∙_, ap, ap₂}
+use mathlib.Core.Path.{_≡_, sym, _∙_, ap}
 use native.Mathlib.Nat.{ℕ-set}
 use mathlib.Core.HLevel.{Σ-prop-path}
-use mathlib.Core.Bool.{Bool, true, false}
-use mathlib.Core.List.{List, [], _∷_, map, List·Permᴰ, Permᴰ·map}
+use mathlib.Core.Bool.{true, false}
+use mathlib.Core.List.{List, [], List·Permᴰ, Permᴰ·map}
 use lib.ListN.{length}
-use Rattle.words.specs.Words.{isValue}
-use Rattle.words.specs.Bindings.{Bindings, valueOf}
-use Rattle.words.specs.Sequences.{all}
-use Rattle.lists.specs.Rows.{project}
-use Rattle.lists.specs.Groups.{Group, ofRow, together, keysBefore, addBy, groupsOf}
+use Rattle.words.specs.Bindings.{Bindings}
+use Rattle.lists.specs.Groups.{Group, together, keysBefore, addBy, groupsOf}
 use Rattle.lists.specs.Gathering.{groupRight}
-use Rattle.lists.proofs.Each.{Each}
 use Rattle.lists.proofs.EachMore.{each-mapped}
 use Rattle.lists.proofs.Keys.{keys-same}
 use Rattle.lists.proofs.Extremes.{Measured, nothing, number, lesser-comm, greater-comm}
-use Rattle.lists.proofs.GroupsRight.{Extremes, none, some, Right, right-is}
+use Rattle.lists.proofs.GroupsRight.{Extremes, none, some, right-is}
 use Rattle.lists.proofs.AddingSwaps.{add-swap, add-permuted}
 use Rattle.lists.proofs.GroupsAdded.{Keyed, keyedBefore, keyedTogether, keyed-joins, keyed, plain, plain-keyed, plain-add}
 use Rattle.lists.proofs.GroupRows.{KeyValues, rows-right, keyedRow, groups-plain}
@@ -56,7 +52,8 @@ module _ (n : ℕ) where
       let x : Keyed n = (g, a) in
       let y : Keyed n = (h, b) in
       let k = keyed n l c in
-      let both : (u v : Keyed n) → plain n (addBy (keyedBefore n) (keyedTogether n) u (addBy (keyedBefore n) (keyedTogether n) v k))
+      let both : (u v : Keyed n)
+      → plain n (addBy (keyedBefore n) (keyedTogether n) u (addBy (keyedBefore n) (keyedTogether n) v k))
       ≡ addBy keysBefore together (u .0) (addBy keysBefore together (v .0) l) =
       λ u v. plain-add n u (addBy (keyedBefore n) (keyedTogether n) v k)
       ∙ ap (addBy keysBefore together (u .0)) (plain-add n v k ∙ ap (addBy keysBefore together (v .0)) (plain-keyed n l c)) in
@@ -70,5 +67,6 @@ module _ (vs : List ℕ) (m : ℕ) where
   groups-permuted {bs} {cs} h p =
       sym (groups-plain vs m bs)
       ∙ ap (plain (length vs))
-      (add-permuted (keyed-joins (length vs)) (λ x. groupRight (x .0) ≡ true) (keyed-comm (length vs)) (Permᴰ·map (keyedRow vs m) h) (each-mapped (λ (x : Keyed (length vs)). groupRight (x .0) ≡ true) (keyedRow vs m) bs (rows-right vs m bs p)) [])
+      (add-permuted (keyed-joins (length vs)) (λ x. groupRight (x .0) ≡ true) (keyed-comm (length vs)) (Permᴰ·map (keyedRow vs m) h)
+      (each-mapped (λ (x : Keyed (length vs)). groupRight (x .0) ≡ true) (keyedRow vs m) bs (rows-right vs m bs p)) [])
       ∙ groups-plain vs m cs

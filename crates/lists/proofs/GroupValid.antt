@@ -1,18 +1,16 @@
 -- Test 12 of a list of groups: gathered lists pass it, and what passes it passes it merged.
 use Prim.Native.Nat.{ℕ, _+_, _*_, _%_, _≤_}
 use native.Mathlib.Omega.{arith}
-use mathlib.Core.Path.{_≡_, refl, sym, _∙_, ap}
-use mathlib.Core.Bool.{Bool, true, false, cond, _&&_, _||_, not}
-use mathlib.Core.List.{List, [], _∷_, _++_, map, flatten}
+use mathlib.Core.Path.{_≡_, _∙_, ap}
+use mathlib.Core.Bool.{Bool, true, _&&_}
+use mathlib.Core.List.{List, [], _∷_, map, flatten}
 use lib.Dec.{eqb}
-use lib.ListN.{length, getD, length-map}
+use lib.ListN.{length, length-map}
 use borrow.Author.Tests.{eqb-true, eq-eqb}
-use Rattle.words.specs.Words.{isVariable, termValue, unbound, isValue}
-use Rattle.words.specs.Bindings.{Bindings, valueOf}
+use Rattle.words.specs.Bindings.{Bindings}
 use Rattle.words.specs.Sequences.{all, neighbours}
-use Rattle.words.proofs.Booleans.{and-left, and-right, and-both}
-use Rattle.plans.specs.Endings.{Ending, rows, top, group}
-use Rattle.lists.specs.Rows.{project}
+use Rattle.words.proofs.Booleans.{and-left, and-right}
+use Rattle.plans.specs.Endings.{group}
 use Rattle.lists.specs.Groups.{Group, totalsWidth, ofRow, together, keysBefore, addBy, addAllBy, addGroups, groupsOf, groupWords}
 use Rattle.lists.specs.Gathering.{groupsIn, gathered, merged, groupRight, listRight, leastOutput}
 use Rattle.lists.proofs.Each.{Each, all-each, each-all}
@@ -23,8 +21,9 @@ use Rattle.lists.proofs.AddingKeeps.{each-addAll}
 use Rattle.lists.proofs.GroupWords.{HaveKeys, wide-words, groups-in-words, have-keys-in}
 use Rattle.lists.proofs.GroupsAdded.{have-addAll, groups-ascending, neighbours-keyed}
 use Rattle.lists.proofs.GroupLists.{groups-have, groups-ascend}
+use Rattle.lists.proofs.Values.{AllValues}
 use Rattle.lists.proofs.GroupsRight.{right-together}
-use Rattle.lists.proofs.GroupRows.{KeyValues, rows-right}
+use Rattle.lists.proofs.GroupRows.{key-values, rows-right}
 
 -- each record passes its part of the test
 abbrev pub AllRight : List Group → Type 0
@@ -48,47 +47,58 @@ module _ (vs : List ℕ) (m : ℕ) where
       (ascending-neighbours keysBefore gs a)
 
   module _ (ws : List ℕ) (e : listRight (group vs m) ws ≡ true) where
+    -- the parts of the test
+    abbrev whole : Bool
+    whole = eqb (length ws % (length vs + totalsWidth)) 0
+
+    abbrev records : Bool
+    records = all groupRight (groupsIn vs ws)
+
+    abbrev ordered : Bool
+    ordered = neighbours keysBefore (groupsIn vs ws)
+
     pub right-whole : length ws % (length vs + totalsWidth) ≡ 0
     unfolding listRight
-    right-whole = eqb-true (length ws % (length vs + totalsWidth)) 0 (and-left (eqb (length ws % (length vs + totalsWidth)) 0) (all groupRight (groupsIn vs ws) && neighbours keysBefore (groupsIn vs ws)) e)
+    right-whole = eqb-true (length ws % (length vs + totalsWidth)) 0 (and-left whole (records && ordered) e)
 
     pub right-records : AllRight (groupsIn vs ws)
     unfolding listRight
     right-records =
-        all-each groupRight (groupsIn vs ws)
-        (and-left (all groupRight (groupsIn vs ws)) (neighbours keysBefore (groupsIn vs ws))
-        (and-right (eqb (length ws % (length vs + totalsWidth)) 0) (all groupRight (groupsIn vs ws) && neighbours keysBefore (groupsIn vs ws)) e))
+        all-each groupRight (groupsIn vs ws) (and-left records ordered (and-right whole (records && ordered) e))
 
     pub right-ascending : Ascending keysBefore (groupsIn vs ws)
     unfolding listRight
     right-ascending =
         neighbours-keyed (length vs) (groupsIn vs ws) (have-keys-in vs ws)
-        (and-right (all groupRight (groupsIn vs ws)) (neighbours keysBefore (groupsIn vs ws))
-        (and-right (eqb (length ws % (length vs + totalsWidth)) 0) (all groupRight (groupsIn vs ws) && neighbours keysBefore (groupsIn vs ws)) e))
+        (and-right records ordered (and-right whole (records && ordered) e))
 
   -- ---- merging
   pub merged-right : (kept list : List ℕ) → listRight (group vs m) kept ≡ true → listRight (group vs m) list ≡ true
       → listRight (group vs m) (merged (group vs m) kept list) ≡ true
   unfolding merged
   merged-right kept list p q =
-      words-right (addGroups (groupsIn vs kept) (groupsIn vs list))
-      (have-addAll (length vs) (groupsIn vs kept) (groupsIn vs list) (have-keys-in vs kept) (have-keys-in vs list))
-      (right-addAll (groupsIn vs kept) (groupsIn vs list) (right-records kept p) (right-records list q))
-      (groups-ascending (length vs) (groupsIn vs kept) (groupsIn vs list) (have-keys-in vs kept) (have-keys-in vs list) (right-ascending kept p))
+      let gs = groupsIn vs kept in
+      let hs = groupsIn vs list in
+      words-right (addGroups gs hs) (have-addAll (length vs) gs hs (have-keys-in vs kept) (have-keys-in vs list))
+      (right-addAll gs hs (right-records kept p) (right-records list q))
+      (groups-ascending (length vs) gs hs (have-keys-in vs kept) (have-keys-in vs list) (right-ascending kept p))
 
   -- ---- gathering
-  pub gathered-right : (th : List ℕ) (bs : List Bindings) → KeyValues vs bs
+  pub gathered-right : (th : List ℕ) (bs : List Bindings) → AllValues bs
       → listRight (group vs m) (gathered (group vs m) th bs) ≡ true
   unfolding gathered
   gathered-right th bs h =
-      words-right (groupsOf vs m bs) (groups-have vs m bs) (right-addAll [] (map (ofRow vs m) bs) tt (each-mapped (λ (g : Group). groupRight g ≡ true) (ofRow vs m) bs (rows-right vs m bs h))) (groups-ascend vs m bs)
+      let rights = each-mapped (λ (g : Group). groupRight g ≡ true) (ofRow vs m) bs (rows-right vs m bs (key-values vs bs h)) in
+      words-right (groupsOf vs m bs) (groups-have vs m bs) (right-addAll [] (map (ofRow vs m) bs) tt rights)
+      (groups-ascend vs m bs)
 
   -- ---- room: as many words as there are records; the output that test 7 asks for has room for the record of one row
   pub length-gathered : (th : List ℕ) (bs : List Bindings)
       → length (gathered (group vs m) th bs) ≡ length (groupsOf vs m bs) * (length vs + totalsWidth)
   unfolding gathered
   length-gathered th bs =
-      length-flatten (length vs + totalsWidth) (map groupWords (groupsOf vs m bs)) (wide-words (length vs) (groupsOf vs m bs) (groups-have vs m bs))
+      length-flatten (length vs + totalsWidth) (map groupWords (groupsOf vs m bs))
+      (wide-words (length vs) (groupsOf vs m bs) (groups-have vs m bs))
       ∙ ap (λ n. n * (length vs + totalsWidth)) (length-map (groupsOf vs m bs) groupWords)
 
   pub row-fits : (th : List ℕ) (b : Bindings) → length (gathered (group vs m) th (b ∷ [])) ≤ leastOutput (group vs m)

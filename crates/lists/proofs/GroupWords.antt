@@ -1,6 +1,6 @@
 -- Records as words: what is written is read back, record by record and list by list, and words are written back as they
 -- were read.
-use Prim.Native.Nat.{ℕ, zero, suc, _+_, _*_, _/_, _%_, _≤_, _<_}
+use Prim.Native.Nat.{ℕ, zero, suc, _+_, _/_, _%_, _≤_, _<_}
 use native.Mathlib.Omega.{arith}
 use native.Mathlib.Decide.{decLt}
 use mathlib.Core.Path.{_≡_, refl, sym, _∙_, ap, ap₂}
@@ -8,16 +8,14 @@ use mathlib.Core.List.{List, [], _∷_, _++_, map, flatten}
 use lib.ListN.{length, getD, take, drop, length-append, length-take, drop-of-length-le, take-append-drop, List·getD-eq-default}
 use lib.Seq.{take-at, drop-cons, getD-append-add, getD-take, getD-drop, length-take-le}
 use Rattle.words.specs.Sequences.{parts}
-use Rattle.lists.specs.Groups.{Group, totalsWidth, wordValues, pairAt, groupWords, groupIn}
+use Rattle.lists.specs.Groups.{Group, totalsWidth, wordValues, twoWords, pairAt, groupWords, groupIn}
 use Rattle.lists.specs.Gathering.{recordsIn, groupsIn}
 use Rattle.lists.proofs.Each.{Each}
 use Rattle.lists.proofs.Records.{Wide, records-flatten, flatten-records, wide-records}
 
 -- the words after the keys
 abbrev totalWords : Group → List ℕ
-totalWords g =
-    g .rows % wordValues ∷ g .rows / wordValues ∷ g .numbers % wordValues ∷ g .numbers / wordValues
-    ∷ g .sum % wordValues ∷ g .sum / wordValues ∷ g .least ∷ g .greatest ∷ []
+totalWords g = twoWords (g .rows) ++ (twoWords (g .numbers) ++ (twoWords (g .sum) ++ (g .least ∷ g .greatest ∷ [])))
 
 pub length-words : (g : Group) → length (groupWords g) ≡ length (g .keys) + totalsWidth
 unfolding groupWords
@@ -32,7 +30,8 @@ after-keys keys rest n i j h e =
 pub group-in-words : (n : ℕ) (g : Group) → length (g .keys) ≡ n → groupIn n (groupWords g) ≡ g
 unfolding groupIn groupWords
 group-in-words n g h =
-    let at : (i j : ℕ) → j ≡ n + i → getD (g .keys ++ totalWords g) j 0 ≡ getD (totalWords g) i 0 = λ i j. after-keys (g .keys) (totalWords g) n i j h in
+    let at : (i j : ℕ) → j ≡ n + i → getD (g .keys ++ totalWords g) j 0 ≡ getD (totalWords g) i 0 =
+    λ i j. after-keys (g .keys) (totalWords g) n i j h in
     let a0 = at 0 n (omega arith) in
     let a1 = at 1 (suc n) (omega arith) in
     let a2 = at 2 (n + 2) (omega arith) in
@@ -105,7 +104,8 @@ read-each n (g ∷ gs) h = ap₂ _∷_ (group-in-words n g (h .0)) (read-each n 
 pub groups-in-words : (vs : List ℕ) (gs : List Group) → HaveKeys (length vs) gs
     → groupsIn vs (flatten (map groupWords gs)) ≡ gs
 groups-in-words vs gs h =
-    ap (map (groupIn (length vs))) (records-flatten (length vs + totalsWidth) (omega arith) (map groupWords gs) (wide-words (length vs) gs h))
+    ap (map (groupIn (length vs)))
+    (records-flatten (length vs + totalsWidth) (omega arith) (map groupWords gs) (wide-words (length vs) gs h))
     ∙ read-each (length vs) gs h
 
 -- records that are read have their keys

@@ -9,10 +9,10 @@ use Rattle.words.specs.Words.{keyRank}
 use Rattle.words.specs.Sequences.{neighbours}
 use Rattle.words.proofs.Orders.{lex-ordered}
 use Rattle.lists.specs.Groups.{Group, together, keysBefore, addBy, addAllBy, addGroups}
-use Rattle.lists.proofs.Each.{Each}
 use Rattle.lists.proofs.Ascending.{Ascending, neighbours-ascending}
 use Rattle.lists.proofs.Adding.{Joins, ascending-addAll, add-twice, addAll-append}
 use Rattle.lists.proofs.AddingKeeps.{each-addAll, ascending-map, ascending-unmap, neighbours-map, add-map, addAll-map}
+use Rattle.lists.proofs.Keys.{ranks}
 use Rattle.lists.proofs.GroupWords.{HaveKeys}
 use Rattle.lists.proofs.Extremes.{lesser-assoc, greater-assoc}
 
@@ -40,7 +40,7 @@ module _ (n : ℕ) where
   unfolding keysBefore together-assoc
   keyed-joins =
       record {
-        ordered = lex-ordered (λ (x : Keyed n). map keyRank (x .0 .keys)) n (λ x. length-map (x .0 .keys) keyRank ∙ x .1);
+        ordered = lex-ordered (λ (x : Keyed n). ranks (x .0 .keys)) n (λ x. length-map (x .0 .keys) keyRank ∙ x .1);
         left = λ a b c. refl;
         right = λ a b c. refl;
         assoc = λ a b c i. (together-assoc (a .0) (b .0) (c .0) i, a .1);

@@ -1,14 +1,14 @@
 -- Test 12 of one record: the record of a row passes it, and two records that pass it pass it together.
-use Prim.Native.Nat.{ℕ, _+_, _≤_, _<_}
+use Prim.Native.Nat.{ℕ, _≤_}
 use native.Mathlib.Omega.{arith}
-use mathlib.Core.Path.{_≡_, refl, sym, _∙_, ap, ap₂}
+use mathlib.Core.Path.{_≡_, refl}
 use mathlib.Core.Bool.{Bool, true, false, cond, _&&_}
 use mathlib.Core.List.{List}
 use lib.Dec.{eqb, leb}
-use borrow.Author.Tests.{eqb-true, eqb-false, eq-eqb, ne-eqb, leb-true, leb-false, le-leb}
+use borrow.Author.Tests.{eqb-true, eqb-false, ne-eqb, leb-true, leb-false, le-leb}
 use Rattle.words.specs.Words.{isNumber, valueRank, unbound, isValue}
 use Rattle.words.specs.Sequences.{all}
-use Rattle.words.proofs.Booleans.{and-left, and-right, and-both}
+use Rattle.words.proofs.Booleans.{and-left, and-right}
 use Rattle.lists.specs.Groups.{Group, ofValue, lesser, greater, together}
 use Rattle.lists.specs.Gathering.{extremesRight, groupRight}
 use Rattle.lists.proofs.Extremes.{lesser-unbound, greater-unbound, unbound-lesser, unbound-greater, lesser-numbers, greater-numbers}
@@ -119,7 +119,9 @@ is-right g r = rw (r .keys, le-leb 1 (g .rows) (r .rows), le-leb (g .numbers) (g
 
 -- the record of a row whose keys are values
 pub right-value : (keys : List ℕ) (x : ℕ) → all isValue keys ≡ true → groupRight (ofValue keys x) ≡ true
-right-value keys x e = is-right (ofValue keys x) (record { keys = e; rows = omega arith; numbers = go (isNumber x); extremes = extremes-value keys x })
+right-value keys x e =
+    is-right (ofValue keys x)
+    (record { keys = e; rows = omega arith; numbers = go (isNumber x); extremes = extremes-value keys x })
   where
     go : (b : Bool) → cond {A = ℕ} b 1 0 ≤ 1
     go true = omega arith

@@ -1,25 +1,16 @@
--- The elements of a list that pass a test: of two lists joined, by tests that agree, and where none passes.
-use mathlib.Core.Path.{_≡_, refl, sym, ap, subst}
+-- The elements of a list that pass a test: by tests that agree, where none passes, and of a list made from another.
+use mathlib.Core.Path.{_≡_, refl, ap}
 use mathlib.Core.Bool.{Bool, true, false, cond}
-use mathlib.Core.List.{List, [], _∷_, _++_, map, List·Memᴰ, List·Memᴰ·head, List·Memᴰ·tail, List·Memᴰ·cases-cons}
+use mathlib.Core.List.{List, [], _∷_, map, List·Memᴰ, List·Memᴰ·head, List·Memᴰ·tail, List·Memᴰ·cases-cons}
 use mathlib.Core.Logic.{inl, inr}
 use Rattle.words.specs.Sequences.{keep}
 use Rattle.lists.proofs.Each.{Each}
 
-pub keep-append : {A : Type 0} (f : A → Bool) (xs ys : List A) → keep f (xs ++ ys) ≡ keep f xs ++ keep f ys
+-- by tests that agree at each element
+pub keep-agree : {A : Type 0} (f g : A → Bool) (xs : List A) → Each (λ x. f x ≡ g x) xs → keep f xs ≡ keep g xs
 unfolding keep
-keep-append f [] ys = refl
-keep-append f (x ∷ xs) ys = go (f x) (keep-append f xs ys)
-  where
-    go : (b : Bool) → keep f (xs ++ ys) ≡ keep f xs ++ keep f ys
-        → cond b (x ∷ keep f (xs ++ ys)) (keep f (xs ++ ys)) ≡ cond b (x ∷ keep f xs) (keep f xs) ++ keep f ys
-    go true e = ap (λ l. x ∷ l) e
-    go false e = e
-
-pub keep-cong : {A : Type 0} (f g : A → Bool) (xs : List A) → ((x : A) → f x ≡ g x) → keep f xs ≡ keep g xs
-unfolding keep
-keep-cong f g [] h = refl
-keep-cong f g (x ∷ xs) h = rw (h x, keep-cong f g xs h)
+keep-agree f g [] h = refl
+keep-agree f g (x ∷ xs) h = rw (h .0, keep-agree f g xs (h .1))
 
 pub keep-none : {A : Type 0} (f : A → Bool) (xs : List A) → Each (λ x. f x ≡ false) xs → keep f xs ≡ []
 unfolding keep
@@ -36,16 +27,7 @@ keep-map f g (x ∷ xs) = go (g (f x)) (keep-map f g xs)
     go true e = ap (λ l. f x ∷ l) e
     go false e = e
 
--- what is kept passes the test, and was there
-pub keep-each : {A : Type 0} (f : A → Bool) (xs : List A) → Each (λ x. f x ≡ true) (keep f xs)
-unfolding keep
-keep-each f [] = tt
-keep-each f (x ∷ xs) = go (f x) refl (keep-each f xs)
-  where
-    go : (b : Bool) → f x ≡ b → Each (λ y. f y ≡ true) (keep f xs) → Each (λ y. f y ≡ true) (cond b (x ∷ keep f xs) (keep f xs))
-    go true e h = (e, h)
-    go false e h = h
-
+-- what is kept was there
 pub keep-member : {A : Type 0} (f : A → Bool) (xs : List A) {a : A} → List·Memᴰ a (keep f xs) → List·Memᴰ a xs
 unfolding keep
 keep-member f [] m = m

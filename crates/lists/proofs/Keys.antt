@@ -1,16 +1,18 @@
 -- Keys that are values: one word has each rank, and lists of keys are the same exactly where neither comes before the other.
-use Prim.Native.Nat.{ℕ, _+_, _<_}
+use Prim.Native.Nat.{ℕ, _<_}
 use native.Mathlib.Omega.{arith}
-use mathlib.Core.Path.{_≡_, refl, sym, _∙_, ap, ap₂}
-use mathlib.Core.Bool.{Bool, true, false, cond, _&&_, _||_, not}
+use mathlib.Core.Path.{_≡_, refl, sym, _∙_, ap₂}
+use mathlib.Core.Bool.{Bool, true, false, _&&_, _||_, not, true≢false}
 use mathlib.Core.List.{List, [], _∷_, map}
 use lib.Dec.{eqb}
 use lib.ListN.{length}
-use borrow.Author.Tests.{eqb-true, eqb-false}
-use Rattle.words.specs.Words.{termKind, variableKind, isVariable, unbound, keyRank, isValue}
+use borrow.Author.Tests.{eqb-true, eq-eqb}
+use Rattle.words.specs.Words.{isVariable, unbound, keyRank, isValue}
 use Rattle.words.specs.Sequences.{all, lexBefore}
 use Rattle.words.proofs.Booleans.{absurd-true, and-left, and-right}
 use Rattle.words.proofs.Orders.{Three, less, same, more, three, lex-less, lex-same, lex-asym}
+use Rattle.words.proofs.Ranks.{rank-bound}
+use Rattle.lists.specs.Groups.{Group, keysBefore}
 
 pub rank-same : (a b : ℕ) → isValue a ≡ true → isValue b ≡ true → keyRank a ≡ keyRank b → a ≡ b
 rank-same a b p q e = go (isVariable a) refl (isVariable b) refl p q e
@@ -44,6 +46,21 @@ keys-same (a ∷ ks) (b ∷ ls) l p q e f =
         (ih (sym (lex-same (ranks ks) (ranks ls) h) ∙ e) (sym (lex-same (ranks ls) (ranks ks) (sym h)) ∙ f))
     go (more h) ih = absurd-true (lex-less (ranks ls) (ranks ks) h) f
 
+-- ---- the order of keys: unbound first, then names, numbers and texts as their words are
+pub unbound-key-first : (g h : Group) (w : ℕ) (ks ls : List ℕ) → g .keys ≡ unbound ∷ ks → h .keys ≡ w ∷ ls → w < unbound
+    → keysBefore g h ≡ true
+unfolding keysBefore
+unbound-key-first g h w ks ls p q l =
+    rw (p, q) (lex-less (ranks ks) (ranks ls) (let e = rank-bound w l in omega arith))
+
+pub bound-key-first : (g h : Group) (v w : ℕ) (ks ls : List ℕ) → g .keys ≡ v ∷ ks → h .keys ≡ w ∷ ls → v < w → w < unbound
+    → keysBefore g h ≡ true
+unfolding keysBefore
+bound-key-first g h v w ks ls p q k l =
+    let e = rank-bound v (omega arith) in
+    let f = rank-bound w l in
+    rw (p, q) (lex-less {x = keyRank v} {y = keyRank w} (ranks ks) (ranks ls) (omega arith))
+
 -- nothing comes before itself
 pub lex-irreflexive : (xs : List ℕ) → lexBefore xs xs ≡ false
 lex-irreflexive xs = go (lexBefore xs xs) refl
@@ -51,3 +68,38 @@ lex-irreflexive xs = go (lexBefore xs xs) refl
     go : (b : Bool) → lexBefore xs xs ≡ b → lexBefore xs xs ≡ false
     go true e = lex-asym xs xs e
     go false e = e
+
+-- ---- the same words, one by one
+unfoldable pub sameWords : List ℕ → List ℕ → Bool
+sameWords [] [] = true
+sameWords [] (y ∷ ys) = false
+sameWords (x ∷ xs) [] = false
+sameWords (x ∷ xs) (y ∷ ys) = eqb x y && sameWords xs ys
+
+pub same-words : (xs ys : List ℕ) → sameWords xs ys ≡ true → xs ≡ ys
+unfolding sameWords
+same-words [] [] e = refl
+same-words [] (y ∷ ys) e = absurd (true≢false (sym e))
+same-words (x ∷ xs) [] e = absurd (true≢false (sym e))
+same-words (x ∷ xs) (y ∷ ys) e =
+    ap₂ _∷_ (eqb-true x y (and-left (eqb x y) (sameWords xs ys) e)) (same-words xs ys (and-right (eqb x y) (sameWords xs ys) e))
+
+pub words-same : (xs : List ℕ) → sameWords xs xs ≡ true
+unfolding sameWords
+words-same [] = refl
+words-same (x ∷ xs) = rw (eq-eqb x x refl) (words-same xs)
+
+-- keys that are values stand at one place exactly where they are the same words
+pub place-keys : (ks ls : List ℕ) → length ks ≡ length ls → all isValue ks ≡ true → all isValue ls ≡ true
+    → not (lexBefore (ranks ks) (ranks ls)) && not (lexBefore (ranks ls) (ranks ks)) ≡ sameWords ks ls
+place-keys ks ls l p q = go (sameWords ks ls) refl (lexBefore (ranks ks) (ranks ls)) refl (lexBefore (ranks ls) (ranks ks)) refl
+  where
+    go : (s : Bool) → sameWords ks ls ≡ s → (x : Bool) → lexBefore (ranks ks) (ranks ls) ≡ x
+        → (y : Bool) → lexBefore (ranks ls) (ranks ks) ≡ y → not x && not y ≡ s
+    go true h true e y f = absurd-true e (rw (same-words ks ls h) (lex-irreflexive (ranks ls)))
+    go true h false e true f = absurd-true f (rw (same-words ks ls h) (lex-irreflexive (ranks ls)))
+    go true h false e false f = refl
+    go false h true e y f = refl
+    go false h false e true f = refl
+    go false h false e false f =
+        absurd-true (rw (keys-same ks ls l p q e f) (words-same ls)) h

@@ -4,12 +4,11 @@ use Prim.Native.Nat.{ℕ}
 use native.Mathlib.Omega.{arith}
 use mathlib.Core.Path.{_≡_, refl, ap}
 use mathlib.Core.Logic.{_↔_}
-use mathlib.Core.Option.{Option, none, some}
-use mathlib.Core.List.{List, [], _∷_, map}
-use Rattle.words.specs.declared.Written.{Written}
-use Rattle.words.specs.declared.Written.the-variants.{Words, Refused}
+use mathlib.Core.Option.{none}
+use mathlib.Core.List.{[], _∷_, map}
+use Rattle.words.specs.declared.Written.the-variants.{Refused}
 use Rattle.words.specs.Answers.{wordsIn}
-use Rattle.words.specs.Tests.{Test, firstFailing}
+use Rattle.words.specs.Tests.{Test}
 use Rattle.words.proofs.Testing.{AllPass, FirstFails, fails-first, all-passes}
 use Rattle.words.proofs.Refusing.{refused-by, served-when}
 use Rattle.merges.specs.Merging.{MergeInput, MergeResult, mergedWords, mergeTests, mergedWith, mergedAs, mergeOf}

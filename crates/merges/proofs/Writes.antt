@@ -1,6 +1,6 @@
 -- A served merge writes the merged list over the first words of the kept buffer, which has room for it, and counts them.
-use Prim.Native.Nat.{ℕ, _≤_}
-use mathlib.Core.Path.{_≡_, subst⁻¹}
+use Prim.Native.Nat.{_≤_}
+use mathlib.Core.Path.{subst⁻¹}
 use lib.ListN.{length}
 use borrow.Author.Tests.{leb-true}
 use Rattle.words.specs.Answers.{wordsIn}

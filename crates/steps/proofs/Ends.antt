@@ -1,6 +1,7 @@
 -- The uncut run ends, and passes through no state twice.
-use Prim.Native.Nat.{ℕ, zero, suc, _+_, _-_, _*_, _<_}
+use Prim.Native.Nat.{ℕ, zero, suc, _+_, _-_, _*_, _≤_, _<_}
 use native.Mathlib.Omega.{arith}
+use native.Mathlib.Decide.{decLt}
 use mathlib.Core.Path.{_≡_, sym, _∙_, ap, subst}
 use mathlib.Core.Option.{none, some}
 use mathlib.Core.List.{List, []}
@@ -45,7 +46,7 @@ module _ (t : Tables) (q : Plan) where
       leads-on t q (startOf t q 0) (startOf t q (length (q .branches) - 1)) last
       (to-branch t q (length (q .branches) - 1) (omega (arith, form .least))) (to-end t q (length (q .branches) - 1))
 
-  run-length : PlanForm q → RunLength t q
+  pub run-length : PlanForm q → RunLength t q
   unfolding after iterate
   run-length form =
       let x = to-last form in
@@ -58,6 +59,19 @@ module _ (t : Tables) (q : Plan) where
             λ m l. going-before t q (startOf t q 0) last m (n - m)
             (subst (λ k. runFrom t q (startOf t q 0) k .state ≡ some last) (let e : n ≡ m + (n - m) = omega arith in e) (x .1));
       }
+
+  -- done means that all the steps were taken, and after them nothing changes
+  pub done-whole : (r : RunLength t q) (n : ℕ) → after t q n .state ≡ none → r .steps ≤ n
+  done-whole r n e =
+      elim (decLt n (r .steps)) [
+        | yes l ↦ absurd (none-some (sym e ∙ r .going n l .1))
+        | no l ↦ omega arith
+      ]
+
+  pub whole-stays : (r : RunLength t q) (n : ℕ) → r .steps ≤ n → after t q n ≡ after t q (r .steps)
+  whole-stays r n h =
+      let e : n ≡ r .steps + (n - r .steps) = omega arith in
+      ap (after t q) e ∙ done-stays t q (r .steps) (n - r .steps) (r .done)
 
   -- ---- no state twice
   -- a state that comes again comes again and again
@@ -91,11 +105,14 @@ module _ (t : Tables) (q : Plan) where
 
 -- ---- of a plan that was read, whatever the tables
 module _ (t : Tables) (plan : List ℕ) (q : Plan) (read : readPlan plan ≡ some q) where
+  -- how many steps it has
   pub whole-length : RunLength t q
   whole-length = run-length t q (plan-form plan q read)
 
+  -- it ends
   pub run-ends : (n : ℕ) × (after t q n .state ≡ none)
   run-ends = (whole-length .steps, whole-length .done)
 
+  -- it is at no state twice
   pub states-distinct : (m n : ℕ) (s : State) → after t q m .state ≡ some s → after t q n .state ≡ some s → m ≡ n
   states-distinct = once t q whole-length

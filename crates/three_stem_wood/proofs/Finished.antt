@@ -3,7 +3,8 @@ use mathlib.Core.Path.{_≡_, refl}
 use mathlib.Core.List.{[], _∷_}
 use Rattle.cuts.specs.Computing as cuts
 use Rattle.cuts.specs.Histories.{fresh}
-use Rattle.cuts.specs.Premises.{Premises, absent, last}
+use Rattle.lists.specs.Thresholds.{absent, row}
+use Rattle.cuts.specs.Premises.{Premises}
 use Rattle.three_stem_wood.specs.Wood.{wood, planTop}
 use Rattle.three_stem_wood.specs.FinishedCut.{openedTop, events, finishedCut, expected}
 use Rattle.three_stem_wood.proofs.Holds.{computing}
@@ -23,7 +24,7 @@ premises-met = (
       tt,
       (
         tt,
-        (λ e. last (record { chosen = 0 ∷ []; once = refl; there = refl; full = refl; row = refl }), (tt, tt)),
+        (λ e. row (record { chosen = 0 ∷ []; there = refl; once = refl; full = refl; last = refl }), (tt, tt)),
       ),
     ),
   ),

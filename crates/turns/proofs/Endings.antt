@@ -3,11 +3,9 @@ use Prim.Native.Nat.{ℕ, _≤_, _<_}
 use native.Mathlib.Omega.{arith}
 use mathlib.Core.Path.{_≡_, refl, sym, _∙_, ap, subst, subst⁻¹}
 use mathlib.Core.Logic.{_↔_}
-use mathlib.Core.Bool.{Bool, true, false}
 use mathlib.Core.Option.{Option, none, some}
-use mathlib.Core.List.{List, [], _∷_, _++_}
+use mathlib.Core.List.{[], _∷_, _++_}
 use lib.ListN.{length}
-use borrow.Author.Tests.{leb-true, leb-false}
 use Rattle.words.specs.Bindings.{Bindings}
 use Rattle.words.proofs.Testing.{none-some, some-injective}
 use Rattle.steps.specs.Steps.{State, delivers, step, Run}
@@ -16,10 +14,10 @@ use Rattle.lists.proofs.Room.{NoSpaceFor, no-space-longer, longer-no-space}
 use Rattle.turns.specs.declared.TurnEnding.{TurnEnding}
 use Rattle.turns.specs.declared.TurnEnding.the-variants.{Done, Spent, Full, Refused}
 use Rattle.turns.specs.Turns.{Progress, going, stopped, TurnInput, givenState, givenPlan, served, turnOf}
-use Rattle.turns.proofs.Stepping.{endingOf, stepsOf, stateOf, rowsOf, GoesOn, Stands, roomFor, served-stands}
+use Rattle.turns.proofs.Stepping.{endingOf, stepsOf, stateOf, rowsOf, GoesOn, Stands, roomFor, has-room, lacks-room, served-stands}
 use Rattle.turns.proofs.Refusals.{Served}
-use Rattle.turns.proofs.Follows.{givenRun, turnRun, listOf, Follows, follows, served-steps, served-ending, served-run}
-use Rattle.turns.proofs.Progress.{TurnLimits, turn-limits}
+use Rattle.turns.proofs.Follows.{givenRun, turnRun, listOf, follows, served-steps, served-ending, served-run}
+use Rattle.turns.proofs.Progress.{turn-limits}
 
 -- after n steps from a turn's state, the next would deliver a row (kind 8) or a new group for which the output has no space
 pub record NoSpace (i : TurnInput) (n : ℕ) : Type 0 where
@@ -111,7 +109,7 @@ module _ (i : TurnInput) (serve : Served i) where
       let b = h .how .1 in
       let longer : length (i .output) < length (listOf i (turnRun i .delivered ++ (b .row ∷ []))) =
       subst⁻¹ (λ (x : Run). length (i .output) < length (listOf i (x .delivered ++ (b .row ∷ [])))) r
-      (leb-false (length (listOf i (bs ++ (b .row ∷ [])))) (length (i .output)) (b .unfit)) in
+      (lacks-room i (bs ++ (b .row ∷ [])) (b .unfit)) in
       full e
       (record {
         less = omega (arith, h .how .0);
@@ -137,7 +135,7 @@ module _ (i : TurnInput) (serve : Served i) where
     λ z. none-some (sym z ∙ g .here),
     λ s. let same : s .state ≡ g .state = some-injective (sym (s .here) ∙ g .here) in
         let fits = g .fitting (s .row) (s .next) (ap (step (i .tables) (givenPlan i)) (sym same) ∙ s .would-deliver) in
-        let short = leb-true (length (listOf i (givenRun i n .delivered ++ (s .row ∷ [])))) (length (i .output)) fits in
+        let short = has-room i (givenRun i n .delivered ++ (s .row ∷ [])) .0 fits in
         let long = no-space-longer (givenPlan i .ending) (i .threshold) (length (i .output)) (givenRun i n .delivered) (s .row) (s .no-space) in
         omega arith,
   )

@@ -3,11 +3,9 @@
 use Prim.Native.Nat.{ℕ, _≤_}
 use native.Mathlib.Omega.{arith}
 use mathlib.Core.Path.{_≡_, refl, sym, _∙_, ap, subst⁻¹}
-use mathlib.Core.Bool.{Bool, true}
-use mathlib.Core.Option.{Option, none, some}
 use mathlib.Core.List.{List, []}
 use lib.ListN.{length}
-use borrow.Author.Tests.{leb-true, le-leb}
+use borrow.Author.Tests.{leb-true}
 use Rattle.words.specs.Bindings.{Bindings}
 use Rattle.words.specs.Answers.{wordsIn}
 use Rattle.words.specs.Sequences.{iterate}
@@ -19,10 +17,9 @@ use Rattle.steps.specs.Steps.{Run, startOf, runFrom, after}
 use Rattle.steps.specs.Saved.{positionWords, upperWords, leastStateWords, stateWords, savedWords, stateIn}
 use Rattle.lists.specs.Gathering.{gathered}
 use Rattle.lists.proofs.OneRow.{gathered-nil}
-use Rattle.turns.specs.declared.TurnEnding.{TurnEnding}
 use Rattle.turns.specs.Opening.{Opened, openTests, openOf}
 use Rattle.turns.specs.Turns.{Progress, going, stopped, TurnInput, TurnResult, resultOf, givenState, givenPlan, turnList, finished, served, turnOf}
-use Rattle.turns.proofs.Stepping.{endingOf, stepsOf, stateOf, rowsOf, Stands, roomFor, served-stands}
+use Rattle.turns.proofs.Stepping.{endingOf, stepsOf, stateOf, rowsOf, has-room, served-stands}
 use Rattle.turns.proofs.Refusals.{open-refusals, Opens, opened-so, Served, turned-so}
 
 -- the run from the state that a turn was given
@@ -53,7 +50,8 @@ by-parts i (stopped e n s bs) = refl
 
 module _ (i : TurnInput) (serve : Served i) where
   -- the parts of a served turn's result
-  pub served-parts : turnOf i ≡ resultOf i (endingOf (served i)) (stepsOf (served i)) (savedWords (stateOf (served i))) (listOf i (rowsOf (served i)))
+  pub served-parts : turnOf i
+      ≡ resultOf i (endingOf (served i)) (stepsOf (served i)) (savedWords (stateOf (served i))) (listOf i (rowsOf (served i)))
   served-parts = turned-so i serve ∙ by-parts i (served i)
 
   pub served-steps : turnOf i .answer .steps ≡ stepsOf (served i)
@@ -67,16 +65,19 @@ module _ (i : TurnInput) (serve : Served i) where
   served-run = ap (givenRun i) served-steps ∙ served-stands i .run
 
   -- the result in terms of that run
-  served-result : turnOf i ≡ resultOf i (endingOf (served i)) (stepsOf (served i)) (savedWords (turnRun i .state)) (listOf i (turnRun i .delivered))
+  served-result : turnOf i
+      ≡ resultOf i (endingOf (served i)) (stepsOf (served i)) (savedWords (turnRun i .state)) (listOf i (turnRun i .delivered))
   served-result =
       served-parts
-      ∙ ap (λ (u : Run). resultOf i (endingOf (served i)) (stepsOf (served i)) (savedWords (u .state)) (listOf i (u .delivered))) (sym served-run)
+      ∙ ap (λ (u : Run). resultOf i (endingOf (served i)) (stepsOf (served i)) (savedWords (u .state)) (listOf i (u .delivered)))
+      (sym served-run)
 
   -- no rows have room, and so have the rows of each step that was taken
   rows-fit : length (listOf i (rowsOf (served i))) ≤ length (i .output)
   rows-fit =
-      let h : roomFor i [] ≡ true = rw (gathered-nil (givenPlan i .ending) (i .threshold)) (le-leb 0 (length (i .output)) (omega arith)) in
-      leb-true (length (listOf i (rowsOf (served i)))) (length (i .output)) (served-stands i .fitted h)
+      let h : length (listOf i []) ≤ length (i .output) =
+      let e = ap length (gathered-nil (givenPlan i .ending) (i .threshold)) in omega arith in
+      has-room i (rowsOf (served i)) .0 (served-stands i .fitted (has-room i [] .1 h))
 
   pub follows : Follows i
   follows =
@@ -95,7 +96,8 @@ open-room t plan state h = leb-true leastStateWords (length state) (h .1 .1 .1 .
 
 -- the words that a served opening writes: the uncut run's state after no step
 pub record StartsRun (t : Tables) (plan state : List ℕ) : Type 0 where
-  pub buffer : Overwritten (savedWords (after t (planOf plan) 0 .state)) state (openOf t plan state .state) (wordsIn (openOf t plan state .answer))
+  pub buffer : Overwritten (savedWords (after t (planOf plan) 0 .state)) state
+      (openOf t plan state .state) (wordsIn (openOf t plan state .answer))
   pub room : wordsIn (openOf t plan state .answer) ≤ length state
 
 pub starts-run : (t : Tables) (plan state : List ℕ) → Opens t plan state → StartsRun t plan state

@@ -3,3 +3,4 @@ pub mod Refusals
 pub mod Follows
 pub mod Progress
 pub mod Endings
+pub mod OnTheRun

@@ -1,24 +1,23 @@
 -- A served turn takes at least one step, and at most its quantum.
-use Prim.Native.Nat.{ℕ, zero, suc, _≤_, _<_}
+use Prim.Native.Nat.{zero, suc, _≤_}
 use native.Mathlib.Omega.{arith}
-use mathlib.Core.Path.{_≡_, refl, sym, _∙_, ap, subst⁻¹}
-use mathlib.Core.Bool.{Bool, true, false}
-use mathlib.Core.Option.{Option, none, some}
+use mathlib.Core.Path.{_≡_, sym, _∙_, ap, subst⁻¹}
+use mathlib.Core.Bool.{true}
 use mathlib.Core.List.{List, [], _∷_, _++_}
 use lib.ListN.{length}
 use lib.Dec.{leb}
-use borrow.Author.Tests.{leb-true, le-leb}
+use borrow.Author.Tests.{leb-true}
 use Rattle.words.specs.Bindings.{Bindings}
 use Rattle.words.specs.Sequences.{iterate}
 use Rattle.words.proofs.Booleans.{absurd-true, and-left, and-right}
 use Rattle.words.proofs.Testing.{none-some}
 use Rattle.steps.specs.Steps.{Run}
 use Rattle.steps.specs.Saved.{stateIn, leastStateWords}
-use Rattle.lists.specs.Gathering.{gathered, leastOutput}
+use Rattle.lists.specs.Gathering.{leastOutput}
 use Rattle.lists.proofs.OneRow.{one-row}
 use Rattle.turns.specs.declared.TurnEnding.the-variants.{Done, Spent, Full, Refused}
 use Rattle.turns.specs.Turns.{Progress, going, stopped, mostSteps, TurnInput, givenState, givenPlan, served, turnOf}
-use Rattle.turns.proofs.Stepping.{stepsOf, Stands, roomFor, served-stands}
+use Rattle.turns.proofs.Stepping.{stepsOf, Stands, roomFor, has-room, served-stands}
 use Rattle.turns.proofs.Refusals.{Served, turn-refusals}
 use Rattle.turns.proofs.Follows.{served-steps}
 
@@ -49,8 +48,7 @@ module _ (i : TurnInput) (limits : TurnLimits i) where
   -- the first row has room, by test 7
   first-row : (b : Bindings) → roomFor i (b ∷ []) ≡ true
   first-row b =
-      let l = one-row (givenPlan i .ending) (i .threshold) b in
-      le-leb (length (gathered (givenPlan i .ending) (i .threshold) (b ∷ []))) (length (i .output)) (omega (arith, limits .output-room))
+      let l = one-row (givenPlan i .ending) (i .threshold) b in has-room i (b ∷ []) .1 (omega (arith, limits .output-room))
 
   advances : (p : Progress) → Stands (i .tables) (givenPlan i) (roomFor i) (stateIn (givenState i)) (i .quantum) p
       → (1 ≤ stepsOf p) × (stepsOf p ≤ i .quantum)
@@ -69,4 +67,7 @@ module _ (i : TurnInput) (limits : TurnLimits i) where
 pub progresses : (i : TurnInput) → Served i → Progresses i
 progresses i h =
     let a = advances i (turn-limits i h) (served i) (served-stands i) in
-    record { least = subst⁻¹ (λ n. 1 ≤ n) (served-steps i h) (a .0); within = subst⁻¹ (λ n. n ≤ i .quantum) (served-steps i h) (a .1) }
+    record {
+      least = subst⁻¹ (λ n. 1 ≤ n) (served-steps i h) (a .0);
+      within = subst⁻¹ (λ n. n ≤ i .quantum) (served-steps i h) (a .1);
+    }

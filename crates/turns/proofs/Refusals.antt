@@ -2,23 +2,20 @@
 -- and then nothing is written; served exactly where every test passes.
 use Prim.Native.Nat.{ℕ}
 use native.Mathlib.Omega.{arith}
-use mathlib.Core.Path.{_≡_, refl, sym, _∙_, ap}
+use mathlib.Core.Path.{_≡_, refl, ap}
 use mathlib.Core.Logic.{_↔_}
-use mathlib.Core.Option.{Option, none, some}
+use mathlib.Core.Option.{none}
 use mathlib.Core.List.{List, [], _∷_, map}
-use Rattle.words.specs.declared.Written.{Written}
 use Rattle.words.specs.declared.Written.the-variants as written
 use Rattle.words.specs.Answers.{wordsIn}
-use Rattle.words.specs.Tests.{Test, firstFailing}
+use Rattle.words.specs.Tests.{Test}
 use Rattle.words.proofs.Testing.{AllPass, FirstFails, fails-first, all-passes}
 use Rattle.words.proofs.Refusing.{refused-by, served-when}
 use Rattle.tables.specs.Tables.{Tables}
 use Rattle.plans.specs.Plans.{planOf}
 use Rattle.steps.specs.Steps.{startOf}
 use Rattle.steps.specs.Saved.{stateWords}
-use Rattle.turns.specs.declared.TurnEnding.{TurnEnding}
 use Rattle.turns.specs.declared.TurnEnding.the-variants.{Done, Spent, Full, Refused}
-use Rattle.turns.specs.declared.Turned.{Turned}
 use Rattle.turns.specs.Opening.{Opened, openTests, openedWith, openedAs, openOf}
 use Rattle.turns.specs.Turns.{Progress, going, stopped, TurnInput, TurnResult, resultOf, givenPlan, turnTests, finished, served, turnedAs, turnOf}
 use Rattle.turns.proofs.Stepping.{How, roomFor, served-stands}
@@ -44,7 +41,8 @@ pub record OpenRefusals (t : Tables) (plan state : List ℕ) : Type 0 where
   pub serves : Opens t plan state ↔ AllPass (openTests t plan state)
 
 module _ (t : Tables) (plan state : List ℕ) where
-  not-opened : (x : ℕ) → FirstFails x (openTests t plan state) → openOf t plan state ≡ record { answer = written.Refused x; state = state }
+  not-opened : (x : ℕ) → FirstFails x (openTests t plan state)
+      → openOf t plan state ≡ record { answer = written.Refused x; state = state }
   unfolding openOf
   not-opened x h = ap (openedAs t plan state) (fails-first x (openTests t plan state) h)
 

@@ -6,7 +6,7 @@ use mathlib.Core.Logic.{_↔_}
 use mathlib.Core.Option.{Option, none, some}
 use mathlib.Core.List.{List}
 use Rattle.words.specs.Tests.{Test, firstFailing}
-use Rattle.words.proofs.Testing.{AllPass, FirstFails, passes-all, all-passes, first-fails, fails-first, none-some}
+use Rattle.words.proofs.Testing.{AllPass, FirstFails, passes-all, all-passes, first-fails, fails-first}
 
 -- an answer's type, its refusals, and the answer by the number of the first test that fails
 module _ {A : Type 0} (refused : ℕ → A) (answers : Option ℕ → A)

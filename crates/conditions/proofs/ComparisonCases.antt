@@ -1,0 +1,78 @@
+-- Comparisons by cases. Of two numbers, or of two texts, the words are in the order of the values.
+use Prim.Native.Nat.{ℕ, _/_, _%_, _<_}
+use native.Mathlib.Omega.{arith}
+use mathlib.Core.Path.{_≡_, refl, sym, ap, _∙_}
+use mathlib.Core.Bool.{Bool, true, false, cond, _&&_, _||_}
+use lib.Dec.{eqb, ltb, leb}
+use borrow.Author.Tests.{eqb-true, eq-eqb, ne-eqb, lt-ltb, le-ltb, le-leb, lt-leb, ltb-true, ltb-false, leb-true, leb-false}
+use Rattle.words.specs.Words.{termKind, valueRank, numberKind, textKind}
+use Rattle.words.proofs.Booleans.{and-left, and-right}
+use Rattle.conditions.specs.declared.Truth.the-variants.{True, False, Error}
+use Rattle.conditions.specs.Truth.{ofTest, kindsAre, equality, inequality}
+use Rattle.conditions.specs.Values.{haveOrder, areMixed}
+
+-- ---- the answer of a test of two parts, the second of which is made where the first fails
+pub first-part : {r p : Bool} (q : Bool) → r ≡ p → r ≡ true → r ≡ p || q
+first-part q e t = rw (← e, t)
+
+pub second-part : {r s p q : Bool} → r ≡ p → r ≡ false → s ≡ q → s ≡ p || q
+second-part e f g = rw (← e, f) g
+
+-- ---- two terms of kinds that are given
+of-kinds : (j k a b : ℕ) → kindsAre j k a b ≡ true → (termKind a ≡ j) × (termKind b ≡ k)
+of-kinds j k a b e = (
+  eqb-true (termKind a) j (and-left (eqb (termKind a) j) (eqb (termKind b) k) e),
+  eqb-true (termKind b) k (and-right (eqb (termKind a) j) (eqb (termKind b) k) e),
+)
+
+-- terms that have an order are of one kind
+pub one-kind : (a b : ℕ) → haveOrder a b ≡ true → termKind a ≡ termKind b
+one-kind a b e = go (kindsAre numberKind numberKind a b) refl e
+  where
+    go : (t : Bool) → kindsAre numberKind numberKind a b ≡ t → t || kindsAre textKind textKind a b ≡ true
+        → termKind a ≡ termKind b
+    go true p q = let h = of-kinds numberKind numberKind a b p in h .0 ∙ sym (h .1)
+    go false p q = let h = of-kinds textKind textKind a b q in h .0 ∙ sym (h .1)
+
+-- words of one kind are in the order of their values
+pub less-words : (a b : ℕ) → termKind a ≡ termKind b → ltb (valueRank a) (valueRank b) ≡ ltb a b
+less-words a b e = go (ltb a b) refl
+  where
+    go : (t : Bool) → ltb a b ≡ t → ltb (valueRank a) (valueRank b) ≡ t
+    go true p = lt-ltb (valueRank a) (valueRank b) (omega (arith, ltb-true a b p))
+    go false p = le-ltb (valueRank a) (valueRank b) (omega (arith, ltb-false a b p))
+
+pub at-most-words : (a b : ℕ) → termKind a ≡ termKind b → leb (valueRank a) (valueRank b) ≡ leb a b
+at-most-words a b e = go (leb a b) refl
+  where
+    go : (t : Bool) → leb a b ≡ t → leb (valueRank a) (valueRank b) ≡ t
+    go true p = le-leb (valueRank a) (valueRank b) (omega (arith, leb-true a b p))
+    go false p = lt-leb (valueRank a) (valueRank b) (omega (arith, leb-false a b p))
+
+-- ---- inequalities
+module _ (a b : ℕ) where
+  pub less-ordered : haveOrder a b ≡ true → inequality ltb a b ≡ ofTest (ltb a b)
+  unfolding inequality
+  less-ordered e = rw (e, less-words a b (one-kind a b e))
+
+  pub at-most-ordered : haveOrder a b ≡ true → inequality leb a b ≡ ofTest (leb a b)
+  unfolding inequality
+  at-most-ordered e = rw (e, at-most-words a b (one-kind a b e))
+
+  pub no-order : (test : ℕ → ℕ → Bool) → haveOrder a b ≡ false → inequality test a b ≡ Error
+  unfolding inequality
+  no-order test e = rw e
+
+  -- ---- equality
+  pub equal-same : a ≡ b → equality a b ≡ True
+  unfolding equality
+  equal-same e = rw (eq-eqb a b e)
+
+  module _ (h : a ≡ b → ⊥) where
+    pub equal-mixed : areMixed a b ≡ true → equality a b ≡ Error
+    unfolding equality
+    equal-mixed e = rw (ne-eqb a b h, e)
+
+    pub unequal : areMixed a b ≡ false → equality a b ≡ False
+    unfolding equality
+    unequal e = rw (ne-eqb a b h, e)

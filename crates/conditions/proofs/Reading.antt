@@ -1,0 +1,83 @@
+-- Reading a condition: what its first word begins, and that it takes no more words than there are.
+use Prim.Native.Nat.{ℕ, zero, suc, _+_, _-_, _≤_, _<_}
+use native.Mathlib.Omega.{arith}
+use native.Mathlib.Numerals.{sub-one}
+use mathlib.Core.Path.{_≡_, refl, _∙_}
+use mathlib.Core.Option.{none, some}
+use mathlib.Core.List.{List, [], _∷_}
+use lib.ListN.{length, getD, take, drop, length-drop}
+use lib.Seq.{take-all}
+use Rattle.plans.specs.declared.Node.{Node}
+use Rattle.plans.specs.declared.Node.the-variants.{Always, Pair, Negated, Compared, Wrong}
+use Rattle.plans.specs.Conditions.{Condition, Read, next, pairOf, nodeOf, readNode, readCondition}
+
+-- a part to the end of a list
+pub rest-of : (l : List ℕ) (a : ℕ) → take (length l - a) (drop a l) ≡ drop a l
+rest-of l a = take-all (length l - a) (drop a l) (simp length-drop (omega arith))
+
+-- ---- no condition
+pub no-depth : (d : ℕ) (ws : List ℕ) → d ≡ 0 → readCondition d ws ≡ none
+unfolding readCondition
+no-depth zero ws h = refl
+no-depth (suc d) ws h = absurd (omega arith)
+
+pub no-words : (d : ℕ) (ws : List ℕ) → length ws ≡ 0 → readCondition d ws ≡ none
+unfolding readCondition
+no-words zero ws h = refl
+no-words (suc d) [] h = refl
+no-words (suc d) (w ∷ ws) h = absurd (omega arith)
+
+-- ---- the first word begins a node, and the depth that is left allows one
+pub record Begins (d : ℕ) (ws : List ℕ) (n : Node) : Type 0 where
+  pub deep : d ≡ 0 → ⊥
+  pub there : length ws ≡ 0 → ⊥
+  pub node : n ≡ nodeOf (getD ws 0 0)
+
+at-node : (d : ℕ) (ws : List ℕ) → (d ≡ 0 → ⊥) → (length ws ≡ 0 → ⊥)
+    → readCondition d ws ≡ readNode (nodeOf (getD ws 0 0)) (readCondition (d - 1)) (getD ws 0 0) (drop 1 ws)
+unfolding readCondition
+at-node zero ws h g = absurd (h refl)
+at-node (suc d) [] h g = absurd (g refl)
+at-node (suc d) (w ∷ ws) h g = rw sub-one
+
+pub begun : {d : ℕ} {ws : List ℕ} {n : Node} → Begins d ws n → (k : Node) → n ≡ k
+    → readCondition d ws ≡ readNode k (readCondition (d - 1)) (getD ws 0 0) (drop 1 ws)
+begun {d} {ws} h k e = at-node d ws (h .deep) (h .there) ∙ rw (← h .node, e)
+
+-- ---- how many words a condition takes
+abbrev pub Fits : Read Condition → ℕ → Type 0
+Fits none len = Unit {0}
+Fits (some x) len = x .1 ≤ len
+
+module _ (g : List ℕ → Read Condition) (hg : (l : List ℕ) → Fits (g l) (length l)) (w : ℕ) where
+  negated-fits : (x : Read Condition) (len : ℕ) → Fits x len
+      → Fits (next x (λ x. some (Condition.negated (x .0), 1 + x .1))) (suc len)
+  negated-fits none len h = tt
+  negated-fits (some x) len h = omega arith
+
+  second-fits : (x : Condition) (m len : ℕ) (y : Read Condition) → m ≤ len → Fits y (len - m)
+      → Fits (next y (λ y. some (pairOf w x (y .0), 1 + m + y .1))) (suc len)
+  second-fits x m len none h k = tt
+  second-fits x m len (some y) h k = omega arith
+
+  pair-fits : (ws : List ℕ) (x : Read Condition) → Fits x (length ws)
+      → Fits (next x (λ x. next (g (drop (x .1) ws)) (λ y. some (pairOf w (x .0) (y .0), 1 + x .1 + y .1)))) (suc (length ws))
+  pair-fits ws none h = tt
+  pair-fits ws (some x) h =
+      second-fits (x .0) (x .1) (length ws) (g (drop (x .1) ws)) h (rw length-drop at (hg (drop (x .1) ws)))
+
+  node-fits : (n : Node) (ws : List ℕ) → Fits (readNode n g w ws) (suc (length ws))
+  unfolding readNode
+  node-fits Always ws = omega arith
+  node-fits Pair ws = pair-fits ws (g ws) (hg ws)
+  node-fits Negated ws = negated-fits (g ws) (length ws) (hg ws)
+  node-fits Compared [] = tt
+  node-fits Compared (l ∷ []) = tt
+  node-fits Compared (l ∷ r ∷ ws) = omega arith
+  node-fits Wrong ws = tt
+
+pub fits : (d : ℕ) (ws : List ℕ) → Fits (readCondition d ws) (length ws)
+unfolding readCondition
+fits zero ws = tt
+fits (suc d) [] = tt
+fits (suc d) (w ∷ ws) = node-fits (readCondition d) (fits d) w (nodeOf w) ws

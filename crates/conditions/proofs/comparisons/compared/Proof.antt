@@ -1,0 +1,59 @@
+-- `compared` meets its contract: a comparison is three words, and its value is that of its operands' values.
+use borrow.Author.Needs.{needs}
+use mathlib.Core.Path.{sym, _∙_}
+use Rattle.conditions.proofs.Evaluating.{short-comparison, whole-comparison}
+use Rattle.conditions.proofs.comparisons.compared.Statement.{statement}
+use Rattle.conditions.proofs.comparisons.compared.Tie as tie
+
+returns : tie.Need-returns
+returns c =
+    let s = c .before .before in
+    sym (short-comparison (s .args .bound .now) (s .args .p .now) (c .if1 .taken))
+
+shared-slice-read-t8 : tie.Need-shared-slice-read-t8
+shared-slice-read-t8 c = search needs
+
+low-requires : tie.Need-low-requires
+low-requires c κs = search needs
+
+shared-slice-read-operand : tie.Need-shared-slice-read-operand
+shared-slice-read-operand c = search needs
+
+operand-requires : tie.Need-operand-requires
+operand-requires c κs = search needs
+
+shared-slice-read-operand-2 : tie.Need-shared-slice-read-operand-2
+shared-slice-read-operand-2 c = search needs
+
+operand-requires-2 : tie.Need-operand-requires-2
+operand-requires-2 c κs = search needs
+
+compare-requires : tie.Need-compare-requires
+compare-requires c κs = search needs
+
+returns-2 : tie.Need-returns-2
+returns-2 c =
+    let k = c .before .before .before in
+    let f = k .before .before .before .before in
+    let s = f .before .before in
+    rw (
+      whole-comparison (s .args .bound .now) (s .args .p .now) (f .if1 .left),
+      c .compare .ensures,
+      k .before .before .low .ensures,
+      k .operand .ensures,
+      c .before .operand2 .ensures,
+    )
+
+pub compared-spec : {M : Type 1} → statement M
+compared-spec =
+    tie.close
+    (tie.spec
+    returns
+    shared-slice-read-t8
+    low-requires
+    shared-slice-read-operand
+    operand-requires
+    shared-slice-read-operand-2
+    operand-requires-2
+    compare-requires
+    returns-2)

@@ -1,0 +1,70 @@
+-- One interface for what an ending gathers: the list of some rows, how a further list is taken, which lists are valid, and the
+-- room that one row needs. Rows, best-of lists and groups are its instances.
+use Prim.Native.Nat.{ℕ, _≤_, _<_}
+use native.Mathlib.Omega.{arith}
+use mathlib.Core.Path.{_≡_}
+use mathlib.Core.Bool.{true}
+use mathlib.Core.List.{List, [], _∷_, _++_}
+use lib.ListN.{length}
+use Rattle.words.specs.Bindings.{Bindings}
+use Rattle.plans.specs.Endings.{Ending, rows, top, group}
+use Rattle.plans.proofs.Bounds.{EndingForm}
+use Rattle.lists.specs.Gathering.{width, gathered, takenInto, listRight, leastOutput}
+use Rattle.lists.proofs.Values.{AllValues}
+use Rattle.lists.proofs.TopLists.{Fine, rows-join, merge-top}
+use Rattle.lists.proofs.TopValid.{right-gathered, right-merged}
+use Rattle.lists.proofs.GroupLists.{merge-group}
+use Rattle.lists.proofs.GroupValid.{gathered-right, merged-right}
+use Rattle.lists.proofs.OneRow.{gathered-nil, one-row}
+
+-- a list that test 12 passes; a row query's lists are joined, and not tested
+abbrev pub Valid : Ending → List ℕ → Type 0
+Valid (rows vs) list = Unit {0}
+Valid (top k vs keys) list = listRight (top k vs keys) list ≡ true
+Valid (group vs m) list = listRight (group vs m) list ≡ true
+
+pub record Gathering (e : Ending) : Type 0 where
+  -- of no rows nothing is gathered
+  pub none : (threshold : List ℕ) → gathered e threshold [] ≡ []
+  -- the list of some rows, and then that of further ones, make the list of all: with no threshold, and with one that leaves out
+  -- none of the best
+  pub adds : (threshold : List ℕ) (xs ys : List Bindings) → Fine e xs threshold
+      → takenInto e (gathered e [] xs) (gathered e threshold ys) ≡ gathered e [] (xs ++ ys)
+  -- what is gathered of rows of values is valid, and valid lists make a valid one
+  pub valid : (threshold : List ℕ) (bs : List Bindings) → AllValues bs → Valid e (gathered e threshold bs)
+  pub closed : (kept list : List ℕ) → Valid e kept → Valid e list → Valid e (takenInto e kept list)
+  -- an output that test 7 passes has room for a row
+  pub room : (threshold : List ℕ) (b : Bindings) → length (gathered e threshold (b ∷ [])) ≤ leastOutput e
+
+-- the ending of a plan that was read has it
+pub gathering : (e : Ending) → EndingForm e → Gathering e
+gathering (rows vs) f =
+    record {
+      none = gathered-nil (rows vs);
+      adds = λ threshold xs ys h. rows-join vs xs ys threshold;
+      valid = λ threshold bs h. tt;
+      closed = λ kept list p q. tt;
+      room = one-row (rows vs);
+    }
+gathering (top k vs keys) f =
+    record {
+      none = gathered-nil (top k vs keys);
+      adds = merge-top k vs keys (f .row .least);
+      valid = right-gathered k vs keys;
+      closed = right-merged k vs keys;
+      room = one-row (top k vs keys);
+    }
+gathering (group vs m) f =
+    record {
+      none = gathered-nil (group vs m);
+      adds = λ threshold xs ys h. merge-group vs m xs ys threshold;
+      valid = gathered-right vs m;
+      closed = merged-right vs m;
+      room = one-row (group vs m);
+    }
+
+-- its records have some words
+pub some-width : (e : Ending) → EndingForm e → 0 < width e
+some-width (rows vs) f = f .least
+some-width (top k vs keys) f = f .row .least
+some-width (group vs m) f = omega arith
