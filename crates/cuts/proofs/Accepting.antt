@@ -1,15 +1,14 @@
 -- What an opening that is served says of its tables and its plan: no test on them refuses.
 use Prim.Native.Nat.{ℕ}
-use mathlib.Core.Path.{_≡_, refl, sym}
+use mathlib.Core.Path.{_≡_}
 use mathlib.Core.Bool.{true}
-use mathlib.Core.Option.{Option, none, some}
+use mathlib.Core.Option.{none, some}
 use mathlib.Core.List.{List}
 use Rattle.words.specs.Tests.{firstFailing}
-use Rattle.words.proofs.Booleans.{absurd-true}
 use Rattle.words.proofs.Testing.{AllPass, all-passes}
 use Rattle.tables.specs.Tables.{Tables, tableTests}
-use Rattle.plans.specs.Plans.{Plan, readPlan, hasForm, planOr, planOf, variablesRight}
-use Rattle.plans.proofs.Bounds.{PlanForm, plan-form}
+use Rattle.plans.specs.Plans.{readPlan, planOf, variablesRight}
+use Rattle.plans.proofs.Bounds.{PlanForm, plan-form, was-read}
 use Rattle.lists.proofs.Gatherings.{Gathering, gathering}
 use Rattle.turns.specs.Opening.{openTests}
 use Rattle.turns.proofs.Refusals.{Opens, open-refusals}
@@ -19,16 +18,12 @@ pub record Accepted (t : Tables) (plan : List ℕ) : Type 0 where
   pub read : readPlan plan ≡ some (planOf plan)
   pub variables : variablesRight (planOf plan) ≡ true
 
-has-form : (o : Option Plan) → hasForm o ≡ true → o ≡ some (planOr o)
-has-form none e = absurd-true refl (sym e)
-has-form (some q) e = refl
-
 pub opening-accepts : (t : Tables) (plan state : List ℕ) → Opens t plan state → Accepted t plan
 opening-accepts t plan state o =
     let h = open-refusals t plan state .serves .0 o in
     record {
       tables = all-passes (tableTests t) (h .0, (h .1 .0, (h .1 .1 .0, (h .1 .1 .1 .0, tt))));
-      read = has-form (readPlan plan) (h .1 .1 .1 .1 .0);
+      read = was-read (readPlan plan) (h .1 .1 .1 .1 .0);
       variables = h .1 .1 .1 .1 .1 .0;
     }
 

@@ -19,7 +19,7 @@ use Rattle.plans.specs.declared.Last.the-variants.{Rows, Top, Group, Nei
 use Rattle.plans.specs.Conditions.{Condition, Read, next, readCondition, nodes, mostDepth, mostNodes}
 use Rattle.plans.specs.Branches.{Branch, patternWidth, mostPatterns, patternCount, withCondition, readBranch, readBranches, nthBranch}
 use Rattle.plans.specs.Endings.{Ending, rows, top, group, mostRowVariables, mostBest, mostKeys, mostGroupVariables, bestCount, rowWidth, rowVariables, afterRows, rowsForm, isKey, keysForm, lastOf, formAs, endingForm, endingAs, endingAt}
-use Rattle.plans.specs.Plans.{Plan, mostBranches, mostPlanWords, branchCount, withEnding, readPlan, branchAt}
+use Rattle.plans.specs.Plans.{Plan, mostBranches, mostPlanWords, branchCount, withEnding, readPlan, hasForm, planOr, branchAt}
 
 -- ---- what was read where a reader's answer is there
 cond-some {ℓ} : {A : Type ℓ} (b : Bool) (x : Option A) (a : A) → cond b x none ≡ some a → (b ≡ true) × (x ≡ some a)
@@ -223,3 +223,8 @@ plan-form ws q e =
       branch = λ i h. form-at (q .branches) i (subst AllForm (sym (w .2)) (f .1)) h;
       ending = w .3;
     }
+
+-- test 5: a plan that has the form is read
+pub was-read : (o : Option Plan) → hasForm o ≡ true → o ≡ some (planOr o)
+was-read none e = absurd-true refl (sym e)
+was-read (some q) e = refl

@@ -3,15 +3,15 @@
 use Prim.Native.Nat.{ℕ, _+_, _≤_}
 use native.Mathlib.Omega.{arith}
 use mathlib.Core.Path.{_≡_, refl, sym, _∙_, ap}
-use mathlib.Core.Bool.{true, true≢false}
+use mathlib.Core.Bool.{true}
 use mathlib.Core.Option.{Option, none, some}
 use mathlib.Core.List.{_++_}
 use lib.ListN.{length}
 use lib.Dec.{leb}
 use Rattle.words.proofs.Booleans.{and-right}
 use Rattle.words.proofs.Buffers.{length-over}
-use Rattle.plans.specs.Plans.{Plan, readPlan, hasForm, planOr}
-use Rattle.plans.proofs.Bounds.{PlanForm, plan-form}
+use Rattle.plans.specs.Plans.{readPlan}
+use Rattle.plans.proofs.Bounds.{PlanForm, plan-form, was-read}
 use Rattle.steps.specs.Steps.{State, after}
 use Rattle.steps.specs.Saved.{leastStateWords, shapeRight, stateIn, stateWords, savedWords}
 use Rattle.steps.proofs.Runs.{after-state, after-rows}
@@ -38,11 +38,6 @@ pub record OnTheRun (i : TurnInput) : Type 0 where
 pub record KeepsLengths (i : TurnInput) : Type 0 where
   pub state : length (turnOf i .state) ≡ length (i .state)
   pub output : length (turnOf i .output) ≡ length (i .output)
-
--- a plan that has the form is read
-was-read : (o : Option Plan) → hasForm o ≡ true → o ≡ some (planOr o)
-was-read none e = absurd (true≢false (sym e))
-was-read (some q) e = refl
 
 module _ (i : TurnInput) (serve : Served i) where
   pub given-form : PlanForm (givenPlan i)
