@@ -22,15 +22,15 @@ use Rattle.plans.specs.Endings.{Ending, rows, top, group, mostRowVariabl
 use Rattle.plans.specs.Plans.{Plan, mostBranches, mostPlanWords, branchCount, withEnding, readPlan, hasForm, planOr, branchAt}
 
 -- ---- what was read where a reader's answer is there
-cond-some {ℓ} : {A : Type ℓ} (b : Bool) (x : Option A) (a : A) → cond b x none ≡ some a → (b ≡ true) × (x ≡ some a)
+pub cond-some {ℓ} : {A : Type ℓ} (b : Bool) (x : Option A) (a : A) → cond b x none ≡ some a → (b ≡ true) × (x ≡ some a)
 cond-some true x a e = (refl, e)
 cond-some false x a e = absurd (none-some e)
 
-cond-none {ℓ} : {A : Type ℓ} (b : Bool) (x : Option A) (a : A) → cond b none x ≡ some a → (b ≡ false) × (x ≡ some a)
+pub cond-none {ℓ} : {A : Type ℓ} (b : Bool) (x : Option A) (a : A) → cond b none x ≡ some a → (b ≡ false) × (x ≡ some a)
 cond-none true x a e = absurd (none-some e)
 cond-none false x a e = (refl, e)
 
-next-some {ℓ κ} : {A : Type ℓ} {B : Type κ} (x : Option A) (f : A → Option B) (b : B) → next x f ≡ some b
+pub next-some {ℓ κ} : {A : Type ℓ} {B : Type κ} (x : Option A) (f : A → Option B) (b : B) → next x f ≡ some b
     → (a : A) × (x ≡ some a) × (f a ≡ some b)
 next-some none f b e = absurd (none-some e)
 next-some (some a) f b e = (a, refl, e)
