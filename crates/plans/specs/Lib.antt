@@ -2,4 +2,5 @@ pub mod Conditions
 pub mod Branches
 pub mod Endings
 pub mod Plans
+pub mod Reading
 pub mod Computing

@@ -1,7 +1,42 @@
 // Plans: the test of their form (5), the test of their variables (6), and what stands in them.
+mod bindings;
+mod branches;
+mod conditions;
+mod endings;
+mod searches;
+
+pub use branches::condition_part;
+pub use branches::terms;
+pub use endings::best_count;
+pub use endings::ending_kind;
+pub use endings::keys;
+pub use endings::measured;
+pub use endings::variables;
 use words::PlanWord;
 ghost use mathlib.Core.Path.{_≡_};
+ghost use mathlib.Core.Bool.{true};
+ghost use Prim.Native.Nat.{_≤_, _<_};
+ghost use lib.ListN.{getD, length, drop};
+ghost use Rattle.words.specs.Tests.{firstFailing, numberOf};
 ghost use Rattle.plans.specs.Conditions.{nodeOf};
+ghost use Rattle.plans.specs.Branches.{readBranch};
+ghost use Rattle.plans.specs.Endings.{endingForm, endingAt};
+ghost use Rattle.plans.specs.Plans.{branchCount, mostBranches, readPlan, hasForm, planOf, planTests, branchAt};
+ghost use Rattle.plans.specs.Reading.{Gives, branchStart};
+
+pub const MOST_WORDS: usize = 256;
+
+// A condition's depth, a lone node being 1 deep, and its nodes.
+pub const MOST_DEPTH: u32 = 8;
+
+pub const MOST_NODES: usize = 31;
+
+pub const MOST_BRANCHES: u32 = 4;
+
+// The tests of a plan, by their numbers.
+pub const FORM: u32 = 5;
+
+pub const VARIABLES: u32 = 6;
 
 // What a word of a condition begins.
 pub enum Node {
@@ -12,12 +47,35 @@ pub enum Node {
     Wrong,
 }
 
+// A condition that was read: its words, its nodes, and whether its variables are bound; or no condition.
+pub enum Tree {
+    Reads {
+        words: usize,
+        nodes: usize,
+        bound: bool,
+    },
+    Bad,
+}
+
+// A part of a plan that was read: its words, and whether its variables are right; or no such part.
+pub enum Part {
+    Ends { words: usize, right: bool },
+    Broken,
+}
+
 // What the first word of an ending begins.
 pub enum Last {
     Rows,
     Top,
     Group,
     Neither,
+}
+
+// What each word of a part must be.
+pub enum Wanted {
+    Variable,
+    Key,
+    RightTerm,
 }
 
 // The node that a word begins.
@@ -43,4 +101,62 @@ pub fn node_of(word: u32) -> Node
         PlanWord::NOT => Node::Negated,
         _ => Node::Wrong,
     }
+}
+
+// The branches that a plan's head names, or 0 where it has none.
+pub fn branch_count(plan: &[u32]) -> u32
+    ensures { λ r. ⌜ (r ≡ branchCount (getD (now (plan .entry)) 0 0)) × (r ≤ mostBranches) ⌝ }
+{
+    searches::count_in(plan, PlanWord::HEAD, MOST_BRANCHES)
+}
+
+// 0, or the number of the first test that a plan fails: 5 over the whole plan, and then 6.
+pub fn check(plan: &[u32]) -> u32
+    ensures { λ r. ⌜ r ≡ numberOf (firstFailing (planTests (now (plan .entry)))) ⌝ }
+{
+    if plan.len() > MOST_WORDS {
+        return FORM;
+    }
+    let count = branch_count(plan);
+    if count == 0 {
+        return FORM;
+    }
+    let body = &plan[1..];
+    match branches::branches(body, count) {
+        Part::Broken => FORM,
+        Part::Ends { words, right } => {
+            let e = &body[words..];
+            if endings::ending_form(e) {
+                if right {
+                    if bindings::ending_right(body, count, e) {
+                        return 0;
+                    }
+                }
+                return VARIABLES;
+            }
+            FORM
+        }
+    }
+}
+
+// The part of a plan from its branch with a number (from 0) on.
+pub fn branch_part(plan: &[u32], number: u32) -> &[u32]
+    requires { ⌜ (hasForm (readPlan (now plan)) ≡ true) × (number < length (planOf (now plan) .branches)) ⌝ }
+    ensures start { λ r. ⌜ now r ≡ drop (branchStart number (now (plan .entry))) (now (plan .entry)) ⌝ }
+    ensures branch { λ r. ⌜ Gives (readBranch (now r)) (branchAt (planOf (now (plan .entry))) number) ⌝ }
+{
+    let body = &plan[1..];
+    let at = branches::branches_words(body, number);
+    &body[at..]
+}
+
+// The part of a plan from its ending on.
+pub fn ending_part(plan: &[u32]) -> &[u32]
+    requires { ⌜ hasForm (readPlan (now plan)) ≡ true ⌝ }
+    ensures form { λ r. ⌜ endingForm (now r) ≡ true ⌝ }
+    ensures ending { λ r. ⌜ endingAt (now r) ≡ planOf (now (plan .entry)) .ending ⌝ }
+{
+    let body = &plan[1..];
+    let at = branches::branches_words(body, branch_count(plan));
+    &body[at..]
 }

@@ -1,14 +1,14 @@
 -- Tables are accepted by tests 1 to 4 exactly when they are right.
-use Prim.Native.Nat.{ℕ, suc, _-_, _*_, _/_, _%_, _≤_, _<_}
+use Prim.Native.Nat.{ℕ, suc, _-_, _%_, _<_}
 use native.Mathlib.Omega.{arith}
-use mathlib.Core.Path.{_≡_, refl, sym, _∙_}
-use mathlib.Core.Bool.{Bool, true, _&&_}
+use mathlib.Core.Path.{_≡_}
+use mathlib.Core.Bool.{Bool, true}
 use mathlib.Core.Option.{none}
 use mathlib.Core.List.{List}
-use lib.Dec.{ltb, leb, eqb}
+use lib.Dec.{ltb, eqb}
 use lib.ListN.{length, getD}
 use borrow.Author.Tests.{ltb-true, leb-true, eqb-true, lt-ltb, le-leb, eq-eqb}
-use Rattle.words.specs.Sequences.{lexBefore, allBelow, all}
+use Rattle.words.specs.Sequences.{lexBefore, allBelow}
 use Rattle.words.specs.Tests.{firstFailing}
 use Rattle.words.proofs.Booleans.{and-left, and-right, and-both}
 use Rattle.words.proofs.Testing.{passes-all, all-passes}

@@ -17,7 +17,7 @@ pub record Injection (f : ℕ → ℕ) (m n : ℕ) : Type 0 where
 abbrev at-argument : (ℕ → ℕ) → ℕ → ℕ → ℕ → ℕ
 at-argument f n r i = cond (eqb i n) r (f i)
 
-abbrev at-value : (ℕ → ℕ) → ℕ → ℕ → ℕ → ℕ
+abbrev pub at-value : (ℕ → ℕ) → ℕ → ℕ → ℕ → ℕ
 at-value f n r i = cond (eqb (f i) n) r (f i)
 
 -- without the argument m and the value n, whose place the value at m takes
@@ -48,7 +48,7 @@ module _ (f : ℕ → ℕ) (m n : ℕ) (h : Injection f (suc m) (suc n)) where
       go false p true q = absurd (last-apart i l (sym (rw (p, q) at e)))
       go false p false q = h .once i j (omega arith) (omega arith) (rw (p, q) at e)
 
-  fewer : Injection (at-value f n (f m)) m n
+  pub fewer : Injection (at-value f n (f m)) m n
   fewer = record { into = fewer-into; once = fewer-once }
 
 pub pigeonhole : (f : ℕ → ℕ) (m n : ℕ) → Injection f m n → m ≤ n

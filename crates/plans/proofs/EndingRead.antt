@@ -1,0 +1,58 @@
+-- What stands where in the words of an ending that has the form.
+use Prim.Native.Nat.{ℕ, _+_, _-_}
+use native.Mathlib.Omega.{arith}
+use mathlib.Core.Path.{_≡_, refl, sym, _∙_, ap}
+use mathlib.Core.Bool.{true, false}
+use mathlib.Core.List.{List, []}
+use lib.ListN.{length, getD, take, drop}
+use Rattle.words.specs.Words.{low}
+use Rattle.words.proofs.Booleans.{absurd-true}
+use Rattle.words.proofs.Walking.{rest-of}
+use Rattle.plans.specs.declared.Last.{Last}
+use Rattle.plans.specs.declared.Last.the-variants.{Rows, Top, Group, Neither}
+use Rattle.plans.specs.Endings.{Ending, rows, top, group, bestCount, rowVariables, afterRows, lastOf, formAs, endingForm, endingAs, endingAt}
+use Rattle.plans.specs.Reading.{lastIn, variablesIn, keysIn, bestIn, measuredIn}
+
+module _ (ws : List ℕ) (t : Last) (et : t ≡ lastOf (getD ws 0 0)) where
+  pub ending-rows : t ≡ Rows → endingAt ws ≡ rows (rowVariables ws)
+  unfolding endingAs
+  ending-rows e = rw (← et, e)
+
+  -- the kind 8 part and the keys as they are lent
+  pub ending-top : t ≡ Top
+      → endingAt ws
+      ≡ top (bestCount (low (getD ws 0 0))) (rowVariables (take (length ws - 1) (drop 1 ws))) (afterRows (take (length ws - 1) (drop 1 ws)))
+  unfolding endingAs
+  ending-top e = rw (← et, e, rest-of)
+
+  pub ending-group : t ≡ Group → (n : ℕ) → n ≡ low (getD ws 0 0)
+      → endingAt ws ≡ group (take (1 + n - 1) (drop 1 ws)) (getD ws (1 + n) 0)
+  unfolding endingAs
+  ending-group e n en = let h : 1 + n - 1 ≡ n = omega arith in rw (← et, e, h, en)
+
+-- ---- the kind of an ending
+last-as : (t : Last) (ws : List ℕ) → formAs t ws ≡ true → lastIn (endingAs t ws) ≡ t
+unfolding formAs endingAs
+last-as Rows ws h = refl
+last-as Top ws h = refl
+last-as Group ws h = refl
+last-as Neither ws h = absurd-true h refl
+
+pub last-in : (ws : List ℕ) → endingForm ws ≡ true → lastIn (endingAt ws) ≡ lastOf (getD ws 0 0)
+last-in ws h = last-as (lastOf (getD ws 0 0)) ws h
+
+-- an ending is made of its pieces
+pub is-rows : (e : Ending) → lastIn e ≡ Rows → e ≡ rows (variablesIn e)
+is-rows (rows vs) h = refl
+is-rows (top k vs keys) h = cc
+is-rows (group vs m) h = cc
+
+pub is-top : (e : Ending) → lastIn e ≡ Top → e ≡ top (bestIn e) (variablesIn e) (keysIn e)
+is-top (rows vs) h = cc
+is-top (top k vs keys) h = refl
+is-top (group vs m) h = cc
+
+pub is-group : (e : Ending) → lastIn e ≡ Group → e ≡ group (variablesIn e) (measuredIn e)
+is-group (rows vs) h = cc
+is-group (top k vs keys) h = cc
+is-group (group vs m) h = refl

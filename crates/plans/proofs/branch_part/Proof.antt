@@ -1,0 +1,51 @@
+-- `branch_part` meets its contract: the branch with a number starts behind those before it.
+use native.Mathlib.Omega.{arith}
+use Rattle.plans.specs.Branches.{readBranch}
+use Rattle.plans.specs.Plans.{planOf, branchAt}
+use Rattle.plans.specs.Reading.{Gives}
+use Rattle.plans.proofs.PlanRead.{plan-in, plan-words, body-read, part-room, part-from}
+use Rattle.plans.proofs.branch_part.Statement.{statement}
+use Rattle.plans.proofs.branch_part.Tie as tie
+
+sub-body : tie.Need-sub-body
+sub-body c = omega (arith, plan-words (c .before .args .plan .now) (c .before .pre .0))
+
+part-body-start : tie.Need-part-body-start
+part-body-start c = omega (arith, plan-words (c .before .args .plan .now) (c .before .pre .0))
+
+part-body-end : tie.Need-part-body-end
+part-body-end c = omega arith
+
+branches-words-requires : tie.Need-branches-words-requires
+branches-words-requires c κs = body-read (c .before .before .args .plan .now) (c .before .before .pre .0) (c .before .before .args .number) (omega arith)
+
+mul-result : tie.Need-mul-result
+mul-result c = let b = c .branches-words in omega (arith, part-room (c .before .before .before .args .plan .now) (c .before .before .before .pre .0) (c .before .before .before .args .number) (omega arith) (b .result) (b .ensures))
+
+sub-result : tie.Need-sub-result
+sub-result c = let b = c .branches-words in omega (arith, part-room (c .before .before .before .args .plan .now) (c .before .before .before .pre .0) (c .before .before .before .args .number) (omega arith) (b .result) (b .ensures))
+
+part-result-start : tie.Need-part-result-start
+part-result-start c = let b = c .branches-words in omega (arith, part-room (c .before .before .before .args .plan .now) (c .before .before .before .pre .0) (c .before .before .before .args .number) (omega arith) (b .result) (b .ensures))
+
+part-result-end : tie.Need-part-result-end
+part-result-end c = omega arith
+
+returns : tie.Need-returns
+returns c = let b = c .before .branches-words in let p = c .before .before .before .before .args .plan .now in
+    let e = part-from p (c .before .before .before .before .pre .0) (c .before .before .before .before .args .number) (omega arith) (b .result) (b .ensures) in
+    (e, rw e (plan-in p (c .before .before .before .before .pre .0) .branch (c .before .before .before .before .args .number) (omega arith)))
+
+pub branch-part-spec : {M : Type 1} → statement M
+branch-part-spec =
+    tie.close
+    (tie.spec
+    sub-body
+    part-body-start
+    part-body-end
+    branches-words-requires
+    mul-result
+    sub-result
+    part-result-start
+    part-result-end
+    returns)

@@ -1,0 +1,39 @@
+-- `terms` meets its contract: the terms stand between the first word and the condition.
+use borrow.Author.Needs.{needs}
+use native.Mathlib.Omega.{arith}
+use Rattle.plans.proofs.BranchRead.{branch-room, terms-in}
+use Rattle.plans.proofs.branches.terms.Statement.{statement}
+use Rattle.plans.proofs.branches.terms.Tie as tie
+
+pattern-count-requires : tie.Need-pattern-count-requires
+pattern-count-requires c κs = search needs
+
+mul-end : tie.Need-mul-end
+mul-end c = omega arith
+
+add-end : tie.Need-add-end
+add-end c = omega arith
+
+sub-result : tie.Need-sub-result
+sub-result c = omega arith
+
+part-result-start : tie.Need-part-result-start
+part-result-start c = omega arith
+
+part-result-end : tie.Need-part-result-end
+part-result-end c = let n = c .pattern-count in omega (arith, branch-room (c .before .before .args .p .now) (c .before .before .pre) (n .result) (n .ensures .0))
+
+returns : tie.Need-returns
+returns c = let n = c .before .pattern-count in terms-in (c .before .before .before .args .p .now) (c .before .before .before .pre) (n .result) (n .ensures .0)
+
+pub terms-spec : {M : Type 1} → statement M
+terms-spec =
+    tie.close
+    (tie.spec
+    pattern-count-requires
+    mul-end
+    add-end
+    sub-result
+    part-result-start
+    part-result-end
+    returns)

@@ -1,0 +1,61 @@
+-- `ending_part` meets its contract: the ending starts behind the last branch.
+use borrow.Author.Needs.{needs}
+use mathlib.Core.Path.{_∙_}
+use native.Mathlib.Omega.{arith}
+use Rattle.plans.specs.Endings.{endingForm, endingAt}
+use Rattle.plans.specs.Plans.{planOf}
+use Rattle.plans.proofs.PlanRead.{plan-in, plan-words, body-read, part-room, part-from}
+use Rattle.plans.proofs.ending_part.Statement.{statement}
+use Rattle.plans.proofs.ending_part.Tie as tie
+
+sub-body : tie.Need-sub-body
+sub-body c = omega (arith, plan-words (c .before .args .plan .now) (c .before .pre))
+
+part-body-start : tie.Need-part-body-start
+part-body-start c = omega (arith, plan-words (c .before .args .plan .now) (c .before .pre))
+
+part-body-end : tie.Need-part-body-end
+part-body-end c = omega arith
+
+branch-count-requires : tie.Need-branch-count-requires
+branch-count-requires c κs = search needs
+
+branches-words-requires : tie.Need-branches-words-requires
+branches-words-requires c κs = let n = c .branch-count in body-read (c .before .before .before .args .plan .now) (c .before .before .before .pre) (n .result) (omega (arith, n .ensures .0, plan-in (c .before .before .before .args .plan .now) (c .before .before .before .pre) .head))
+
+mul-result : tie.Need-mul-result
+mul-result c = let b = c .branches-words in let n = c .before .branch-count in
+    omega (arith, part-room (c .before .before .before .before .args .plan .now) (c .before .before .before .before .pre) (n .result) (omega (arith, n .ensures .0, plan-in (c .before .before .before .before .args .plan .now) (c .before .before .before .before .pre) .head)) (b .result) (b .ensures))
+
+sub-result : tie.Need-sub-result
+sub-result c = let b = c .branches-words in let n = c .before .branch-count in
+    omega (arith, part-room (c .before .before .before .before .args .plan .now) (c .before .before .before .before .pre) (n .result) (omega (arith, n .ensures .0, plan-in (c .before .before .before .before .args .plan .now) (c .before .before .before .before .pre) .head)) (b .result) (b .ensures))
+
+part-result-start : tie.Need-part-result-start
+part-result-start c = let b = c .branches-words in let n = c .before .branch-count in
+    omega (arith, part-room (c .before .before .before .before .args .plan .now) (c .before .before .before .before .pre) (n .result) (omega (arith, n .ensures .0, plan-in (c .before .before .before .before .args .plan .now) (c .before .before .before .before .pre) .head)) (b .result) (b .ensures))
+
+part-result-end : tie.Need-part-result-end
+part-result-end c = omega arith
+
+returns : tie.Need-returns
+returns c = let b = c .before .branches-words in let n = c .before .before .branch-count in let p = c .before .before .before .before .before .args .plan .now in
+    let q = plan-in p (c .before .before .before .before .before .pre) in
+    let l = n .ensures .0 ∙ q .head in
+    let e = part-from p (c .before .before .before .before .before .pre) (n .result) (omega arith) (b .result) (b .ensures) in
+    (rw (e, l) (q .form), rw (e, l) (q .ending))
+
+pub ending-part-spec : {M : Type 1} → statement M
+ending-part-spec =
+    tie.close
+    (tie.spec
+    sub-body
+    part-body-start
+    part-body-end
+    branch-count-requires
+    branches-words-requires
+    mul-result
+    sub-result
+    part-result-start
+    part-result-end
+    returns)

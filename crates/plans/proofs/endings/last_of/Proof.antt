@@ -1,0 +1,41 @@
+-- `last_of` meets its contract: each kind of an ending, and no other.
+use borrow.Author.Needs.{needs}
+use borrow.Author.Tests.{ne-eqb, le-leb, lt-leb}
+use Rattle.plans.specs.Endings.{lastOf}
+use Rattle.plans.proofs.endings.last_of.Statement.{statement}
+use Rattle.plans.proofs.endings.last_of.Tie as tie
+
+kind-requires : tie.Need-kind-requires
+kind-requires c κs = search needs
+
+low-requires : tie.Need-low-requires
+low-requires c κs = search needs
+
+returns : tie.Need-returns
+unfolding lastOf
+returns c = rw (← c .before .before .before .kind .ensures, ← c .before .before .low .ensures, c .before .match .keys2, le-leb _ _ (c .if1 .taken))
+
+returns-2 : tie.Need-returns-2
+unfolding lastOf
+returns-2 c = rw (← c .before .before .before .kind .ensures, ← c .before .before .low .ensures, c .before .match .keys3, le-leb _ _ (c .if2 .taken))
+
+returns-3 : tie.Need-returns-3
+unfolding lastOf
+returns-3 c = rw (← c .before .before .kind .ensures, ← c .before .low .ensures, c .match .keys1)
+
+returns-4 : tie.Need-returns-4
+unfolding lastOf
+returns-4 c = rw (← c .before .before .before .kind .ensures, ← c .before .before .low .ensures, c .before .match .keys2, lt-leb _ _ (c .if1 .left))
+
+returns-5 : tie.Need-returns-5
+unfolding lastOf
+returns-5 c = rw (← c .before .before .before .kind .ensures, ← c .before .before .low .ensures, c .before .match .keys3, lt-leb _ _ (c .if2 .left))
+
+returns-6 : tie.Need-returns-6
+unfolding lastOf
+returns-6 c = let r = c .match .rest in rw (← c .before .before .kind .ensures, ← c .before .low .ensures, ne-eqb _ _ (r .0 .0 .1), ne-eqb _ _ (r .0 .1), ne-eqb _ _ (r .1))
+
+pub last-of-spec : {M : Type 1} → statement M
+last-of-spec =
+    tie.close
+    (tie.spec kind-requires low-requires returns returns-2 returns-3 returns-4 returns-5 returns-6)

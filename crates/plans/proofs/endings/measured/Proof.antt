@@ -1,0 +1,47 @@
+-- `measured` meets its contract: the measured variable stands behind the group variables.
+use borrow.Author.Needs.{needs}
+use mathlib.Core.Path.{refl, sym, ap, _∙_}
+use native.Mathlib.Omega.{arith}
+use lib.ListN.{getD}
+use Rattle.words.specs.Words.{low}
+use Rattle.plans.specs.Endings.{lastOf}
+use Rattle.plans.specs.Reading.{measuredIn}
+use Rattle.plans.proofs.EndingForms.{group-room}
+use Rattle.plans.proofs.EndingRead.{last-in, ending-group}
+use Rattle.plans.proofs.endings.measured.Statement.{statement}
+use Rattle.plans.proofs.endings.measured.Tie as tie
+
+first-requires : tie.Need-first-requires
+first-requires c κs = search needs
+
+low-requires : tie.Need-low-requires
+low-requires c κs = search needs
+
+wide-requires : tie.Need-wide-requires
+wide-requires c κs = search needs
+
+add-at : tie.Need-add-at
+add-at c = omega arith
+
+mul-result : tie.Need-mul-result
+mul-result c = omega arith
+
+shared-slice-read-result : tie.Need-shared-slice-read-result
+shared-slice-read-result c = let e = c .before .before .before .before .before .args .e .now in let w = c .before .wide in
+    omega (arith, group-room e (lastOf (getD e 0 0)) refl (c .before .before .before .before .before .pre .0) (sym (last-in e (c .before .before .before .before .before .pre .0)) ∙ c .before .before .before .before .before .pre .1) (w .result) (w .ensures ∙ c .before .before .low .ensures ∙ ap low (c .before .before .before .first .ensures)))
+
+returns : tie.Need-returns
+returns c = let e = c .before .before .before .before .before .args .e .now in let w = c .before .wide in
+    sym (ap measuredIn (ending-group e (lastOf (getD e 0 0)) refl (sym (last-in e (c .before .before .before .before .before .pre .0)) ∙ c .before .before .before .before .before .pre .1) (w .result) (w .ensures ∙ c .before .before .low .ensures ∙ ap low (c .before .before .before .first .ensures))))
+
+pub measured-spec : {M : Type 1} → statement M
+measured-spec =
+    tie.close
+    (tie.spec
+    first-requires
+    low-requires
+    wide-requires
+    add-at
+    mul-result
+    shared-slice-read-result
+    returns)

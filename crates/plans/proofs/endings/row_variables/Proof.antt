@@ -1,0 +1,29 @@
+-- `row_variables` meets its contract: the variables stand behind the first word.
+use borrow.Author.Needs.{needs}
+use native.Mathlib.Omega.{arith}
+use Rattle.plans.proofs.EndingForms.{rows-room, rows-variables}
+use Rattle.plans.proofs.endings.row_variables.Statement.{statement}
+use Rattle.plans.proofs.endings.row_variables.Tie as tie
+
+row-width-requires : tie.Need-row-width-requires
+row-width-requires c κs = search needs
+
+add-end : tie.Need-add-end
+add-end c = omega arith
+
+sub-result : tie.Need-sub-result
+sub-result c = omega arith
+
+part-result-start : tie.Need-part-result-start
+part-result-start c = omega arith
+
+part-result-end : tie.Need-part-result-end
+part-result-end c = let n = c .row-width in omega (arith, rows-room (c .before .before .args .p .now) (n .result) (n .ensures .0) (c .before .before .pre))
+
+returns : tie.Need-returns
+returns c = let n = c .before .row-width in rows-variables (c .before .before .before .args .p .now) (n .result) (n .ensures .0)
+
+pub row-variables-spec : {M : Type 1} → statement M
+row-variables-spec =
+    tie.close
+    (tie.spec row-width-requires add-end sub-result part-result-start part-result-end returns)

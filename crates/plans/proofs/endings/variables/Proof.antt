@@ -1,0 +1,108 @@
+-- `variables` meets its contract: where they stand, by the kind of the ending.
+use borrow.Author.Needs.{needs}
+use mathlib.Core.Path.{sym, ap, _∙_}
+use native.Mathlib.Omega.{arith}
+use Rattle.words.specs.Words.{low}
+use Rattle.plans.specs.Endings.{lastOf}
+use Rattle.plans.specs.Reading.{variablesIn}
+use Rattle.plans.proofs.EndingForms.{rows-here, rows-next, group-room, not-neither, some-word}
+use Rattle.plans.proofs.EndingRead.{ending-rows, ending-top, ending-group}
+use Rattle.plans.proofs.endings.variables.Statement.{statement}
+use Rattle.plans.proofs.endings.variables.Tie as tie
+
+first-requires : tie.Need-first-requires
+first-requires c κs = search needs
+
+last-of-requires : tie.Need-last-of-requires
+last-of-requires c κs = search needs
+
+enum-told : tie.Need-enum-told
+enum-told c = search needs
+
+row-variables-requires : tie.Need-row-variables-requires
+row-variables-requires c κs = let e = c .before .before .before .before .before .args .e .now in let t = c .before .before .last-of in rows-here e (t .result) (c .before .before .last-of .ensures ∙ ap lastOf (c .before .before .before .first .ensures)) (c .before .before .before .before .before .pre) (c .enum-told .given .1)
+
+enum-told-2 : tie.Need-enum-told-2
+enum-told-2 c = search needs
+
+sub-row-variables : tie.Need-sub-row-variables
+sub-row-variables c = let e = c .before .before .before .before .before .args .e .now in let t = c .before .before .last-of in
+    omega (arith, some-word e (t .result) (c .before .before .last-of .ensures ∙ ap lastOf (c .before .before .before .first .ensures)) (not-neither e (t .result) (c .before .before .last-of .ensures ∙ ap lastOf (c .before .before .before .first .ensures)) (c .before .before .before .before .before .pre)))
+
+part-row-variables-start : tie.Need-part-row-variables-start
+part-row-variables-start c = let e = c .before .before .before .before .before .args .e .now in let t = c .before .before .last-of in
+    omega (arith, some-word e (t .result) (c .before .before .last-of .ensures ∙ ap lastOf (c .before .before .before .first .ensures)) (not-neither e (t .result) (c .before .before .last-of .ensures ∙ ap lastOf (c .before .before .before .first .ensures)) (c .before .before .before .before .before .pre)))
+
+part-row-variables-end : tie.Need-part-row-variables-end
+part-row-variables-end c = omega arith
+
+row-variables-requires-2 : tie.Need-row-variables-requires-2
+row-variables-requires-2 c κs = let e = c .before .before .before .before .before .before .args .e .now in let t = c .before .before .before .last-of in rows-next e (t .result) (c .before .before .before .last-of .ensures ∙ ap lastOf (c .before .before .before .before .first .ensures)) (c .before .before .before .before .before .before .pre) (c .before .enum-told2 .given .1)
+
+enum-told-3 : tie.Need-enum-told-3
+enum-told-3 c = search needs
+
+first-requires-2 : tie.Need-first-requires-2
+first-requires-2 c κs = search needs
+
+low-requires : tie.Need-low-requires
+low-requires c κs = search needs
+
+wide-requires : tie.Need-wide-requires
+wide-requires c κs = search needs
+
+add-end : tie.Need-add-end
+add-end c = omega arith
+
+sub-result : tie.Need-sub-result
+sub-result c = omega arith
+
+part-result-start : tie.Need-part-result-start
+part-result-start c = omega arith
+
+part-result-end : tie.Need-part-result-end
+part-result-end c = let e = c .before .before .before .before .before .before .before .before .args .e .now in let t = c .before .before .before .before .before .last-of in let w = c .wide in
+    omega (arith, group-room e (t .result) (c .before .before .before .before .before .last-of .ensures ∙ ap lastOf (c .before .before .before .before .before .before .first .ensures)) (c .before .before .before .before .before .before .before .before .pre) (c .before .before .before .enum-told3 .given .1) (w .result) (w .ensures ∙ c .before .low .ensures ∙ ap low (c .before .before .first2 .ensures)))
+
+enum-told-4 : tie.Need-enum-told-4
+enum-told-4 c = search needs
+
+returns : tie.Need-returns
+returns c = let e = c .before .before .before .before .before .before .args .e .now in let t = c .before .before .before .last-of in c .row-variables .ensures ∙ sym (ap variablesIn (ending-rows e (t .result) (c .before .before .before .last-of .ensures ∙ ap lastOf (c .before .before .before .before .first .ensures)) (c .before .enum-told .given .1)))
+
+returns-2 : tie.Need-returns-2
+returns-2 c = let e = c .before .before .before .before .before .before .before .args .e .now in let t = c .before .before .before .before .last-of in c .row-variables2 .ensures ∙ sym (ap variablesIn (ending-top e (t .result) (c .before .before .before .before .last-of .ensures ∙ ap lastOf (c .before .before .before .before .before .first .ensures)) (c .before .before .enum-told2 .given .1)))
+
+returns-3 : tie.Need-returns-3
+returns-3 c = let e = c .before .before .before .before .before .before .before .before .before .args .e .now in let t = c .before .before .before .before .before .before .last-of in let w = c .before .wide in
+    sym (ap variablesIn (ending-group e (t .result) (c .before .before .before .before .before .before .last-of .ensures ∙ ap lastOf (c .before .before .before .before .before .before .before .first .ensures)) (c .before .before .before .before .enum-told3 .given .1) (w .result) (w .ensures ∙ c .before .before .low .ensures ∙ ap low (c .before .before .before .first2 .ensures))))
+
+returns-4 : tie.Need-returns-4
+returns-4 c = let e = c .before .before .before .before .before .args .e .now in let t = c .before .before .last-of in absurd (not-neither e (t .result) (c .before .before .last-of .ensures ∙ ap lastOf (c .before .before .before .first .ensures)) (c .before .before .before .before .before .pre) (c .enum-told4 .given .1))
+
+pub variables-spec : {M : Type 1} → statement M
+variables-spec =
+    tie.close
+    (tie.spec
+    first-requires
+    last-of-requires
+    enum-told
+    row-variables-requires
+    enum-told-2
+    sub-row-variables
+    part-row-variables-start
+    part-row-variables-end
+    row-variables-requires-2
+    enum-told-3
+    first-requires-2
+    low-requires
+    wide-requires
+    add-end
+    sub-result
+    part-result-start
+    part-result-end
+    enum-told-4
+    returns
+    returns-2
+    returns-3
+    returns-4)

@@ -1,0 +1,100 @@
+// The variables of an ending, in test 6: bound by some branch, none repeated, a key's among the rows'.
+use crate::Last;
+use crate::branches::branch_words;
+use crate::branches::terms;
+use crate::endings::ending_kind;
+use crate::endings::keys;
+use crate::endings::measured;
+use crate::endings::variables;
+use crate::searches::all_differ;
+use crate::searches::among;
+use words::PlanWord;
+use words::Term;
+ghost use mathlib.Core.Path.{_≡_};
+ghost use mathlib.Core.Bool.{true, _&&_};
+ghost use Rattle.words.specs.Sequences.{all, distinct};
+ghost use Rattle.plans.specs.Branches.{readBranches, binds};
+ghost use Rattle.plans.specs.Endings.{keyAmong, endingForm, endingAt, endingRight};
+ghost use Rattle.plans.specs.Reading.{isRead, branchesIn};
+
+// Whether one of the first branches, so many, that p starts with has a word among its patterns' terms.
+pub fn some_binds(p: &[u32], count: u32, word: u32) -> bool
+    requires { ⌜ isRead (readBranches count (now p)) ≡ true ⌝ }
+    ensures { λ r. ⌜ r ≡ binds (branchesIn count (now (p .entry))) word ⌝ }
+{
+    let mut at: usize = 0;
+    let mut left = count;
+    while left > 0 {
+        let rest = &p[at..];
+        if among(word, terms(rest)) {
+            return true;
+        }
+        at += branch_words(rest);
+        left -= 1;
+    }
+    false
+}
+
+// Whether one of those branches binds each of some variables.
+pub fn all_bound(p: &[u32], count: u32, list: &[u32]) -> bool
+    requires { ⌜ isRead (readBranches count (now p)) ≡ true ⌝ }
+    ensures { λ r. ⌜ r ≡ all (binds (branchesIn count (now (p .entry)))) (now (list .entry)) ⌝ }
+{
+    let mut i: usize = 0;
+    while i < list.len() {
+        if !some_binds(p, count, list[i]) {
+            return false;
+        }
+        i += 1;
+    }
+    true
+}
+
+fn is_key_among(key: u32, list: &[u32]) -> bool
+    ensures { λ r. ⌜ r ≡ keyAmong (now (list .entry)) key ⌝ }
+{
+    let t = Term::variable(PlanWord(key).low());
+    among(t.0, list)
+}
+
+// Whether the variable of each key is among some variables.
+pub fn keys_among(keys: &[u32], list: &[u32]) -> bool
+    ensures { λ r. ⌜ r ≡ all (keyAmong (now (list .entry))) (now (keys .entry)) ⌝ }
+{
+    let mut i: usize = 0;
+    while i < keys.len() {
+        if !is_key_among(keys[i], list) {
+            return false;
+        }
+        i += 1;
+    }
+    true
+}
+
+// Whether some variables are bound and differ.
+fn variables_right(p: &[u32], count: u32, list: &[u32]) -> bool
+    requires { ⌜ isRead (readBranches count (now p)) ≡ true ⌝ }
+    ensures { λ r. ⌜ r ≡ (all (binds (branchesIn count (now (p .entry)))) (now (list .entry)) && distinct (now (list .entry))) ⌝ }
+{
+    if all_bound(p, count, list) {
+        return all_differ(list);
+    }
+    false
+}
+
+// Whether the variables of the ending e are right, after the first branches, so many, that p starts with.
+pub fn ending_right(p: &[u32], count: u32, e: &[u32]) -> bool
+    requires { ⌜ (isRead (readBranches count (now p)) ≡ true) × (endingForm (now e) ≡ true) ⌝ }
+    ensures { λ r. ⌜ r ≡ endingRight (binds (branchesIn count (now (p .entry)))) (endingAt (now (e .entry))) ⌝ }
+{
+    let vars = variables(e);
+    if variables_right(p, count, vars) {
+        return match ending_kind(e) {
+            Last::Rows => true,
+            Last::Top => keys_among(keys(e), vars),
+            Last::Group => some_binds(p, count, measured(e)),
+            Last::Neither => true,
+        };
+    }
+    false
+}
