@@ -79,7 +79,7 @@ fn compare(operator: u32, a: u32, b: u32) -> Truth
 }
 
 // The value of a term: a variable's binding, and a constant itself.
-fn operand(word: u32, bound: &[u32; 16]) -> u32
+pub fn operand(word: u32, bound: &[u32; 16]) -> u32
     ensures { λ r. ⌜ r ≡ valueOf (now (bound .entry)) word ⌝ }
 {
     let term = Term(word);

@@ -3,6 +3,7 @@ mod comparisons;
 mod truths;
 
 use comparisons::compared;
+pub use comparisons::operand;
 use plans::Node;
 use truths::is_true;
 use truths::join;

@@ -1,6 +1,6 @@
 -- A property of each element: what follows from it, of a list made from another, of a permuted list, and of a member.
-use mathlib.Core.Path.{sym, subst}
-use mathlib.Core.List.{List, [], _∷_, map, List·Memᴰ, List·Memᴰ·head, List·Memᴰ·tail, List·Permᴰ, List·Permᴰ·nil, List·Permᴰ·cons, List·Permᴰ·swap, List·Permᴰ·trans}
+use mathlib.Core.Path.{_≡_, sym, subst}
+use mathlib.Core.List.{List, [], _∷_, _++_, map, List·Memᴰ, List·Memᴰ·head, List·Memᴰ·tail, List·Permᴰ, List·Permᴰ·nil, List·Permᴰ·cons, List·Permᴰ·swap, List·Permᴰ·trans}
 use Rattle.lists.proofs.Each.{Each}
 
 pub each-weaken : {A : Type 0} {P Q : A → Type 0} → ((x : A) → P x → Q x) → (xs : List A) → Each P xs → Each Q xs
@@ -26,6 +26,15 @@ module _ {A B : Type 0} (P : B → Type 0) (f : A → B) where
   each-unmapped (x ∷ xs) p = (p .0, each-unmapped xs (p .1))
 
 module _ {A : Type 0} (P : A → Type 0) where
+  -- of two lists joined
+  pub each-left : (xs ys : List A) → Each P (xs ++ ys) → Each P xs
+  each-left [] ys p = tt
+  each-left (x ∷ xs) ys p = (p .0, each-left xs ys (p .1))
+
+  pub each-right : (xs ys : List A) → Each P (xs ++ ys) → Each P ys
+  each-right [] ys p = p
+  each-right (x ∷ xs) ys p = each-right xs ys (p .1)
+
   pub each-member : {xs : List A} {a : A} → List·Memᴰ a xs → Each P xs → P a
   each-member (List·Memᴰ·head e) p = subst P (sym e) (p .0)
   each-member (List·Memᴰ·tail m) p = each-member m (p .1)

@@ -1,78 +1,94 @@
--- How large totals get: no more rows and numbers than were delivered, each number below the values of a term; so the
--- totals of a turn's list fit their 64 bits.
-use Prim.Native.Nat.{ℕ, suc, _*_, _≤_, _<_}
+-- How large the totals of groups get: added up over all groups they are those of the rows, so none is above so many times
+-- the most that one row adds.
+use Prim.Native.Nat.{ℕ, suc, _+_, _*_, _%_, _≤_, _<_}
 use native.Mathlib.Omega.{arith}
-use mathlib.Core.Path.{_≡_}
+use native.Mathlib.Nat.{suc-mul}
+use mathlib.Core.Path.{_≡_, refl, sym, _∙_, ap}
 use mathlib.Core.Bool.{Bool, true, false, cond}
-use mathlib.Core.List.{List, [], _∷_}
-use lib.ListN.{length, length-map}
+use mathlib.Core.List.{List, [], _∷_, map}
+use lib.ListN.{length}
 use borrow.Author.Tests.{lt-ltb}
-use Rattle.words.specs.Words.{termValues, isNumber}
+use Rattle.words.specs.Words.{isNumber, numberValue, termValues}
 use Rattle.words.specs.Bindings.{Bindings, valueOf}
-use Rattle.words.specs.Sequences.{all, keep}
-use Rattle.lists.specs.Rows.{project}
-use Rattle.lists.specs.Groups.{Group, groupsOf, wordValues}
-use Rattle.lists.specs.Gathering.{longValues, groupFits}
+use Rattle.words.specs.Sequences.{all}
+use Rattle.lists.specs.Groups.{Group, ofRow, together, keysBefore, addBy, addAllBy, addGroups, groupsOf}
+use Rattle.lists.specs.Gathering.{groupFits, longValues}
 use Rattle.lists.proofs.Each.{Each, each-all}
-use Rattle.lists.proofs.EachMore.{each-weaken}
-use Rattle.lists.proofs.Keys.{sameWords}
-use Rattle.lists.proofs.Totals.{numbersIn, sumOf, TotalsOf}
-use Rattle.lists.proofs.GroupRows.{KeyValues}
-use Rattle.lists.proofs.GroupTotals.{rowsWith, measuredOf, group-totals}
+use Rattle.lists.proofs.EachMore.{each-weaken, each-both}
 
-length-keep : {A : Type 0} (f : A → Bool) (xs : List A) → length (keep f xs) ≤ length xs
-unfolding keep
-length-keep f [] = omega arith
-length-keep f (x ∷ xs) = go (f x) (length-keep f xs)
+-- a total of all groups
+abbrev sumUp : (Group → ℕ) → List Group → ℕ
+sumUp f [] = 0
+sumUp f (g ∷ gs) = f g + sumUp f gs
+
+-- one that joining adds up
+module _ (f : Group → ℕ) (adds : (g h : Group) → f (together g h) ≡ f g + f h) where
+  sum-add : (x : Group) (gs : List Group) → sumUp f (addBy keysBefore together x gs) ≡ sumUp f gs + f x
+  unfolding addBy
+  sum-add x [] = omega arith
+  sum-add x (g ∷ gs) = go (keysBefore x g) (keysBefore g x) (sum-add x gs)
+    where
+      go : (b c : Bool) → sumUp f (addBy keysBefore together x gs) ≡ sumUp f gs + f x
+          → sumUp f (cond b (x ∷ g ∷ gs) (cond c (g ∷ addBy keysBefore together x gs) (together g x ∷ gs))) ≡ f g + sumUp f gs + f x
+      go true c ih = omega arith
+      go false true ih = omega arith
+      go false false ih = let a = adds g x in omega arith
+
+  sum-addAll : (gs hs : List Group) → sumUp f (addGroups gs hs) ≡ sumUp f gs + sumUp f hs
+  unfolding addAllBy
+  sum-addAll gs [] = omega arith
+  sum-addAll gs (h ∷ hs) =
+      let a = sum-addAll (addBy keysBefore together h gs) hs in
+      let b = sum-add h gs in
+      omega arith
+
+  each-below : (gs : List Group) → Each (λ g. f g ≤ sumUp f gs) gs
+  each-below [] = tt
+  each-below (g ∷ gs) = (omega arith, each-weaken (λ h l. omega arith) gs (each-below gs))
+
+  module _ (vs : List ℕ) (m : ℕ) (most : ℕ) (row : (b : Bindings) → f (ofRow vs m b) ≤ most) where
+    rows-below : (bs : List Bindings) → sumUp f (map (ofRow vs m) bs) ≤ length bs * most
+    rows-below [] = omega arith
+    rows-below (b ∷ bs) =
+        let r = row b in
+        let i = rows-below bs in
+        let s = suc-mul (length bs) most in
+        omega arith
+
+    -- so much for each row
+    groups-below : (bs : List Bindings) → Each (λ g. f g ≤ length bs * most) (groupsOf vs m bs)
+    groups-below bs =
+        let a = sum-addAll [] (map (ofRow vs m) bs) in
+        let r = rows-below bs in
+        each-weaken (λ g l. omega arith) (groupsOf vs m bs) (each-below (groupsOf vs m bs))
+
+-- ---- the totals of so many rows fit in 64 bits
+-- rows that a sum of values of 30 bits has room for
+abbrev pub mostRows : ℕ
+mostRows = 0x4_0000_0000
+
+one-number : (x : ℕ) → cond {A = ℕ} (isNumber x) 1 0 ≤ 1
+one-number x = go (isNumber x)
   where
-    go : (b : Bool) → length (keep f xs) ≤ length xs → length (cond b (x ∷ keep f xs) (keep f xs)) ≤ suc (length xs)
-    go true h = omega arith
-    go false h = omega arith
+    go : (b : Bool) → cond {A = ℕ} b 1 0 ≤ 1
+    go true = omega arith
+    go false = omega arith
 
-sum-bound : (ns : List ℕ) → sumOf ns ≤ length ns * termValues
-unfolding sumOf
-sum-bound [] = omega arith
-sum-bound (n ∷ ns) = let h = sum-bound ns in omega arith
+one-value : (x : ℕ) → cond (isNumber x) (numberValue x) 0 ≤ 0x3FFF_FFFF
+one-value x = go (isNumber x)
+  where
+    go : (b : Bool) → cond b (numberValue x) 0 ≤ 0x3FFF_FFFF
+    go true = omega arith
+    go false = omega arith
 
--- a record of so many rows is within their number, and its sum within as many values
-pub record Within (n : ℕ) (g : Group) : Type 0 where
-  pub rows : g .rows ≤ n
-  pub numbers : g .numbers ≤ n
-  pub sum : g .sum ≤ n * termValues
-
-totals-within : (n : ℕ) (xs : List ℕ) (g : Group) → length xs ≤ n → TotalsOf xs g → Within n g
-totals-within n xs g h t =
-    let k = length-keep isNumber xs in
-    let s = sum-bound (numbersIn xs) in
-    let r = t .rows in
-    let c = t .numbers in
-    let u = t .sum in
-    record { rows = omega arith; numbers = omega arith; sum = omega arith }
-
-module _ (vs : List ℕ) (m : ℕ) (bs : List Bindings) (values : KeyValues vs bs) where
-  pub groups-within : Each (Within (length bs)) (groupsOf vs m bs)
-  groups-within =
-      each-weaken
-      (λ g t.
-      totals-within (length bs) (measuredOf m (rowsWith vs (g .keys) bs)) g
-      (let l = length-map (rowsWith vs (g .keys) bs) (λ b. valueOf b m) in
-      let k = length-keep (λ b. sameWords (project vs b) (g .keys)) bs in
-      omega arith)
-      t)
-      (groupsOf vs m bs) (group-totals vs m bs values .totals)
-
-  -- the totals of no more rows than a word counts fit
-  pub groups-fit : length bs < wordValues → all groupFits (groupsOf vs m bs) ≡ true
-  groups-fit h =
-      each-all groupFits (groupsOf vs m bs)
-      (each-weaken
-      (λ g w.
-      let r = w .rows in
-      let c = w .numbers in
-      let s = w .sum in
-      rw (
-        lt-ltb (g .rows) longValues (omega arith),
-        lt-ltb (g .numbers) longValues (omega arith),
-        lt-ltb (g .sum) longValues (omega arith),
-      ))
-      (groupsOf vs m bs) groups-within)
+pub groups-fit : (vs : List ℕ) (m : ℕ) (bs : List Bindings) → length bs ≤ mostRows → all groupFits (groupsOf vs m bs) ≡ true
+groups-fit vs m bs h =
+    let n = length bs in
+    let rs = groups-below (λ g. g .rows) (λ g k. refl) vs m 1 (λ b. omega arith) bs in
+    let ns = groups-below (λ g. g .numbers) (λ g k. refl) vs m 1 (λ b. one-number (valueOf b m)) bs in
+    let ss = groups-below (λ g. g .sum) (λ g k. refl) vs m 0x3FFF_FFFF (λ b. one-value (valueOf b m)) bs in
+    each-all groupFits (groupsOf vs m bs)
+    (each-both {Q = λ g. g .sum ≤ n * 0x3FFF_FFFF} (λ g p s.
+    rw (lt-ltb (g .rows) longValues (omega (arith, p .0)), lt-ltb (g .numbers) longValues (omega (arith, p .1)), lt-ltb (g .sum) longValues (omega arith)))
+    (groupsOf vs m bs)
+    (each-both {R = λ g. (g .rows ≤ n * 1) × (g .numbers ≤ n * 1)} (λ g p q. (p, q)) (groupsOf vs m bs) rs ns) ss)

@@ -24,7 +24,7 @@ use Rattle.lists.proofs.RowOrder.{rows-ordered}
 use Rattle.lists.proofs.TopLists.{merged-top}
 
 -- a sorted list does not descend from a row to the next
-neighbours-sorted : {A : Type 0} (before : A → A → Bool) (xs : List A) → Sorted before xs
+pub neighbours-sorted : {A : Type 0} (before : A → A → Bool) (xs : List A) → Sorted before xs
     → neighbours (λ x y. not (before y x)) xs ≡ true
 unfolding neighbours
 neighbours-sorted before [] s = refl

@@ -2,7 +2,7 @@
 use Prim.Native.Nat.{ℕ, _+_, _<_}
 use mathlib.Core.Path.{_≡_}
 use mathlib.Core.Bool.{Bool, true, false, cond, _&&_}
-use mathlib.Core.Option.{none, some}
+use mathlib.Core.Option.{Option, none, some}
 use mathlib.Core.List.{List, []}
 use lib.Dec.{eqb, leb, ltb}
 use lib.ListN.{length, getD, drop}
@@ -10,6 +10,7 @@ use Rattle.words.specs.Words.{kind, low, isVariable}
 use Rattle.plans.specs.Conditions.{Condition, Read, nodes, boundIn, allBound}
 use Rattle.plans.specs.Branches.{Branch, noBranch, readBranch, readBranches, termRight}
 use Rattle.plans.specs.Endings.{Ending, rows, top, group, isKey}
+use Rattle.plans.specs.Plans.{Plan, variablesRight}
 use Rattle.plans.specs.declared.Last.{Last}
 use Rattle.plans.specs.declared.Last.the-variants.{Rows, Top, Group}
 use Rattle.plans.specs.declared.Part.{Part}
@@ -79,6 +80,11 @@ SmallTree (Reads w n b) = (w < 0x2000_0000_0000_0000) × (n < 0x2000_0000_0000_0
 abbrev pub partOf : {A : Type 0} → (A → Bool) → Read A → Part
 partOf test none = Broken
 partOf test (some x) = Ends (x .1) (test (x .0))
+
+-- a plan: the number of the test that it fails, 0 where it fails none
+abbrev pub planNumber : Option Plan → ℕ
+planNumber none = 5
+planNumber (some q) = cond (variablesRight q) 0 6
 
 -- ---- branches
 -- the branch, and the first n branches, at the start of some words

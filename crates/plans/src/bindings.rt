@@ -2,6 +2,7 @@
 use crate::Last;
 use crate::branches::branch_words;
 use crate::branches::terms;
+use crate::endings::ending_form;
 use crate::endings::ending_kind;
 use crate::endings::keys;
 use crate::endings::measured;
@@ -82,19 +83,22 @@ fn variables_right(p: &[u32], count: u32, list: &[u32]) -> bool
     false
 }
 
-// Whether the variables of the ending e are right, after the first branches, so many, that p starts with.
+// Whether e is an ending whose variables are right, after the first branches, so many, that p starts with.
 pub fn ending_right(p: &[u32], count: u32, e: &[u32]) -> bool
-    requires { ⌜ (isRead (readBranches count (now p)) ≡ true) × (endingForm (now e) ≡ true) ⌝ }
-    ensures { λ r. ⌜ r ≡ endingRight (binds (branchesIn count (now (p .entry)))) (endingAt (now (e .entry))) ⌝ }
+    requires { ⌜ isRead (readBranches count (now p)) ≡ true ⌝ }
+    ensures { λ r. ⌜ r ≡ (endingForm (now (e .entry)) && endingRight (binds (branchesIn count (now (p .entry)))) (endingAt (now (e .entry)))) ⌝ }
 {
-    let vars = variables(e);
-    if variables_right(p, count, vars) {
-        return match ending_kind(e) {
-            Last::Rows => true,
-            Last::Top => keys_among(keys(e), vars),
-            Last::Group => some_binds(p, count, measured(e)),
-            Last::Neither => true,
-        };
+    if !ending_form(e) {
+        return false;
     }
-    false
+    let list = variables(e);
+    if !variables_right(p, count, list) {
+        return false;
+    }
+    match ending_kind(e) {
+        Last::Rows => true,
+        Last::Top => keys_among(keys(e), list),
+        Last::Group => some_binds(p, count, measured(e)),
+        Last::Neither => false,
+    }
 }

@@ -5,24 +5,28 @@ mod conditions;
 mod endings;
 mod searches;
 
+pub use branches::PATTERN_WIDTH;
 pub use branches::condition_part;
 pub use branches::terms;
+use conditions::both;
 pub use endings::best_count;
 pub use endings::ending_kind;
 pub use endings::keys;
 pub use endings::measured;
 pub use endings::variables;
+pub use searches::among;
 use words::PlanWord;
 ghost use mathlib.Core.Path.{_≡_};
 ghost use mathlib.Core.Bool.{true};
+ghost use mathlib.Core.List.{_∷_, []};
 ghost use Prim.Native.Nat.{_≤_, _<_};
 ghost use lib.ListN.{getD, length, drop};
 ghost use Rattle.words.specs.Tests.{firstFailing, numberOf};
-ghost use Rattle.plans.specs.Conditions.{nodeOf};
-ghost use Rattle.plans.specs.Branches.{readBranch};
+ghost use Rattle.plans.specs.Conditions.{nodeOf, readCondition, mostDepth};
+ghost use Rattle.plans.specs.Branches.{readBranch, readBranches};
 ghost use Rattle.plans.specs.Endings.{endingForm, endingAt};
-ghost use Rattle.plans.specs.Plans.{branchCount, mostBranches, readPlan, hasForm, planOf, planTests, branchAt};
-ghost use Rattle.plans.specs.Reading.{Gives, branchStart};
+ghost use Rattle.plans.specs.Plans.{branchCount, mostBranches, withEnding, readPlan, hasForm, planOf, planTests, branchAt};
+ghost use Rattle.plans.specs.Reading.{Gives, branchStart, planNumber};
 
 pub const MOST_WORDS: usize = 256;
 
@@ -110,6 +114,35 @@ pub fn branch_count(plan: &[u32]) -> u32
     searches::count_in(plan, PlanWord::HEAD, MOST_BRANCHES)
 }
 
+// The number of the first of tests 5 and 6 that fails, or 0.
+fn number_of(form: bool, variables: bool) -> u32
+    ensures { λ r. ⌜ r ≡ numberOf (firstFailing ((5, form) ∷ (6, variables) ∷ [])) ⌝ }
+{
+    if form {
+        if variables {
+            return 0;
+        }
+        return VARIABLES;
+    }
+    FORM
+}
+
+// The check of a plan from the word after its head on, where so many branches and one ending are to stand.
+fn check_body(body: &[u32], count: u32) -> u32
+    ensures { λ r. ⌜ r ≡ planNumber (withEnding (now (body .entry)) (readBranches count (now (body .entry)))) ⌝ }
+{
+    match branches::branches(body, count) {
+        Part::Broken => FORM,
+        Part::Ends { words, right } => {
+            let e = &body[words..];
+            number_of(
+                endings::ending_form(e),
+                both(right, bindings::ending_right(body, count, e)),
+            )
+        }
+    }
+}
+
 // 0, or the number of the first test that a plan fails: 5 over the whole plan, and then 6.
 pub fn check(plan: &[u32]) -> u32
     ensures { λ r. ⌜ r ≡ numberOf (firstFailing (planTests (now (plan .entry)))) ⌝ }
@@ -121,22 +154,7 @@ pub fn check(plan: &[u32]) -> u32
     if count == 0 {
         return FORM;
     }
-    let body = &plan[1..];
-    match branches::branches(body, count) {
-        Part::Broken => FORM,
-        Part::Ends { words, right } => {
-            let e = &body[words..];
-            if endings::ending_form(e) {
-                if right {
-                    if bindings::ending_right(body, count, e) {
-                        return 0;
-                    }
-                }
-                return VARIABLES;
-            }
-            FORM
-        }
-    }
+    check_body(&plan[1..], count)
 }
 
 // The part of a plan from its branch with a number (from 0) on.
@@ -150,11 +168,26 @@ pub fn branch_part(plan: &[u32], number: u32) -> &[u32]
     &body[at..]
 }
 
+// The terms of the patterns of a plan's branch with a number.
+pub fn branch_terms(plan: &[u32], number: u32) -> &[u32]
+    requires { ⌜ (hasForm (readPlan (now plan)) ≡ true) × (number < length (planOf (now plan) .branches)) ⌝ }
+    ensures { λ r. ⌜ now r ≡ branchAt (planOf (now (plan .entry))) number .terms ⌝ }
+{
+    terms(branch_part(plan, number))
+}
+
+// The words from the condition of a plan's branch with a number on.
+pub fn branch_condition(plan: &[u32], number: u32) -> &[u32]
+    requires { ⌜ (hasForm (readPlan (now plan)) ≡ true) × (number < length (planOf (now plan) .branches)) ⌝ }
+    ensures { λ r. ⌜ Gives (readCondition mostDepth (now r)) (branchAt (planOf (now (plan .entry))) number .condition) ⌝ }
+{
+    condition_part(branch_part(plan, number))
+}
+
 // The part of a plan from its ending on.
 pub fn ending_part(plan: &[u32]) -> &[u32]
     requires { ⌜ hasForm (readPlan (now plan)) ≡ true ⌝ }
-    ensures form { λ r. ⌜ endingForm (now r) ≡ true ⌝ }
-    ensures ending { λ r. ⌜ endingAt (now r) ≡ planOf (now (plan .entry)) .ending ⌝ }
+    ensures { λ r. ⌜ (endingForm (now r) ≡ true) × (endingAt (now r) ≡ planOf (now (plan .entry)) .ending) ⌝ }
 {
     let body = &plan[1..];
     let at = branches::branches_words(body, branch_count(plan));

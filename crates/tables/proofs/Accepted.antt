@@ -1,15 +1,15 @@
 -- Tables are accepted by tests 1 to 4 exactly when they are right.
 use Prim.Native.Nat.{ℕ, suc, _-_, _%_, _<_}
 use native.Mathlib.Omega.{arith}
-use mathlib.Core.Path.{_≡_}
-use mathlib.Core.Bool.{Bool, true}
-use mathlib.Core.Option.{none}
+use mathlib.Core.Path.{_≡_, refl}
+use mathlib.Core.Bool.{Bool, true, false, cond}
+use mathlib.Core.Option.{Option, none, some}
 use mathlib.Core.List.{List}
 use lib.Dec.{ltb, eqb}
 use lib.ListN.{length, getD}
 use borrow.Author.Tests.{ltb-true, leb-true, eqb-true, lt-ltb, le-leb, eq-eqb}
 use Rattle.words.specs.Sequences.{lexBefore, allBelow}
-use Rattle.words.specs.Tests.{firstFailing}
+use Rattle.words.specs.Tests.{firstFailing, numberOf}
 use Rattle.words.proofs.Booleans.{and-left, and-right, and-both}
 use Rattle.words.proofs.Testing.{passes-all, all-passes}
 use Rattle.words.proofs.Counting.{all-at, at-all}
@@ -109,3 +109,21 @@ module _ (t : Tables) where
     where
       lists : listsRight t ≡ true
       lists = and-both (namesRows t (t .pos)) _ (at-named (t .pos) (r .sized .pos-length) (r .named Pos)) (and-both (namesRows t (t .osp)) _ (at-named (t .osp) (r .sized .osp-length) (r .named Osp)) (and-both (ascends Pos t) _ (at-up Pos (r .up Pos)) (at-up Osp (r .up Osp))))
+
+  -- what an answer of 0 gives
+  abbrev answer : Bool → Bool → Bool → Bool → Option ℕ
+  answer a b c d = cond a (cond b (cond c (cond d none (some 4)) (some 3)) (some 2)) (some 1)
+
+  passed : (a b c d : Bool) → numberOf (answer a b c d) ≡ 0 → answer a b c d ≡ none
+  passed true true true true e = refl
+  passed true true true false e = absurd (omega arith)
+  passed true true false d e = absurd (omega arith)
+  passed true false c d e = absurd (omega arith)
+  passed false b c d e = absurd (omega arith)
+
+  pub none-fails : numberOf (firstFailing (tableTests t)) ≡ 0 → firstFailing (tableTests t) ≡ none
+  unfolding firstFailing
+  none-fails = passed (lengthsRight t) (kindsRight t) (ascends Spo t) (listsRight t)
+
+  pub checked : numberOf (firstFailing (tableTests t)) ≡ 0 → Right t
+  checked e = right (none-fails e)

@@ -1,10 +1,11 @@
 -- Words at the front of a buffer, and the words behind them.
-use Prim.Native.Nat.{ℕ, _≤_}
+use Prim.Native.Nat.{ℕ, _+_, _≤_, _<_}
 use native.Mathlib.Omega.{arith}
+use native.Mathlib.Numerals.{add-one}
 use mathlib.Core.Path.{_≡_, refl}
-use mathlib.Core.List.{List, _++_}
-use lib.ListN.{length, take, drop, length-append, length-drop}
-use lib.Seq.{take-append-seam, drop-append-seam}
+use mathlib.Core.List.{List, [], _∷_, _++_}
+use lib.ListN.{length, take, drop, getD, set, length-append, length-drop}
+use lib.Seq.{take-append-seam, drop-append-seam, set-append-seam, append-snoc, drop-cons}
 use Rattle.words.specs.Sequences.{over}
 
 pub take-over : (ws buffer : List ℕ) → take (length ws) (over ws buffer) ≡ ws
@@ -15,6 +16,12 @@ drop-over ws buffer = drop-append-seam ws (drop (length ws) buffer)
 
 pub length-over : (ws buffer : List ℕ) → length ws ≤ length buffer → length (over ws buffer) ≡ length buffer
 length-over ws buffer h = omega (arith, length-append ws (drop (length ws) buffer), length-drop (length ws) buffer)
+
+-- one word more, written behind them
+pub over-next : (ws buffer : List ℕ) (a : ℕ) → length ws < length buffer
+    → set (over ws buffer) (length ws) a ≡ over (ws ++ (a ∷ [])) buffer
+over-next ws buffer a h =
+    rw (length-append ws (a ∷ []), add-one, append-snoc, drop-cons buffer (length ws) 0, set-append-seam)
 
 -- some words stand over the first ones of a buffer, they are counted, and the words past them are untouched
 pub record Overwritten (ws before after : List ℕ) (count : ℕ) : Type 0 where

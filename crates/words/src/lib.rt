@@ -1,7 +1,8 @@
 // The 32-bit words of rows, plans and saved states: a kind in the top bits, a value or number in the low ones.
 ghost use mathlib.Core.Path.{_≡_};
 ghost use Prim.Native.Nat.{_%_, _<_, _≤_};
-ghost use Rattle.words.specs.Words.{termValues, termKind, termValue, name, number, text, variable, unbound, isVariable, isNumber, keyRank, lastRank, lowNumbers, kind, low, word, headKind, branchKind, trueKind, andKind, orKind, notKind, comparisonKind, rowsKind, topKind, risingKind, fallingKind, groupKind, depths, positionWord, placeWord, branchOf, depthOf};
+ghost use Rattle.words.specs.Bindings.{valueOf};
+ghost use Rattle.words.specs.Words.{termValues, termKind, termValue, name, number, text, variable, unbound, isVariable, isNumber, isValue, keyRank, lastRank, lowNumbers, kind, low, word, headKind, branchKind, trueKind, andKind, orKind, notKind, comparisonKind, rowsKind, topKind, risingKind, fallingKind, groupKind, depths, positionWord, placeWord, branchOf, depthOf};
 
 // A term: two bits of kind and a value of 30.
 pub struct Term(pub u32);
@@ -91,6 +92,13 @@ impl Term {
         ensures { λ r. ⌜ r ≡ isNumber (self .0) ⌝ }
     {
         self.0 / VALUES == Term::NUMBER
+    }
+
+    // Whether a delivered row may have it: of no kind 3 but unbound.
+    pub fn is_value(self) -> bool
+        ensures { λ r. ⌜ r ≡ isValue (self .0) ⌝ }
+    {
+        self.0 <= Term::UNBOUND
     }
 
     // The place in the order of keys: unbound, then names, numbers, texts, each by value.
@@ -281,4 +289,20 @@ pub fn wide(x: u32) -> usize
     ensures { λ r. ⌜ r ≡ x ⌝ }
 {
     x as usize
+}
+
+// The value of a term: a variable's binding, and a constant itself.
+pub fn value_of(word: u32, bound: &[u32; 16]) -> u32
+    ensures { λ r. ⌜ r ≡ valueOf (now (bound .entry)) word ⌝ }
+{
+    let term = Term(word);
+    if term.is_variable() {
+        let values: &[u32] = bound;
+        let variable = wide(term.value());
+        if variable < values.len() {
+            return values[variable];
+        }
+        return Term::UNBOUND;
+    }
+    word
 }

@@ -17,24 +17,43 @@ part-body-end : tie.Need-part-body-end
 part-body-end c = omega arith
 
 branches-words-requires : tie.Need-branches-words-requires
-branches-words-requires c κs = body-read (c .before .before .args .plan .now) (c .before .before .pre .0) (c .before .before .args .number) (omega arith)
+branches-words-requires c κs =
+    let args = c .before .before .args in
+    let pre = c .before .before .pre in
+    body-read (args .plan .now) (pre .0) (args .number) (omega arith)
 
 mul-result : tie.Need-mul-result
-mul-result c = let b = c .branches-words in omega (arith, part-room (c .before .before .before .args .plan .now) (c .before .before .before .pre .0) (c .before .before .before .args .number) (omega arith) (b .result) (b .ensures))
+mul-result c =
+    let b = c .branches-words in
+    let args = c .before .before .before .args in
+    let pre = c .before .before .before .pre in
+    omega (arith, part-room (args .plan .now) (pre .0) (args .number) (omega arith) (b .result) (b .ensures))
 
 sub-result : tie.Need-sub-result
-sub-result c = let b = c .branches-words in omega (arith, part-room (c .before .before .before .args .plan .now) (c .before .before .before .pre .0) (c .before .before .before .args .number) (omega arith) (b .result) (b .ensures))
+sub-result c =
+    let b = c .branches-words in
+    let args = c .before .before .before .args in
+    let pre = c .before .before .before .pre in
+    omega (arith, part-room (args .plan .now) (pre .0) (args .number) (omega arith) (b .result) (b .ensures))
 
 part-result-start : tie.Need-part-result-start
-part-result-start c = let b = c .branches-words in omega (arith, part-room (c .before .before .before .args .plan .now) (c .before .before .before .pre .0) (c .before .before .before .args .number) (omega arith) (b .result) (b .ensures))
+part-result-start c =
+    let b = c .branches-words in
+    let args = c .before .before .before .args in
+    let pre = c .before .before .before .pre in
+    omega (arith, part-room (args .plan .now) (pre .0) (args .number) (omega arith) (b .result) (b .ensures))
 
 part-result-end : tie.Need-part-result-end
 part-result-end c = omega arith
 
 returns : tie.Need-returns
-returns c = let b = c .before .branches-words in let p = c .before .before .before .before .args .plan .now in
-    let e = part-from p (c .before .before .before .before .pre .0) (c .before .before .before .before .args .number) (omega arith) (b .result) (b .ensures) in
-    (e, rw e (plan-in p (c .before .before .before .before .pre .0) .branch (c .before .before .before .before .args .number) (omega arith)))
+returns c =
+    let b = c .before .branches-words in
+    let p = c .before .before .before .before .args .plan .now in
+    let pre = c .before .before .before .before .pre in
+    let args = c .before .before .before .before .args in
+    let e = part-from p (pre .0) (args .number) (omega arith) (b .result) (b .ensures) in
+    (e, rw e (plan-in p (pre .0) .branch (args .number) (omega arith)))
 
 pub branch-part-spec : {M : Type 1} → statement M
 branch-part-spec =

@@ -21,28 +21,48 @@ branch-count-requires : tie.Need-branch-count-requires
 branch-count-requires c κs = search needs
 
 branches-words-requires : tie.Need-branches-words-requires
-branches-words-requires c κs = let n = c .branch-count in body-read (c .before .before .before .args .plan .now) (c .before .before .before .pre) (n .result) (omega (arith, n .ensures .0, plan-in (c .before .before .before .args .plan .now) (c .before .before .before .pre) .head))
+branches-words-requires c κs =
+    let n = c .branch-count in
+    let args = c .before .before .before .args in
+    let pre = c .before .before .before .pre in
+    body-read (args .plan .now) pre (n .result) (omega (arith, n .ensures .0, plan-in (args .plan .now) pre .head))
 
 mul-result : tie.Need-mul-result
-mul-result c = let b = c .branches-words in let n = c .before .branch-count in
-    omega (arith, part-room (c .before .before .before .before .args .plan .now) (c .before .before .before .before .pre) (n .result) (omega (arith, n .ensures .0, plan-in (c .before .before .before .before .args .plan .now) (c .before .before .before .before .pre) .head)) (b .result) (b .ensures))
+mul-result c =
+    let b = c .branches-words in
+    let n = c .before .branch-count in
+    let args = c .before .before .before .before .args in
+    let pre = c .before .before .before .before .pre in
+    omega (arith, part-room (args .plan .now) pre (n .result) (omega (arith, n .ensures .0, plan-in (args .plan .now) pre .head)) (b .result) (b .ensures))
 
 sub-result : tie.Need-sub-result
-sub-result c = let b = c .branches-words in let n = c .before .branch-count in
-    omega (arith, part-room (c .before .before .before .before .args .plan .now) (c .before .before .before .before .pre) (n .result) (omega (arith, n .ensures .0, plan-in (c .before .before .before .before .args .plan .now) (c .before .before .before .before .pre) .head)) (b .result) (b .ensures))
+sub-result c =
+    let b = c .branches-words in
+    let n = c .before .branch-count in
+    let args = c .before .before .before .before .args in
+    let pre = c .before .before .before .before .pre in
+    omega (arith, part-room (args .plan .now) pre (n .result) (omega (arith, n .ensures .0, plan-in (args .plan .now) pre .head)) (b .result) (b .ensures))
 
 part-result-start : tie.Need-part-result-start
-part-result-start c = let b = c .branches-words in let n = c .before .branch-count in
-    omega (arith, part-room (c .before .before .before .before .args .plan .now) (c .before .before .before .before .pre) (n .result) (omega (arith, n .ensures .0, plan-in (c .before .before .before .before .args .plan .now) (c .before .before .before .before .pre) .head)) (b .result) (b .ensures))
+part-result-start c =
+    let b = c .branches-words in
+    let n = c .before .branch-count in
+    let args = c .before .before .before .before .args in
+    let pre = c .before .before .before .before .pre in
+    omega (arith, part-room (args .plan .now) pre (n .result) (omega (arith, n .ensures .0, plan-in (args .plan .now) pre .head)) (b .result) (b .ensures))
 
 part-result-end : tie.Need-part-result-end
 part-result-end c = omega arith
 
 returns : tie.Need-returns
-returns c = let b = c .before .branches-words in let n = c .before .before .branch-count in let p = c .before .before .before .before .before .args .plan .now in
-    let q = plan-in p (c .before .before .before .before .before .pre) in
+returns c =
+    let b = c .before .branches-words in
+    let n = c .before .before .branch-count in
+    let p = c .before .before .before .before .before .args .plan .now in
+    let pre = c .before .before .before .before .before .pre in
+    let q = plan-in p pre in
     let l = n .ensures .0 ∙ q .head in
-    let e = part-from p (c .before .before .before .before .before .pre) (n .result) (omega arith) (b .result) (b .ensures) in
+    let e = part-from p pre (n .result) (omega arith) (b .result) (b .ensures) in
     (rw (e, l) (q .form), rw (e, l) (q .ending))
 
 pub ending-part-spec : {M : Type 1} → statement M

@@ -27,11 +27,16 @@ shared-slice-read-some-binds : tie.Need-shared-slice-read-some-binds Inv-loop μ
 shared-slice-read-some-binds c = omega arith
 
 some-binds-requires : tie.Need-some-binds-requires Inv-loop μ-loop
-some-binds-requires c κs = c .before .before .before .before .before .pre
+some-binds-requires c κs =
+    let pre = c .before .before .before .before .before .pre in
+    pre
 
 returns : tie.Need-returns Inv-loop μ-loop
-returns c = let f = binds (branchesIn (c .before .before .before .before .before .before .before .args .count) (c .before .before .before .before .before .before .before .args .p .now)) in
-    sym (c .before .before .before .before .loop .inv .1 ∙ all-stops (c .before .before .before .before .before .before .before .args .list .now) (c .before .before .before .before .loop .i) f (omega arith) (sym (c .before .some-binds .ensures) ∙ not-true _ (c .if1 .taken)))
+returns c =
+    let args = c .before .before .before .before .before .before .before .args in
+    let loop = c .before .before .before .before .loop in
+    let f = binds (branchesIn (args .count) (args .p .now)) in
+    sym (loop .inv .1 ∙ all-stops (args .list .now) (loop .i) f (omega arith) (sym (c .before .some-binds .ensures) ∙ not-true _ (c .if1 .taken)))
 
 add-i : tie.Need-add-i Inv-loop μ-loop
 add-i c = omega arith
@@ -40,12 +45,17 @@ loop-less : tie.Need-loop-less Inv-loop μ-loop
 loop-less c = omega arith
 
 loop-again : tie.Need-loop-again Inv-loop μ-loop
-loop-again c = let f = binds (branchesIn (c .before .before .before .before .before .before .before .args .count) (c .before .before .before .before .before .before .before .args .p .now)) in
-    (omega arith, c .before .before .before .before .loop .inv .1 ∙ all-goes (c .before .before .before .before .before .before .before .args .list .now) (c .before .before .before .before .loop .i) f (omega arith) (sym (c .before .some-binds .ensures) ∙ not-false _ (c .if1 .left)))
+loop-again c =
+    let args = c .before .before .before .before .before .before .before .args in
+    let loop = c .before .before .before .before .loop in
+    let f = binds (branchesIn (args .count) (args .p .now)) in
+    (omega arith, loop .inv .1 ∙ all-goes (args .list .now) (loop .i) f (omega arith) (sym (c .before .some-binds .ensures) ∙ not-false _ (c .if1 .left)))
 
 returns-2 : tie.Need-returns-2 Inv-loop μ-loop
-returns-2 c = let f = binds (branchesIn (c .before .before .before .before .args .count) (c .before .before .before .before .args .p .now)) in
-    sym (c .before .loop .inv .1 ∙ all-end (c .before .before .before .before .args .list .now) (c .before .loop .i) f (omega arith))
+returns-2 c =
+    let args = c .before .before .before .before .args in
+    let f = binds (branchesIn (args .count) (args .p .now)) in
+    sym (c .before .loop .inv .1 ∙ all-end (args .list .now) (c .before .loop .i) f (omega arith))
 
 pub all-bound-spec : {M : Type 1} → statement M
 all-bound-spec =

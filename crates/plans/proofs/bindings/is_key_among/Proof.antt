@@ -18,9 +18,11 @@ among-requires : tie.Need-among-requires
 among-requires c κs = search needs
 
 returns : tie.Need-returns
-returns c = let k = c .before .before .before .before .args .key in
+returns c =
+    let k = c .before .before .before .before .args .key in
+    let the-low = c .before .before .low in
     let e : low k % termValues ≡ low k = omega arith in
-    c .among .ensures ∙ rw (c .before .variable .ensures, c .before .before .low .ensures, e)
+    c .among .ensures ∙ rw (c .before .variable .ensures, the-low .ensures, e)
 
 pub is-key-among-spec : {M : Type 1} → statement M
 is-key-among-spec = tie.close (tie.spec low-requires variable-requires among-requires returns)

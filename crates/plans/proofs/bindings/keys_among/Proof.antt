@@ -29,7 +29,10 @@ is-key-among-requires : tie.Need-is-key-among-requires Inv-loop μ-loop
 is-key-among-requires c κs = tt
 
 returns : tie.Need-returns Inv-loop μ-loop
-returns c = sym (c .before .before .before .before .loop .inv .1 ∙ all-stops (c .before .before .before .before .before .before .before .args .keys .now) (c .before .before .before .before .loop .i) (keyAmong (c .before .before .before .before .before .before .before .args .list .now)) (omega arith) (sym (c .before .is-key-among .ensures) ∙ not-true _ (c .if1 .taken)))
+returns c =
+    let loop = c .before .before .before .before .loop in
+    let args = c .before .before .before .before .before .before .before .args in
+    sym (loop .inv .1 ∙ all-stops (args .keys .now) (loop .i) (keyAmong (args .list .now)) (omega arith) (sym (c .before .is-key-among .ensures) ∙ not-true _ (c .if1 .taken)))
 
 add-i : tie.Need-add-i Inv-loop μ-loop
 add-i c = omega arith
@@ -38,10 +41,15 @@ loop-less : tie.Need-loop-less Inv-loop μ-loop
 loop-less c = omega arith
 
 loop-again : tie.Need-loop-again Inv-loop μ-loop
-loop-again c = (omega arith, c .before .before .before .before .loop .inv .1 ∙ all-goes (c .before .before .before .before .before .before .before .args .keys .now) (c .before .before .before .before .loop .i) (keyAmong (c .before .before .before .before .before .before .before .args .list .now)) (omega arith) (sym (c .before .is-key-among .ensures) ∙ not-false _ (c .if1 .left)))
+loop-again c =
+    let loop = c .before .before .before .before .loop in
+    let args = c .before .before .before .before .before .before .before .args in
+    (omega arith, loop .inv .1 ∙ all-goes (args .keys .now) (loop .i) (keyAmong (args .list .now)) (omega arith) (sym (c .before .is-key-among .ensures) ∙ not-false _ (c .if1 .left)))
 
 returns-2 : tie.Need-returns-2 Inv-loop μ-loop
-returns-2 c = sym (c .before .loop .inv .1 ∙ all-end (c .before .before .before .before .args .keys .now) (c .before .loop .i) (keyAmong (c .before .before .before .before .args .list .now)) (omega arith))
+returns-2 c =
+    let args = c .before .before .before .before .args in
+    sym (c .before .loop .inv .1 ∙ all-end (args .keys .now) (c .before .loop .i) (keyAmong (args .list .now)) (omega arith))
 
 pub keys-among-spec : {M : Type 1} → statement M
 keys-among-spec =

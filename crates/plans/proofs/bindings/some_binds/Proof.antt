@@ -31,20 +31,34 @@ part-rest-end : tie.Need-part-rest-end Inv-loop μ-loop
 part-rest-end c = omega arith
 
 terms-requires : tie.Need-terms-requires Inv-loop μ-loop
-terms-requires c κs = walk-read (c .before .before .before .before .args .count) (c .before .before .before .before .args .p .now) (c .before .before .loop .at) (c .before .before .loop .left) (c .before .before .loop .inv .0) (omega arith)
+terms-requires c κs =
+    let args = c .before .before .before .before .args in
+    let loop = c .before .before .loop in
+    walk-read (args .count) (args .p .now) (loop .at) (loop .left) (loop .inv .0) (omega arith)
 
 among-requires : tie.Need-among-requires Inv-loop μ-loop
 among-requires c κs = tt
 
 returns : tie.Need-returns Inv-loop μ-loop
-returns c = let q = c .before .among in
-    sym (c .before .before .before .before .before .loop .inv .1 ∙ binds-stops (c .before .before .before .before .before .before .before .args .count) (c .before .before .before .before .before .before .before .args .p .now) (c .before .before .before .before .before .loop .at) (c .before .before .before .before .before .loop .left) (c .before .before .before .before .before .loop .inv .0) (omega arith) _ refl (c .before .before .before .before .before .before .before .args .word) (q .result) (q .ensures ∙ ap (member (c .before .before .before .before .before .before .before .args .word)) (c .before .before .terms .ensures)) (c .if1 .taken))
+returns c =
+    let q = c .before .among in
+    let loop = c .before .before .before .before .before .loop in
+    let args = c .before .before .before .before .before .before .before .args in
+    let terms = c .before .before .terms in
+    sym (loop .inv .1 ∙ binds-stops (args .count) (args .p .now) (loop .at) (loop .left) (loop .inv .0) (omega arith) _ refl (args .word) (q .result) (q .ensures ∙ ap (member (args .word)) (terms .ensures)) (c .if1 .taken))
 
 branch-words-requires : tie.Need-branch-words-requires Inv-loop μ-loop
-branch-words-requires c κs = walk-read (c .before .before .before .before .before .before .before .args .count) (c .before .before .before .before .before .before .before .args .p .now) (c .before .before .before .before .before .loop .at) (c .before .before .before .before .before .loop .left) (c .before .before .before .before .before .loop .inv .0) (omega arith)
+branch-words-requires c κs =
+    let args = c .before .before .before .before .before .before .before .args in
+    let loop = c .before .before .before .before .before .loop in
+    walk-read (args .count) (args .p .now) (loop .at) (loop .left) (loop .inv .0) (omega arith)
 
 add-at : tie.Need-add-at Inv-loop μ-loop
-add-at c = let b = c .branch-words in omega (arith, walk-words (c .before .before .before .before .before .before .before .before .args .count) (c .before .before .before .before .before .before .before .before .args .p .now) (c .before .before .before .before .before .before .loop .at) (c .before .before .before .before .before .before .loop .left) (c .before .before .before .before .before .before .loop .inv .0) (omega arith) (b .result) (b .ensures))
+add-at c =
+    let b = c .branch-words in
+    let args = c .before .before .before .before .before .before .before .before .args in
+    let loop = c .before .before .before .before .before .before .loop in
+    omega (arith, walk-words (args .count) (args .p .now) (loop .at) (loop .left) (loop .inv .0) (omega arith) (b .result) (b .ensures))
 
 sub-left : tie.Need-sub-left Inv-loop μ-loop
 sub-left c = omega arith
@@ -53,13 +67,20 @@ loop-less : tie.Need-loop-less Inv-loop μ-loop
 loop-less c = omega arith
 
 loop-again : tie.Need-loop-again Inv-loop μ-loop
-loop-again c = let q = c .before .before .among in let b = c .branch-words in (
-  walk-next (c .before .before .before .before .before .before .before .before .args .count) (c .before .before .before .before .before .before .before .before .args .p .now) (c .before .before .before .before .before .before .loop .at) (c .before .before .before .before .before .before .loop .left) (c .before .before .before .before .before .before .loop .inv .0) (omega arith) (b .result) (b .ensures),
-  c .before .before .before .before .before .before .loop .inv .1 ∙ binds-goes (c .before .before .before .before .before .before .before .before .args .count) (c .before .before .before .before .before .before .before .before .args .p .now) (c .before .before .before .before .before .before .loop .at) (c .before .before .before .before .before .before .loop .left) (c .before .before .before .before .before .before .loop .inv .0) (omega arith) (b .result) (b .ensures) (c .before .before .before .before .before .before .before .before .args .word) (q .result) (q .ensures ∙ ap (member (c .before .before .before .before .before .before .before .before .args .word)) (c .before .before .before .terms .ensures)) (c .before .if1 .left),
-)
+loop-again c =
+    let q = c .before .before .among in
+    let b = c .branch-words in
+    let args = c .before .before .before .before .before .before .before .before .args in
+    let loop = c .before .before .before .before .before .before .loop in
+    let terms = c .before .before .before .terms in (
+      walk-next (args .count) (args .p .now) (loop .at) (loop .left) (loop .inv .0) (omega arith) (b .result) (b .ensures),
+      loop .inv .1 ∙ binds-goes (args .count) (args .p .now) (loop .at) (loop .left) (loop .inv .0) (omega arith) (b .result) (b .ensures) (args .word) (q .result) (q .ensures ∙ ap (member (args .word)) (terms .ensures)) (c .before .if1 .left),
+    )
 
 returns-2 : tie.Need-returns-2 Inv-loop μ-loop
-returns-2 c = sym (c .before .loop .inv .1 ∙ binds-end (drop (c .before .loop .at) (c .before .before .before .args .p .now)) (c .before .loop .left) (c .before .before .before .args .word) (omega arith))
+returns-2 c =
+    let args = c .before .before .before .args in
+    sym (c .before .loop .inv .1 ∙ binds-end (drop (c .before .loop .at) (args .p .now)) (c .before .loop .left) (args .word) (omega arith))
 
 pub some-binds-spec : {M : Type 1} → statement M
 some-binds-spec =

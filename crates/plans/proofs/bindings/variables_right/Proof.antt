@@ -4,13 +4,17 @@ use Rattle.plans.proofs.bindings.variables_right.Statement.{statement}
 use Rattle.plans.proofs.bindings.variables_right.Tie as tie
 
 all-bound-requires : tie.Need-all-bound-requires
-all-bound-requires c κs = c .before .before .pre
+all-bound-requires c κs =
+    let pre = c .before .before .pre in
+    pre
 
 all-differ-requires : tie.Need-all-differ-requires
 all-differ-requires c κs = search needs
 
 returns : tie.Need-returns
-returns c = rw (← c .before .before .all-bound .ensures, c .before .if1 .taken) (c .all-differ .ensures)
+returns c =
+    let all-bound = c .before .before .all-bound in
+    rw (← all-bound .ensures, c .before .if1 .taken) (c .all-differ .ensures)
 
 returns-2 : tie.Need-returns-2
 returns-2 c = rw (← c .before .all-bound .ensures, c .if1 .left)

@@ -11,7 +11,10 @@ pattern-count-requires : tie.Need-pattern-count-requires
 pattern-count-requires c κs = search needs
 
 returns : tie.Need-returns
-returns c = let n = c .before .pattern-count in rw (branch-none (c .before .before .before .args .p .now) (n .result) (n .ensures .0) (c .if1 .taken))
+returns c =
+    let n = c .before .pattern-count in
+    let args = c .before .before .before .args in
+    rw (branch-none (args .p .now) (n .result) (n .ensures .0) (c .if1 .taken))
 
 mul-at : tie.Need-mul-at
 mul-at c = omega arith
@@ -20,7 +23,10 @@ add-at : tie.Need-add-at
 add-at c = omega arith
 
 returns-2 : tie.Need-returns-2
-returns-2 c = let n = c .before .before .pattern-count in rw (branch-short (c .before .before .before .before .args .p .now) (n .result) (n .ensures .0) (c .before .if1 .left) (c .if2 .taken))
+returns-2 c =
+    let n = c .before .before .pattern-count in
+    let args = c .before .before .before .before .args in
+    rw (branch-short (args .p .now) (n .result) (n .ensures .0) (c .before .if1 .left) (c .if2 .taken))
 
 sub-terms : tie.Need-sub-terms
 sub-terms c = omega arith
@@ -53,12 +59,24 @@ enum-known-words : tie.Need-enum-known-words
 enum-known-words c = search needs
 
 returns-3 : tie.Need-returns-3
-returns-3 c = let n = c .before .before .before .before .before .before .before .before .before .pattern-count in let l = c .before .before .before .before .condition in
-    sym (branch-with (c .before .before .before .before .before .before .before .before .before .before .before .args .p .now) (n .result) (n .ensures .0) (c .before .before .before .before .before .before .before .before .if1 .left) (c .before .before .before .before .before .before .before .if2 .left) (l .result) (l .ensures) ∙ rw (c .before .before .words .given .1, lt-leb _ _ (c .if3 .taken)))
+returns-3 c =
+    let n = c .before .before .before .before .before .before .before .before .before .pattern-count in
+    let l = c .before .before .before .before .condition in
+    let args = c .before .before .before .before .before .before .before .before .before .before .before .args in
+    let if1 = c .before .before .before .before .before .before .before .before .if1 in
+    let if2 = c .before .before .before .before .before .before .before .if2 in
+    let words = c .before .before .words in
+    sym (branch-with (args .p .now) (n .result) (n .ensures .0) (if1 .left) (if2 .left) (l .result) (l .ensures) ∙ rw (words .given .1, lt-leb _ _ (c .if3 .taken)))
 
 add-t19 : tie.Need-add-t19
-add-t19 c = let n = c .before .before .before .before .before .before .before .before .before .pattern-count in let l = c .before .before .before .before .condition in
-    omega (arith, condition-words (c .before .before .before .before .before .before .before .before .before .before .before .args .p .now) (n .result) (n .ensures .0) (c .before .before .before .before .before .before .before .before .if1 .left) (c .before .before .before .before .before .before .before .if2 .left) (l .result) (l .ensures) _ _ _ (c .before .before .words .given .1))
+add-t19 c =
+    let n = c .before .before .before .before .before .before .before .before .before .pattern-count in
+    let l = c .before .before .before .before .condition in
+    let args = c .before .before .before .before .before .before .before .before .before .before .before .args in
+    let if1 = c .before .before .before .before .before .before .before .before .if1 in
+    let if2 = c .before .before .before .before .before .before .before .if2 in
+    let words = c .before .before .words in
+    omega (arith, condition-words (args .p .now) (n .result) (n .ensures .0) (if1 .left) (if2 .left) (l .result) (l .ensures) _ _ _ (words .given .1))
 
 all-wanted-requires : tie.Need-all-wanted-requires
 all-wanted-requires c κs = search needs
@@ -67,12 +85,24 @@ both-requires : tie.Need-both-requires
 both-requires c κs = search needs
 
 returns-4 : tie.Need-returns-4
-returns-4 c = let n = c .before .before .before .before .before .before .before .pattern-count in let l = c .before .before .condition in
-    sym (branch-with (c .before .before .before .before .before .before .before .before .before .args .p .now) (n .result) (n .ensures .0) (c .before .before .before .before .before .before .if1 .left) (c .before .before .before .before .before .if2 .left) (l .result) (l .ensures) ∙ rw (c .enum-told .given .1))
+returns-4 c =
+    let n = c .before .before .before .before .before .before .before .pattern-count in
+    let l = c .before .before .condition in
+    let args = c .before .before .before .before .before .before .before .before .before .args in
+    let if1 = c .before .before .before .before .before .before .if1 in
+    let if2 = c .before .before .before .before .before .if2 in
+    sym (branch-with (args .p .now) (n .result) (n .ensures .0) (if1 .left) (if2 .left) (l .result) (l .ensures) ∙ rw (c .enum-told .given .1))
 
 returns-5 : tie.Need-returns-5
-returns-5 c = let n = c .before .before .before .before .before .before .before .before .before .before .before .pattern-count in let l = c .before .before .before .before .before .before .condition in
-    sym (branch-with (c .before .before .before .before .before .before .before .before .before .before .before .before .before .args .p .now) (n .result) (n .ensures .0) (c .before .before .before .before .before .before .before .before .before .before .if1 .left) (c .before .before .before .before .before .before .before .before .before .if2 .left) (l .result) (l .ensures) ∙ rw (c .before .before .before .before .words .given .1, le-leb _ _ (c .before .before .if3 .left), c .both .ensures, c .before .all-wanted .ensures))
+returns-5 c =
+    let n = c .before .before .before .before .before .before .before .before .before .before .before .pattern-count in
+    let l = c .before .before .before .before .before .before .condition in
+    let args = c .before .before .before .before .before .before .before .before .before .before .before .before .before .args in
+    let if1 = c .before .before .before .before .before .before .before .before .before .before .if1 in
+    let if2 = c .before .before .before .before .before .before .before .before .before .if2 in
+    let words = c .before .before .before .before .words in
+    let if3 = c .before .before .if3 in
+    sym (branch-with (args .p .now) (n .result) (n .ensures .0) (if1 .left) (if2 .left) (l .result) (l .ensures) ∙ rw (words .given .1, le-leb _ _ (if3 .left), c .both .ensures, c .before .all-wanted .ensures))
 
 pub branch-spec : {M : Type 1} → statement M
 branch-spec =

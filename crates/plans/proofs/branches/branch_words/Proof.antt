@@ -21,10 +21,18 @@ mul-condition : tie.Need-mul-condition
 mul-condition c = omega arith
 
 sub-condition : tie.Need-sub-condition
-sub-condition c = let n = c .pattern-count in omega (arith, branch-room (c .before .before .args .p .now) (c .before .before .pre) (n .result) (n .ensures .0))
+sub-condition c =
+    let n = c .pattern-count in
+    let args = c .before .before .args in
+    let pre = c .before .before .pre in
+    omega (arith, branch-room (args .p .now) pre (n .result) (n .ensures .0))
 
 part-condition-start : tie.Need-part-condition-start
-part-condition-start c = let n = c .pattern-count in omega (arith, branch-room (c .before .before .args .p .now) (c .before .before .pre) (n .result) (n .ensures .0))
+part-condition-start c =
+    let n = c .pattern-count in
+    let args = c .before .before .args in
+    let pre = c .before .before .pre in
+    omega (arith, branch-room (args .p .now) pre (n .result) (n .ensures .0))
 
 part-condition-end : tie.Need-part-condition-end
 part-condition-end c = omega arith
@@ -42,16 +50,28 @@ enum-known-words : tie.Need-enum-known-words
 enum-known-words c = search needs
 
 add-result : tie.Need-add-result
-add-result c = let n = c .before .before .before .before .before .before .pattern-count in let l = c .before .before .before .condition in let p = c .before .before .before .before .before .before .before .before .args .p .now in
-    omega (arith, branch-in p (c .before .before .before .before .before .before .before .before .pre) .fit, words-in p (c .before .before .before .before .before .before .before .before .pre) (n .result) (n .ensures .0), reads-words _ (readCondition mostDepth (lentCondition (n .result) p)) _ _ _ (sym (l .ensures) ∙ c .before .words .given .1))
+add-result c =
+    let n = c .before .before .before .before .before .before .pattern-count in
+    let l = c .before .before .before .condition in
+    let p = c .before .before .before .before .before .before .before .before .args .p .now in
+    let pre = c .before .before .before .before .before .before .before .before .pre in
+    omega (arith, branch-in p pre .fit, words-in p pre (n .result) (n .ensures .0), reads-words _ (readCondition mostDepth (lentCondition (n .result) p)) _ _ _ (sym (l .ensures) ∙ c .before .words .given .1))
 
 returns : tie.Need-returns
-returns c = let n = c .before .before .before .before .before .pattern-count in let l = c .before .before .condition in let p = c .before .before .before .before .before .before .before .args .p .now in
-    omega (arith, words-in p (c .before .before .before .before .before .before .before .pre) (n .result) (n .ensures .0), bad-words _ (readCondition mostDepth (lentCondition (n .result) p)) (sym (l .ensures) ∙ c .enum-told .given .1))
+returns c =
+    let n = c .before .before .before .before .before .pattern-count in
+    let l = c .before .before .condition in
+    let p = c .before .before .before .before .before .before .before .args .p .now in
+    let pre = c .before .before .before .before .before .before .before .pre in
+    omega (arith, words-in p pre (n .result) (n .ensures .0), bad-words _ (readCondition mostDepth (lentCondition (n .result) p)) (sym (l .ensures) ∙ c .enum-told .given .1))
 
 returns-2 : tie.Need-returns-2
-returns-2 c = let n = c .before .before .before .before .before .before .pattern-count in let l = c .before .before .before .condition in let p = c .before .before .before .before .before .before .before .before .args .p .now in
-    omega (arith, words-in p (c .before .before .before .before .before .before .before .before .pre) (n .result) (n .ensures .0), reads-words _ (readCondition mostDepth (lentCondition (n .result) p)) _ _ _ (sym (l .ensures) ∙ c .before .words .given .1))
+returns-2 c =
+    let n = c .before .before .before .before .before .before .pattern-count in
+    let l = c .before .before .before .condition in
+    let p = c .before .before .before .before .before .before .before .before .args .p .now in
+    let pre = c .before .before .before .before .before .before .before .before .pre in
+    omega (arith, words-in p pre (n .result) (n .ensures .0), reads-words _ (readCondition mostDepth (lentCondition (n .result) p)) _ _ _ (sym (l .ensures) ∙ c .before .words .given .1))
 
 pub branch-words-spec : {M : Type 1} → statement M
 branch-words-spec =

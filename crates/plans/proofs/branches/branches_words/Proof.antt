@@ -26,10 +26,17 @@ part-branch-words-end : tie.Need-part-branch-words-end Inv-loop μ-loop
 part-branch-words-end c = omega arith
 
 branch-words-requires : tie.Need-branch-words-requires Inv-loop μ-loop
-branch-words-requires c κs = walk-read (c .before .before .before .before .args .count) (c .before .before .before .before .args .p .now) (c .before .before .loop .at) (c .before .before .loop .left) (c .before .before .loop .inv) (omega arith)
+branch-words-requires c κs =
+    let args = c .before .before .before .before .args in
+    let loop = c .before .before .loop in
+    walk-read (args .count) (args .p .now) (loop .at) (loop .left) (loop .inv) (omega arith)
 
 add-at : tie.Need-add-at Inv-loop μ-loop
-add-at c = let b = c .branch-words in omega (arith, walk-words (c .before .before .before .before .before .args .count) (c .before .before .before .before .before .args .p .now) (c .before .before .before .loop .at) (c .before .before .before .loop .left) (c .before .before .before .loop .inv) (omega arith) (b .result) (b .ensures))
+add-at c =
+    let b = c .branch-words in
+    let args = c .before .before .before .before .before .args in
+    let loop = c .before .before .before .loop in
+    omega (arith, walk-words (args .count) (args .p .now) (loop .at) (loop .left) (loop .inv) (omega arith) (b .result) (b .ensures))
 
 sub-left : tie.Need-sub-left Inv-loop μ-loop
 sub-left c = omega arith
@@ -38,10 +45,16 @@ loop-less : tie.Need-loop-less Inv-loop μ-loop
 loop-less c = omega arith
 
 loop-again : tie.Need-loop-again Inv-loop μ-loop
-loop-again c = let b = c .branch-words in walk-next (c .before .before .before .before .before .args .count) (c .before .before .before .before .before .args .p .now) (c .before .before .before .loop .at) (c .before .before .before .loop .left) (c .before .before .before .loop .inv) (omega arith) (b .result) (b .ensures)
+loop-again c =
+    let b = c .branch-words in
+    let args = c .before .before .before .before .before .args in
+    let loop = c .before .before .before .loop in
+    walk-next (args .count) (args .p .now) (loop .at) (loop .left) (loop .inv) (omega arith) (b .result) (b .ensures)
 
 returns : tie.Need-returns Inv-loop μ-loop
-returns c = walk-end (c .before .before .before .args .count) (c .before .before .before .args .p .now) (c .before .loop .at) (c .before .loop .left) (c .before .loop .inv) (omega arith)
+returns c =
+    let args = c .before .before .before .args in
+    walk-end (args .count) (args .p .now) (c .before .loop .at) (c .before .loop .left) (c .before .loop .inv) (omega arith)
 
 pub branches-words-spec : {M : Type 1} → statement M
 branches-words-spec =

@@ -18,16 +18,28 @@ mul-result : tie.Need-mul-result
 mul-result c = omega arith
 
 sub-result : tie.Need-sub-result
-sub-result c = let n = c .pattern-count in omega (arith, branch-room (c .before .before .args .p .now) (c .before .before .pre) (n .result) (n .ensures .0))
+sub-result c =
+    let n = c .pattern-count in
+    let args = c .before .before .args in
+    let pre = c .before .before .pre in
+    omega (arith, branch-room (args .p .now) pre (n .result) (n .ensures .0))
 
 part-result-start : tie.Need-part-result-start
-part-result-start c = let n = c .pattern-count in omega (arith, branch-room (c .before .before .args .p .now) (c .before .before .pre) (n .result) (n .ensures .0))
+part-result-start c =
+    let n = c .pattern-count in
+    let args = c .before .before .args in
+    let pre = c .before .before .pre in
+    omega (arith, branch-room (args .p .now) pre (n .result) (n .ensures .0))
 
 part-result-end : tie.Need-part-result-end
 part-result-end c = omega arith
 
 returns : tie.Need-returns
-returns c = let n = c .before .pattern-count in condition-in (c .before .before .before .args .p .now) (c .before .before .before .pre) (n .result) (n .ensures .0)
+returns c =
+    let n = c .before .pattern-count in
+    let args = c .before .before .before .args in
+    let pre = c .before .before .before .pre in
+    condition-in (args .p .now) pre (n .result) (n .ensures .0)
 
 pub condition-part-spec : {M : Type 1} → statement M
 condition-part-spec =

@@ -21,10 +21,18 @@ part-result-start : tie.Need-part-result-start
 part-result-start c = omega arith
 
 part-result-end : tie.Need-part-result-end
-part-result-end c = let n = c .pattern-count in omega (arith, branch-room (c .before .before .args .p .now) (c .before .before .pre) (n .result) (n .ensures .0))
+part-result-end c =
+    let n = c .pattern-count in
+    let args = c .before .before .args in
+    let pre = c .before .before .pre in
+    omega (arith, branch-room (args .p .now) pre (n .result) (n .ensures .0))
 
 returns : tie.Need-returns
-returns c = let n = c .before .pattern-count in terms-in (c .before .before .before .args .p .now) (c .before .before .before .pre) (n .result) (n .ensures .0)
+returns c =
+    let n = c .before .pattern-count in
+    let args = c .before .before .before .args in
+    let pre = c .before .before .before .pre in
+    terms-in (args .p .now) pre (n .result) (n .ensures .0)
 
 pub terms-spec : {M : Type 1} → statement M
 terms-spec =

@@ -10,7 +10,9 @@ is-bound-requires-2 : tie.Need-is-bound-requires-2
 is-bound-requires-2 c κs = search needs
 
 returns : tie.Need-returns
-returns c = rw (← c .before .before .is-bound .ensures, c .before .if1 .taken) (c .is-bound2 .ensures)
+returns c =
+    let is-bound = c .before .before .is-bound in
+    rw (← is-bound .ensures, c .before .if1 .taken) (c .is-bound2 .ensures)
 
 returns-2 : tie.Need-returns-2
 returns-2 c = rw (← c .before .is-bound .ensures, c .if1 .left)

@@ -18,7 +18,9 @@ both-bound-requires : tie.Need-both-bound-requires
 both-bound-requires c κs = search needs
 
 returns-2 : tie.Need-returns-2
-returns-2 c = rw (le-ltb _ _ (c .before .before .before .if1 .left), c .both-bound .ensures)
+returns-2 c =
+    let if1 = c .before .before .before .if1 in
+    rw (le-ltb _ _ (if1 .left), c .both-bound .ensures)
 
 pub comparison-spec : {M : Type 1} → statement M
 comparison-spec =

@@ -12,10 +12,14 @@ enum-known-tree : tie.Need-enum-known-tree
 enum-known-tree c = search needs
 
 add-t6 : tie.Need-add-t6
-add-t6 c = let h = rw (c .before .tree .given .1) at (c .before .before .before .pre) in omega arith
+add-t6 c =
+    let pre = c .before .before .before .pre in
+    let h = rw (c .before .tree .given .1) at pre in omega arith
 
 add-t7 : tie.Need-add-t7
-add-t7 c = let h = rw (c .before .tree .given .1) at (c .before .before .before .pre) in omega arith
+add-t7 c =
+    let pre = c .before .before .before .pre in
+    let h = rw (c .before .tree .given .1) at pre in omega arith
 
 returns : tie.Need-returns
 returns c = search needs

@@ -15,16 +15,27 @@ mul-result : tie.Need-mul-result
 mul-result c = omega arith
 
 sub-result : tie.Need-sub-result
-sub-result c = let n = c .row-width in omega (arith, rows-room (c .before .before .args .p .now) (n .result) (n .ensures .0) (c .before .before .pre))
+sub-result c =
+    let n = c .row-width in
+    let args = c .before .before .args in
+    let pre = c .before .before .pre in
+    omega (arith, rows-room (args .p .now) (n .result) (n .ensures .0) pre)
 
 part-result-start : tie.Need-part-result-start
-part-result-start c = let n = c .row-width in omega (arith, rows-room (c .before .before .args .p .now) (n .result) (n .ensures .0) (c .before .before .pre))
+part-result-start c =
+    let n = c .row-width in
+    let args = c .before .before .args in
+    let pre = c .before .before .pre in
+    omega (arith, rows-room (args .p .now) (n .result) (n .ensures .0) pre)
 
 part-result-end : tie.Need-part-result-end
 part-result-end c = omega arith
 
 returns : tie.Need-returns
-returns c = let n = c .before .row-width in rows-after (c .before .before .before .args .p .now) (n .result) (n .ensures .0)
+returns c =
+    let n = c .before .row-width in
+    let args = c .before .before .before .args in
+    rows-after (args .p .now) (n .result) (n .ensures .0)
 
 pub after-rows-spec : {M : Type 1} → statement M
 after-rows-spec =

@@ -19,15 +19,23 @@ wide-requires : tie.Need-wide-requires
 wide-requires c κs = search needs
 
 returns : tie.Need-returns
-returns c = let e = c .before .before .before .before .before .args .e .now in
-    c .wide .ensures ∙ sym (ap bestIn (ending-top e (lastOf (getD e 0 0)) refl (sym (last-in e (c .before .before .before .before .before .pre .0)) ∙ c .before .before .before .before .before .pre .1)) ∙ rw (← c .before .before .before .first .ensures, ← c .before .before .low .ensures, eq-eqb _ _ (c .before .if1 .taken)))
+returns c =
+    let e = c .before .before .before .before .before .args .e .now in
+    let pre = c .before .before .before .before .before .pre in
+    let first = c .before .before .before .first in
+    let low = c .before .before .low in
+    c .wide .ensures ∙ sym (ap bestIn (ending-top e (lastOf (getD e 0 0)) refl (sym (last-in e (pre .0)) ∙ pre .1)) ∙ rw (← first .ensures, ← low .ensures, eq-eqb _ _ (c .before .if1 .taken)))
 
 wide-requires-2 : tie.Need-wide-requires-2
 wide-requires-2 c κs = search needs
 
 returns-2 : tie.Need-returns-2
-returns-2 c = let e = c .before .before .before .before .before .args .e .now in
-    c .wide2 .ensures ∙ sym (ap bestIn (ending-top e (lastOf (getD e 0 0)) refl (sym (last-in e (c .before .before .before .before .before .pre .0)) ∙ c .before .before .before .before .before .pre .1)) ∙ rw (← c .before .before .before .first .ensures, ← c .before .before .low .ensures, ne-eqb _ _ (c .before .if1 .left)))
+returns-2 c =
+    let e = c .before .before .before .before .before .args .e .now in
+    let pre = c .before .before .before .before .before .pre in
+    let first = c .before .before .before .first in
+    let low = c .before .before .low in
+    c .wide2 .ensures ∙ sym (ap bestIn (ending-top e (lastOf (getD e 0 0)) refl (sym (last-in e (pre .0)) ∙ pre .1)) ∙ rw (← first .ensures, ← low .ensures, ne-eqb _ _ (c .before .if1 .left)))
 
 pub best-count-spec : {M : Type 1} → statement M
 best-count-spec =

@@ -30,19 +30,30 @@ add-result : tie.Need-add-result
 add-result c = omega arith
 
 returns : tie.Need-returns
-returns c = let p = c .before .before .before .before .before .before .before .before .args .p .now in let t = c .before .before .before .before .before .last-of in
-    rw (form-rows p (t .result) (c .before .before .before .before .before .last-of .ensures ∙ ap lastOf (c .before .before .before .before .before .before .first .ensures)) (c .before .before .before .enum-told .given .1), ← c .before .before .rows-form .ensures, c .before .if1 .taken, ← c .row-width .ensures .0)
+returns c =
+    let p = c .before .before .before .before .before .before .before .before .args .p .now in
+    let t = c .before .before .before .before .before .last-of in
+    let first = c .before .before .before .before .before .before .first in
+    let enum-told = c .before .before .before .enum-told in
+    let rows-form = c .before .before .rows-form in
+    rw (form-rows p (t .result) (t .ensures ∙ ap lastOf (first .ensures)) (enum-told .given .1), ← rows-form .ensures, c .before .if1 .taken, ← c .row-width .ensures .0)
 
 enum-told-2 : tie.Need-enum-told-2
 enum-told-2 c = search needs
 
 sub-rest : tie.Need-sub-rest
-sub-rest c = let p = c .before .before .before .before .before .args .p .now in let t = c .before .before .last-of in
-    omega (arith, some-word p (t .result) (c .before .before .last-of .ensures ∙ ap lastOf (c .before .before .before .first .ensures)) (λ e. let z : _≡_ {A = ℕ} 0 1 = cc (c .enum-told2 .given .1) in omega arith))
+sub-rest c =
+    let p = c .before .before .before .before .before .args .p .now in
+    let t = c .before .before .last-of in
+    let first = c .before .before .before .first in
+    omega (arith, some-word p (t .result) (t .ensures ∙ ap lastOf (first .ensures)) (λ e. let z : _≡_ {A = ℕ} 0 1 = cc (c .enum-told2 .given .1) in omega arith))
 
 part-rest-start : tie.Need-part-rest-start
-part-rest-start c = let p = c .before .before .before .before .before .args .p .now in let t = c .before .before .last-of in
-    omega (arith, some-word p (t .result) (c .before .before .last-of .ensures ∙ ap lastOf (c .before .before .before .first .ensures)) (λ e. let z : _≡_ {A = ℕ} 0 1 = cc (c .enum-told2 .given .1) in omega arith))
+part-rest-start c =
+    let p = c .before .before .before .before .before .args .p .now in
+    let t = c .before .before .last-of in
+    let first = c .before .before .before .first in
+    omega (arith, some-word p (t .result) (t .ensures ∙ ap lastOf (first .ensures)) (λ e. let z : _≡_ {A = ℕ} 0 1 = cc (c .enum-told2 .given .1) in omega arith))
 
 part-rest-end : tie.Need-part-rest-end
 part-rest-end c = omega arith
@@ -60,12 +71,18 @@ mul-keys-form : tie.Need-mul-keys-form
 mul-keys-form c = omega arith
 
 sub-keys-form : tie.Need-sub-keys-form
-sub-keys-form c = let p = c .before .before .before .before .before .before .before .before .before .args .p .now in let n = c .row-width2 in
-    omega (arith, rows-room (take (length p - 1) (drop 1 p)) (n .result) (n .ensures .0) (sym (c .before .before .rows-form2 .ensures) ∙ c .before .if2 .taken))
+sub-keys-form c =
+    let p = c .before .before .before .before .before .before .before .before .before .args .p .now in
+    let n = c .row-width2 in
+    let rows-form2 = c .before .before .rows-form2 in
+    omega (arith, rows-room (take (length p - 1) (drop 1 p)) (n .result) (n .ensures .0) (sym (rows-form2 .ensures) ∙ c .before .if2 .taken))
 
 part-keys-form-start : tie.Need-part-keys-form-start
-part-keys-form-start c = let p = c .before .before .before .before .before .before .before .before .before .args .p .now in let n = c .row-width2 in
-    omega (arith, rows-room (take (length p - 1) (drop 1 p)) (n .result) (n .ensures .0) (sym (c .before .before .rows-form2 .ensures) ∙ c .before .if2 .taken))
+part-keys-form-start c =
+    let p = c .before .before .before .before .before .before .before .before .before .args .p .now in
+    let n = c .row-width2 in
+    let rows-form2 = c .before .before .rows-form2 in
+    omega (arith, rows-room (take (length p - 1) (drop 1 p)) (n .result) (n .ensures .0) (sym (rows-form2 .ensures) ∙ c .before .if2 .taken))
 
 part-keys-form-end : tie.Need-part-keys-form-end
 part-keys-form-end c = omega arith
@@ -74,8 +91,15 @@ keys-form-requires : tie.Need-keys-form-requires
 keys-form-requires c κs = search needs
 
 returns-2 : tie.Need-returns-2
-returns-2 c = let p = c .before .before .before .before .before .before .before .before .before .before .before .args .p .now in let t = c .before .before .before .before .before .before .before .before .last-of in let n = c .before .before .row-width2 in
-    rw (form-top p (t .result) (c .before .before .before .before .before .before .before .before .last-of .ensures ∙ ap lastOf (c .before .before .before .before .before .before .before .before .before .first .ensures)) (c .before .before .before .before .before .before .enum-told2 .given .1), ← c .before .before .before .before .rows-form2 .ensures, c .before .before .before .if2 .taken, ← rows-after (take (length p - 1) (drop 1 p)) (n .result) (n .ensures .0)) (c .keys-form .ensures)
+returns-2 c =
+    let p = c .before .before .before .before .before .before .before .before .before .before .before .args .p .now in
+    let t = c .before .before .before .before .before .before .before .before .last-of in
+    let n = c .before .before .row-width2 in
+    let first = c .before .before .before .before .before .before .before .before .before .first in
+    let enum-told2 = c .before .before .before .before .before .before .enum-told2 in
+    let rows-form2 = c .before .before .before .before .rows-form2 in
+    let if2 = c .before .before .before .if2 in
+    rw (form-top p (t .result) (t .ensures ∙ ap lastOf (first .ensures)) (enum-told2 .given .1), ← rows-form2 .ensures, if2 .taken, ← rows-after (take (length p - 1) (drop 1 p)) (n .result) (n .ensures .0)) (c .keys-form .ensures)
 
 enum-told-3 : tie.Need-enum-told-3
 enum-told-3 c = search needs
@@ -105,26 +129,52 @@ all-wanted-requires : tie.Need-all-wanted-requires
 all-wanted-requires c κs = search needs
 
 returns-3 : tie.Need-returns-3
-returns-3 c = let p = c .before .before .before .before .before .before .before .before .before .before .before .args .p .now in let t = c .before .before .before .before .before .before .before .before .last-of in
-    rw (form-group p (t .result) (c .before .before .before .before .before .before .before .before .last-of .ensures ∙ ap lastOf (c .before .before .before .before .before .before .before .before .before .first .ensures)) (c .before .before .before .before .before .before .enum-told3 .given .1), ← c .before .before .before .before .before .first2 .ensures, ← c .before .before .before .before .low .ensures, ← c .before .before .before .wide .ensures, eq-eqb _ _ (c .before .before .if3 .taken)) (c .all-wanted .ensures)
+returns-3 c =
+    let p = c .before .before .before .before .before .before .before .before .before .before .before .args .p .now in
+    let t = c .before .before .before .before .before .before .before .before .last-of in
+    let first = c .before .before .before .before .before .before .before .before .before .first in
+    let enum-told3 = c .before .before .before .before .before .before .enum-told3 in
+    let first2 = c .before .before .before .before .before .first2 in
+    let low = c .before .before .before .before .low in
+    let wide = c .before .before .before .wide in
+    let if3 = c .before .before .if3 in
+    rw (form-group p (t .result) (t .ensures ∙ ap lastOf (first .ensures)) (enum-told3 .given .1), ← first2 .ensures, ← low .ensures, ← wide .ensures, eq-eqb _ _ (if3 .taken)) (c .all-wanted .ensures)
 
 enum-told-4 : tie.Need-enum-told-4
 enum-told-4 c = search needs
 
 returns-4 : tie.Need-returns-4
-returns-4 c = let p = c .before .before .before .before .before .before .before .args .p .now in let t = c .before .before .before .before .last-of in
-    rw (form-rows p (t .result) (c .before .before .before .before .last-of .ensures ∙ ap lastOf (c .before .before .before .before .before .first .ensures)) (c .before .before .enum-told .given .1), ← c .before .rows-form .ensures, c .if1 .left)
+returns-4 c =
+    let p = c .before .before .before .before .before .before .before .args .p .now in
+    let t = c .before .before .before .before .last-of in
+    let first = c .before .before .before .before .before .first in
+    let enum-told = c .before .before .enum-told in
+    rw (form-rows p (t .result) (t .ensures ∙ ap lastOf (first .ensures)) (enum-told .given .1), ← c .before .rows-form .ensures, c .if1 .left)
 
 returns-5 : tie.Need-returns-5
-returns-5 c = let p = c .before .before .before .before .before .before .before .before .args .p .now in let t = c .before .before .before .before .before .last-of in
-    rw (form-top p (t .result) (c .before .before .before .before .before .last-of .ensures ∙ ap lastOf (c .before .before .before .before .before .before .first .ensures)) (c .before .before .before .enum-told2 .given .1), ← c .before .rows-form2 .ensures, c .if2 .left)
+returns-5 c =
+    let p = c .before .before .before .before .before .before .before .before .args .p .now in
+    let t = c .before .before .before .before .before .last-of in
+    let first = c .before .before .before .before .before .before .first in
+    let enum-told2 = c .before .before .before .enum-told2 in
+    rw (form-top p (t .result) (t .ensures ∙ ap lastOf (first .ensures)) (enum-told2 .given .1), ← c .before .rows-form2 .ensures, c .if2 .left)
 
 returns-6 : tie.Need-returns-6
-returns-6 c = let p = c .before .before .before .before .before .before .before .before .before .args .p .now in let t = c .before .before .before .before .before .before .last-of in
-    rw (form-group p (t .result) (c .before .before .before .before .before .before .last-of .ensures ∙ ap lastOf (c .before .before .before .before .before .before .before .first .ensures)) (c .before .before .before .before .enum-told3 .given .1), ← c .before .before .before .first2 .ensures, ← c .before .before .low .ensures, ← c .before .wide .ensures, ne-eqb _ _ (c .if3 .left))
+returns-6 c =
+    let p = c .before .before .before .before .before .before .before .before .before .args .p .now in
+    let t = c .before .before .before .before .before .before .last-of in
+    let first = c .before .before .before .before .before .before .before .first in
+    let enum-told3 = c .before .before .before .before .enum-told3 in
+    let first2 = c .before .before .before .first2 in
+    let low = c .before .before .low in
+    rw (form-group p (t .result) (t .ensures ∙ ap lastOf (first .ensures)) (enum-told3 .given .1), ← first2 .ensures, ← low .ensures, ← c .before .wide .ensures, ne-eqb _ _ (c .if3 .left))
 
 returns-7 : tie.Need-returns-7
-returns-7 c = let t = c .before .before .last-of in sym (form-neither (c .before .before .before .before .before .args .p .now) (t .result) (c .before .before .last-of .ensures ∙ ap lastOf (c .before .before .before .first .ensures)) (c .enum-told4 .given .1))
+returns-7 c =
+    let t = c .before .before .last-of in
+    let args = c .before .before .before .before .before .args in
+    let first = c .before .before .before .first in
+    sym (form-neither (args .p .now) (t .result) (t .ensures ∙ ap lastOf (first .ensures)) (c .enum-told4 .given .1))
 
 pub ending-form-spec : {M : Type 1} → statement M
 ending-form-spec =

@@ -13,7 +13,10 @@ last-of-requires : tie.Need-last-of-requires
 last-of-requires c κs = search needs
 
 returns : tie.Need-returns
-returns c = c .last-of .ensures ∙ ap lastOf (c .before .first .ensures) ∙ sym (last-in (c .before .before .before .args .e .now) (c .before .before .before .pre))
+returns c =
+    let args = c .before .before .before .args in
+    let pre = c .before .before .before .pre in
+    c .last-of .ensures ∙ ap lastOf (c .before .first .ensures) ∙ sym (last-in (args .e .now) pre)
 
 pub ending-kind-spec : {M : Type 1} → statement M
 ending-kind-spec = tie.close (tie.spec first-requires last-of-requires returns)

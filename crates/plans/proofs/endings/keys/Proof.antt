@@ -21,18 +21,31 @@ enum-told : tie.Need-enum-told
 enum-told c = search needs
 
 sub-after-rows : tie.Need-sub-after-rows
-sub-after-rows c = let e = c .before .before .before .before .before .args .e .now in let t = c .before .before .last-of in
-    omega (arith, some-word e (t .result) (c .before .before .last-of .ensures ∙ ap lastOf (c .before .before .before .first .ensures)) (not-neither e (t .result) (c .before .before .last-of .ensures ∙ ap lastOf (c .before .before .before .first .ensures)) (c .before .before .before .before .before .pre)))
+sub-after-rows c =
+    let e = c .before .before .before .before .before .args .e .now in
+    let t = c .before .before .last-of in
+    let first = c .before .before .before .first in
+    let pre = c .before .before .before .before .before .pre in
+    omega (arith, some-word e (t .result) (t .ensures ∙ ap lastOf (first .ensures)) (not-neither e (t .result) (t .ensures ∙ ap lastOf (first .ensures)) pre))
 
 part-after-rows-start : tie.Need-part-after-rows-start
-part-after-rows-start c = let e = c .before .before .before .before .before .args .e .now in let t = c .before .before .last-of in
-    omega (arith, some-word e (t .result) (c .before .before .last-of .ensures ∙ ap lastOf (c .before .before .before .first .ensures)) (not-neither e (t .result) (c .before .before .last-of .ensures ∙ ap lastOf (c .before .before .before .first .ensures)) (c .before .before .before .before .before .pre)))
+part-after-rows-start c =
+    let e = c .before .before .before .before .before .args .e .now in
+    let t = c .before .before .last-of in
+    let first = c .before .before .before .first in
+    let pre = c .before .before .before .before .before .pre in
+    omega (arith, some-word e (t .result) (t .ensures ∙ ap lastOf (first .ensures)) (not-neither e (t .result) (t .ensures ∙ ap lastOf (first .ensures)) pre))
 
 part-after-rows-end : tie.Need-part-after-rows-end
 part-after-rows-end c = omega arith
 
 after-rows-requires : tie.Need-after-rows-requires
-after-rows-requires c κs = let e = c .before .before .before .before .before .before .args .e .now in let t = c .before .before .before .last-of in rows-next e (t .result) (c .before .before .before .last-of .ensures ∙ ap lastOf (c .before .before .before .before .first .ensures)) (c .before .before .before .before .before .before .pre) (c .before .enum-told .given .1)
+after-rows-requires c κs =
+    let e = c .before .before .before .before .before .before .args .e .now in
+    let t = c .before .before .before .last-of in
+    let first = c .before .before .before .before .first in
+    let pre = c .before .before .before .before .before .before .pre in
+    rows-next e (t .result) (t .ensures ∙ ap lastOf (first .ensures)) pre (c .before .enum-told .given .1)
 
 enum-told-2 : tie.Need-enum-told-2
 enum-told-2 c = search needs
@@ -53,16 +66,34 @@ slice-aggregate-result-3 : tie.Need-slice-aggregate-result-3
 slice-aggregate-result-3 c = omega arith
 
 returns : tie.Need-returns
-returns c = let e = c .before .before .before .before .before .before .before .args .e .now in let t = c .before .before .before .before .last-of in c .after-rows .ensures ∙ sym (ap keysIn (ending-top e (t .result) (c .before .before .before .before .last-of .ensures ∙ ap lastOf (c .before .before .before .before .before .first .ensures)) (c .before .before .enum-told .given .1)))
+returns c =
+    let e = c .before .before .before .before .before .before .before .args .e .now in
+    let t = c .before .before .before .before .last-of in
+    let first = c .before .before .before .before .before .first in
+    let enum-told = c .before .before .enum-told in
+    c .after-rows .ensures ∙ sym (ap keysIn (ending-top e (t .result) (t .ensures ∙ ap lastOf (first .ensures)) (enum-told .given .1)))
 
 returns-2 : tie.Need-returns-2
-returns-2 c = let e = c .before .before .before .before .before .before .args .e .now in let t = c .before .before .before .last-of in sym (ap keysIn (ending-rows e (t .result) (c .before .before .before .last-of .ensures ∙ ap lastOf (c .before .before .before .before .first .ensures)) (c .before .enum-told2 .given .1)))
+returns-2 c =
+    let e = c .before .before .before .before .before .before .args .e .now in
+    let t = c .before .before .before .last-of in
+    let first = c .before .before .before .before .first in
+    sym (ap keysIn (ending-rows e (t .result) (t .ensures ∙ ap lastOf (first .ensures)) (c .before .enum-told2 .given .1)))
 
 returns-3 : tie.Need-returns-3
-returns-3 c = let e = c .before .before .before .before .before .before .args .e .now in let t = c .before .before .before .last-of in sym (ap keysIn (ending-group e (t .result) (c .before .before .before .last-of .ensures ∙ ap lastOf (c .before .before .before .before .first .ensures)) (c .before .enum-told3 .given .1) (low (getD e 0 0)) refl))
+returns-3 c =
+    let e = c .before .before .before .before .before .before .args .e .now in
+    let t = c .before .before .before .last-of in
+    let first = c .before .before .before .before .first in
+    sym (ap keysIn (ending-group e (t .result) (t .ensures ∙ ap lastOf (first .ensures)) (c .before .enum-told3 .given .1) (low (getD e 0 0)) refl))
 
 returns-4 : tie.Need-returns-4
-returns-4 c = let e = c .before .before .before .before .before .before .args .e .now in let t = c .before .before .before .last-of in absurd (not-neither e (t .result) (c .before .before .before .last-of .ensures ∙ ap lastOf (c .before .before .before .before .first .ensures)) (c .before .before .before .before .before .before .pre) (c .before .enum-told4 .given .1))
+returns-4 c =
+    let e = c .before .before .before .before .before .before .args .e .now in
+    let t = c .before .before .before .last-of in
+    let first = c .before .before .before .before .first in
+    let pre = c .before .before .before .before .before .before .pre in
+    absurd (not-neither e (t .result) (t .ensures ∙ ap lastOf (first .ensures)) pre (c .before .enum-told4 .given .1))
 
 pub keys-spec : {M : Type 1} → statement M
 keys-spec =

@@ -13,27 +13,44 @@ low-requires c κs = search needs
 
 returns : tie.Need-returns
 unfolding lastOf
-returns c = rw (← c .before .before .before .kind .ensures, ← c .before .before .low .ensures, c .before .match .keys2, le-leb _ _ (c .if1 .taken))
+returns c =
+    let kind = c .before .before .before .kind in
+    let low = c .before .before .low in
+    rw (← kind .ensures, ← low .ensures, c .before .match .keys2, le-leb _ _ (c .if1 .taken))
 
 returns-2 : tie.Need-returns-2
 unfolding lastOf
-returns-2 c = rw (← c .before .before .before .kind .ensures, ← c .before .before .low .ensures, c .before .match .keys3, le-leb _ _ (c .if2 .taken))
+returns-2 c =
+    let kind = c .before .before .before .kind in
+    let low = c .before .before .low in
+    rw (← kind .ensures, ← low .ensures, c .before .match .keys3, le-leb _ _ (c .if2 .taken))
 
 returns-3 : tie.Need-returns-3
 unfolding lastOf
-returns-3 c = rw (← c .before .before .kind .ensures, ← c .before .low .ensures, c .match .keys1)
+returns-3 c =
+    let kind = c .before .before .kind in
+    rw (← kind .ensures, ← c .before .low .ensures, c .match .keys1)
 
 returns-4 : tie.Need-returns-4
 unfolding lastOf
-returns-4 c = rw (← c .before .before .before .kind .ensures, ← c .before .before .low .ensures, c .before .match .keys2, lt-leb _ _ (c .if1 .left))
+returns-4 c =
+    let kind = c .before .before .before .kind in
+    let low = c .before .before .low in
+    rw (← kind .ensures, ← low .ensures, c .before .match .keys2, lt-leb _ _ (c .if1 .left))
 
 returns-5 : tie.Need-returns-5
 unfolding lastOf
-returns-5 c = rw (← c .before .before .before .kind .ensures, ← c .before .before .low .ensures, c .before .match .keys3, lt-leb _ _ (c .if2 .left))
+returns-5 c =
+    let kind = c .before .before .before .kind in
+    let low = c .before .before .low in
+    rw (← kind .ensures, ← low .ensures, c .before .match .keys3, lt-leb _ _ (c .if2 .left))
 
 returns-6 : tie.Need-returns-6
 unfolding lastOf
-returns-6 c = let r = c .match .rest in rw (← c .before .before .kind .ensures, ← c .before .low .ensures, ne-eqb _ _ (r .0 .0 .1), ne-eqb _ _ (r .0 .1), ne-eqb _ _ (r .1))
+returns-6 c =
+    let r = c .match .rest in
+    let kind = c .before .before .kind in
+    rw (← kind .ensures, ← c .before .low .ensures, ne-eqb _ _ (r .0 .0 .1), ne-eqb _ _ (r .0 .1), ne-eqb _ _ (r .1))
 
 pub last-of-spec : {M : Type 1} → statement M
 last-of-spec =

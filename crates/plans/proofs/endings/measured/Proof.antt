@@ -27,12 +27,22 @@ mul-result : tie.Need-mul-result
 mul-result c = omega arith
 
 shared-slice-read-result : tie.Need-shared-slice-read-result
-shared-slice-read-result c = let e = c .before .before .before .before .before .args .e .now in let w = c .before .wide in
-    omega (arith, group-room e (lastOf (getD e 0 0)) refl (c .before .before .before .before .before .pre .0) (sym (last-in e (c .before .before .before .before .before .pre .0)) ∙ c .before .before .before .before .before .pre .1) (w .result) (w .ensures ∙ c .before .before .low .ensures ∙ ap low (c .before .before .before .first .ensures)))
+shared-slice-read-result c =
+    let e = c .before .before .before .before .before .args .e .now in
+    let w = c .before .wide in
+    let pre = c .before .before .before .before .before .pre in
+    let the-low = c .before .before .low in
+    let first = c .before .before .before .first in
+    omega (arith, group-room e (lastOf (getD e 0 0)) refl (pre .0) (sym (last-in e (pre .0)) ∙ pre .1) (w .result) (w .ensures ∙ the-low .ensures ∙ ap low (first .ensures)))
 
 returns : tie.Need-returns
-returns c = let e = c .before .before .before .before .before .args .e .now in let w = c .before .wide in
-    sym (ap measuredIn (ending-group e (lastOf (getD e 0 0)) refl (sym (last-in e (c .before .before .before .before .before .pre .0)) ∙ c .before .before .before .before .before .pre .1) (w .result) (w .ensures ∙ c .before .before .low .ensures ∙ ap low (c .before .before .before .first .ensures))))
+returns c =
+    let e = c .before .before .before .before .before .args .e .now in
+    let w = c .before .wide in
+    let pre = c .before .before .before .before .before .pre in
+    let the-low = c .before .before .low in
+    let first = c .before .before .before .first in
+    sym (ap measuredIn (ending-group e (lastOf (getD e 0 0)) refl (sym (last-in e (pre .0)) ∙ pre .1) (w .result) (w .ensures ∙ the-low .ensures ∙ ap low (first .ensures))))
 
 pub measured-spec : {M : Type 1} → statement M
 measured-spec =

@@ -18,10 +18,17 @@ part-result-start : tie.Need-part-result-start
 part-result-start c = omega arith
 
 part-result-end : tie.Need-part-result-end
-part-result-end c = let n = c .row-width in omega (arith, rows-room (c .before .before .args .p .now) (n .result) (n .ensures .0) (c .before .before .pre))
+part-result-end c =
+    let n = c .row-width in
+    let args = c .before .before .args in
+    let pre = c .before .before .pre in
+    omega (arith, rows-room (args .p .now) (n .result) (n .ensures .0) pre)
 
 returns : tie.Need-returns
-returns c = let n = c .before .row-width in rows-variables (c .before .before .before .args .p .now) (n .result) (n .ensures .0)
+returns c =
+    let n = c .before .row-width in
+    let args = c .before .before .before .args in
+    rows-variables (args .p .now) (n .result) (n .ensures .0)
 
 pub row-variables-spec : {M : Type 1} → statement M
 row-variables-spec =

@@ -10,7 +10,10 @@ row-width-requires : tie.Need-row-width-requires
 row-width-requires c κs = search needs
 
 returns : tie.Need-returns
-returns c = let n = c .before .row-width in sym (rows-none (c .before .before .before .args .p .now) (n .result) (n .ensures .0) (c .if1 .taken))
+returns c =
+    let n = c .before .row-width in
+    let args = c .before .before .before .args in
+    sym (rows-none (args .p .now) (n .result) (n .ensures .0) (c .if1 .taken))
 
 add-end : tie.Need-add-end
 add-end c = omega arith
@@ -28,10 +31,18 @@ all-wanted-requires : tie.Need-all-wanted-requires
 all-wanted-requires c κs = search needs
 
 returns-2 : tie.Need-returns-2
-returns-2 c = let n = c .before .before .before .before .row-width in c .all-wanted .ensures ∙ sym (rows-are (c .before .before .before .before .before .before .args .p .now) (n .result) (n .ensures .0) (c .before .before .before .if1 .left) (c .before .before .if2 .taken))
+returns-2 c =
+    let n = c .before .before .before .before .row-width in
+    let args = c .before .before .before .before .before .before .args in
+    let if1 = c .before .before .before .if1 in
+    let if2 = c .before .before .if2 in
+    c .all-wanted .ensures ∙ sym (rows-are (args .p .now) (n .result) (n .ensures .0) (if1 .left) (if2 .taken))
 
 returns-3 : tie.Need-returns-3
-returns-3 c = let n = c .before .before .row-width in sym (rows-short (c .before .before .before .before .args .p .now) (n .result) (n .ensures .0) (omega arith))
+returns-3 c =
+    let n = c .before .before .row-width in
+    let args = c .before .before .before .before .args in
+    sym (rows-short (args .p .now) (n .result) (n .ensures .0) (omega arith))
 
 pub rows-form-spec : {M : Type 1} → statement M
 rows-form-spec =

@@ -20,24 +20,42 @@ enum-told : tie.Need-enum-told
 enum-told c = search needs
 
 row-variables-requires : tie.Need-row-variables-requires
-row-variables-requires c κs = let e = c .before .before .before .before .before .args .e .now in let t = c .before .before .last-of in rows-here e (t .result) (c .before .before .last-of .ensures ∙ ap lastOf (c .before .before .before .first .ensures)) (c .before .before .before .before .before .pre) (c .enum-told .given .1)
+row-variables-requires c κs =
+    let e = c .before .before .before .before .before .args .e .now in
+    let t = c .before .before .last-of in
+    let first = c .before .before .before .first in
+    let pre = c .before .before .before .before .before .pre in
+    rows-here e (t .result) (t .ensures ∙ ap lastOf (first .ensures)) pre (c .enum-told .given .1)
 
 enum-told-2 : tie.Need-enum-told-2
 enum-told-2 c = search needs
 
 sub-row-variables : tie.Need-sub-row-variables
-sub-row-variables c = let e = c .before .before .before .before .before .args .e .now in let t = c .before .before .last-of in
-    omega (arith, some-word e (t .result) (c .before .before .last-of .ensures ∙ ap lastOf (c .before .before .before .first .ensures)) (not-neither e (t .result) (c .before .before .last-of .ensures ∙ ap lastOf (c .before .before .before .first .ensures)) (c .before .before .before .before .before .pre)))
+sub-row-variables c =
+    let e = c .before .before .before .before .before .args .e .now in
+    let t = c .before .before .last-of in
+    let first = c .before .before .before .first in
+    let pre = c .before .before .before .before .before .pre in
+    omega (arith, some-word e (t .result) (t .ensures ∙ ap lastOf (first .ensures)) (not-neither e (t .result) (t .ensures ∙ ap lastOf (first .ensures)) pre))
 
 part-row-variables-start : tie.Need-part-row-variables-start
-part-row-variables-start c = let e = c .before .before .before .before .before .args .e .now in let t = c .before .before .last-of in
-    omega (arith, some-word e (t .result) (c .before .before .last-of .ensures ∙ ap lastOf (c .before .before .before .first .ensures)) (not-neither e (t .result) (c .before .before .last-of .ensures ∙ ap lastOf (c .before .before .before .first .ensures)) (c .before .before .before .before .before .pre)))
+part-row-variables-start c =
+    let e = c .before .before .before .before .before .args .e .now in
+    let t = c .before .before .last-of in
+    let first = c .before .before .before .first in
+    let pre = c .before .before .before .before .before .pre in
+    omega (arith, some-word e (t .result) (t .ensures ∙ ap lastOf (first .ensures)) (not-neither e (t .result) (t .ensures ∙ ap lastOf (first .ensures)) pre))
 
 part-row-variables-end : tie.Need-part-row-variables-end
 part-row-variables-end c = omega arith
 
 row-variables-requires-2 : tie.Need-row-variables-requires-2
-row-variables-requires-2 c κs = let e = c .before .before .before .before .before .before .args .e .now in let t = c .before .before .before .last-of in rows-next e (t .result) (c .before .before .before .last-of .ensures ∙ ap lastOf (c .before .before .before .before .first .ensures)) (c .before .before .before .before .before .before .pre) (c .before .enum-told2 .given .1)
+row-variables-requires-2 c κs =
+    let e = c .before .before .before .before .before .before .args .e .now in
+    let t = c .before .before .before .last-of in
+    let first = c .before .before .before .before .first in
+    let pre = c .before .before .before .before .before .before .pre in
+    rows-next e (t .result) (t .ensures ∙ ap lastOf (first .ensures)) pre (c .before .enum-told2 .given .1)
 
 enum-told-3 : tie.Need-enum-told-3
 enum-told-3 c = search needs
@@ -61,24 +79,52 @@ part-result-start : tie.Need-part-result-start
 part-result-start c = omega arith
 
 part-result-end : tie.Need-part-result-end
-part-result-end c = let e = c .before .before .before .before .before .before .before .before .args .e .now in let t = c .before .before .before .before .before .last-of in let w = c .wide in
-    omega (arith, group-room e (t .result) (c .before .before .before .before .before .last-of .ensures ∙ ap lastOf (c .before .before .before .before .before .before .first .ensures)) (c .before .before .before .before .before .before .before .before .pre) (c .before .before .before .enum-told3 .given .1) (w .result) (w .ensures ∙ c .before .low .ensures ∙ ap low (c .before .before .first2 .ensures)))
+part-result-end c =
+    let e = c .before .before .before .before .before .before .before .before .args .e .now in
+    let t = c .before .before .before .before .before .last-of in
+    let w = c .wide in
+    let first = c .before .before .before .before .before .before .first in
+    let pre = c .before .before .before .before .before .before .before .before .pre in
+    let enum-told3 = c .before .before .before .enum-told3 in
+    let first2 = c .before .before .first2 in
+    omega (arith, group-room e (t .result) (t .ensures ∙ ap lastOf (first .ensures)) pre (enum-told3 .given .1) (w .result) (w .ensures ∙ c .before .low .ensures ∙ ap low (first2 .ensures)))
 
 enum-told-4 : tie.Need-enum-told-4
 enum-told-4 c = search needs
 
 returns : tie.Need-returns
-returns c = let e = c .before .before .before .before .before .before .args .e .now in let t = c .before .before .before .last-of in c .row-variables .ensures ∙ sym (ap variablesIn (ending-rows e (t .result) (c .before .before .before .last-of .ensures ∙ ap lastOf (c .before .before .before .before .first .ensures)) (c .before .enum-told .given .1)))
+returns c =
+    let e = c .before .before .before .before .before .before .args .e .now in
+    let t = c .before .before .before .last-of in
+    let first = c .before .before .before .before .first in
+    c .row-variables .ensures ∙ sym (ap variablesIn (ending-rows e (t .result) (t .ensures ∙ ap lastOf (first .ensures)) (c .before .enum-told .given .1)))
 
 returns-2 : tie.Need-returns-2
-returns-2 c = let e = c .before .before .before .before .before .before .before .args .e .now in let t = c .before .before .before .before .last-of in c .row-variables2 .ensures ∙ sym (ap variablesIn (ending-top e (t .result) (c .before .before .before .before .last-of .ensures ∙ ap lastOf (c .before .before .before .before .before .first .ensures)) (c .before .before .enum-told2 .given .1)))
+returns-2 c =
+    let e = c .before .before .before .before .before .before .before .args .e .now in
+    let t = c .before .before .before .before .last-of in
+    let first = c .before .before .before .before .before .first in
+    let enum-told2 = c .before .before .enum-told2 in
+    c .row-variables2 .ensures ∙ sym (ap variablesIn (ending-top e (t .result) (t .ensures ∙ ap lastOf (first .ensures)) (enum-told2 .given .1)))
 
 returns-3 : tie.Need-returns-3
-returns-3 c = let e = c .before .before .before .before .before .before .before .before .before .args .e .now in let t = c .before .before .before .before .before .before .last-of in let w = c .before .wide in
-    sym (ap variablesIn (ending-group e (t .result) (c .before .before .before .before .before .before .last-of .ensures ∙ ap lastOf (c .before .before .before .before .before .before .before .first .ensures)) (c .before .before .before .before .enum-told3 .given .1) (w .result) (w .ensures ∙ c .before .before .low .ensures ∙ ap low (c .before .before .before .first2 .ensures))))
+returns-3 c =
+    let e = c .before .before .before .before .before .before .before .before .before .args .e .now in
+    let t = c .before .before .before .before .before .before .last-of in
+    let w = c .before .wide in
+    let first = c .before .before .before .before .before .before .before .first in
+    let enum-told3 = c .before .before .before .before .enum-told3 in
+    let the-low = c .before .before .low in
+    let first2 = c .before .before .before .first2 in
+    sym (ap variablesIn (ending-group e (t .result) (t .ensures ∙ ap lastOf (first .ensures)) (enum-told3 .given .1) (w .result) (w .ensures ∙ the-low .ensures ∙ ap low (first2 .ensures))))
 
 returns-4 : tie.Need-returns-4
-returns-4 c = let e = c .before .before .before .before .before .args .e .now in let t = c .before .before .last-of in absurd (not-neither e (t .result) (c .before .before .last-of .ensures ∙ ap lastOf (c .before .before .before .first .ensures)) (c .before .before .before .before .before .pre) (c .enum-told4 .given .1))
+returns-4 c =
+    let e = c .before .before .before .before .before .args .e .now in
+    let t = c .before .before .last-of in
+    let first = c .before .before .before .first in
+    let pre = c .before .before .before .before .before .pre in
+    absurd (not-neither e (t .result) (t .ensures ∙ ap lastOf (first .ensures)) pre (c .enum-told4 .given .1))
 
 pub variables-spec : {M : Type 1} → statement M
 variables-spec =

@@ -42,16 +42,24 @@ among-requires : tie.Need-among-requires Inv-loop μ-loop
 among-requires c κs = tt
 
 returns : tie.Need-returns Inv-loop μ-loop
-returns c = sym (c .before .before .before .before .before .loop .inv .1 ∙ distinct-stops (c .before .before .before .before .before .before .before .args .words .now) (c .before .before .before .before .before .loop .i) (omega arith) (c .before .among .result) (c .before .among .ensures) (c .if1 .taken))
+returns c =
+    let loop = c .before .before .before .before .before .loop in
+    let args = c .before .before .before .before .before .before .before .args in
+    sym (loop .inv .1 ∙ distinct-stops (args .words .now) (loop .i) (omega arith) (c .before .among .result) (c .before .among .ensures) (c .if1 .taken))
 
 loop-less : tie.Need-loop-less Inv-loop μ-loop
 loop-less c = omega arith
 
 loop-again : tie.Need-loop-again Inv-loop μ-loop
-loop-again c = (omega arith, c .before .before .before .before .before .loop .inv .1 ∙ distinct-goes (c .before .before .before .before .before .before .before .args .words .now) (c .before .before .before .before .before .loop .i) (omega arith) (c .before .among .result) (c .before .among .ensures) (c .if1 .left))
+loop-again c =
+    let loop = c .before .before .before .before .before .loop in
+    let args = c .before .before .before .before .before .before .before .args in
+    (omega arith, loop .inv .1 ∙ distinct-goes (args .words .now) (loop .i) (omega arith) (c .before .among .result) (c .before .among .ensures) (c .if1 .left))
 
 returns-2 : tie.Need-returns-2 Inv-loop μ-loop
-returns-2 c = sym (c .before .loop .inv .1 ∙ distinct-end (c .before .before .before .args .words .now) (c .before .loop .i) (omega arith))
+returns-2 c =
+    let args = c .before .before .before .args in
+    sym (c .before .loop .inv .1 ∙ distinct-end (args .words .now) (c .before .loop .i) (omega arith))
 
 pub all-differ-spec : {M : Type 1} → statement M
 all-differ-spec =

@@ -24,7 +24,10 @@ shared-slice-read-if1 : tie.Need-shared-slice-read-if1 Inv-loop μ-loop
 shared-slice-read-if1 c = omega arith
 
 returns : tie.Need-returns Inv-loop μ-loop
-returns c = sym (c .before .before .before .loop .inv .1 ∙ member-stops (c .before .before .before .before .args .words .now) (c .before .before .before .loop .i) (c .before .before .before .before .args .word) (omega arith) (c .if1 .taken))
+returns c =
+    let loop = c .before .before .before .loop in
+    let args = c .before .before .before .before .args in
+    sym (loop .inv .1 ∙ member-stops (args .words .now) (loop .i) (args .word) (omega arith) (c .if1 .taken))
 
 add-i : tie.Need-add-i Inv-loop μ-loop
 add-i c = omega arith
@@ -33,10 +36,15 @@ loop-less : tie.Need-loop-less Inv-loop μ-loop
 loop-less c = omega arith
 
 loop-again : tie.Need-loop-again Inv-loop μ-loop
-loop-again c = (omega arith, c .before .before .before .loop .inv .1 ∙ member-goes (c .before .before .before .before .args .words .now) (c .before .before .before .loop .i) (c .before .before .before .before .args .word) (omega arith) (c .if1 .left))
+loop-again c =
+    let loop = c .before .before .before .loop in
+    let args = c .before .before .before .before .args in
+    (omega arith, loop .inv .1 ∙ member-goes (args .words .now) (loop .i) (args .word) (omega arith) (c .if1 .left))
 
 returns-2 : tie.Need-returns-2 Inv-loop μ-loop
-returns-2 c = sym (c .before .loop .inv .1 ∙ member-end (c .before .before .args .words .now) (c .before .loop .i) (c .before .before .args .word) (omega arith))
+returns-2 c =
+    let args = c .before .before .args in
+    sym (c .before .loop .inv .1 ∙ member-end (args .words .now) (c .before .loop .i) (args .word) (omega arith))
 
 pub among-spec : {M : Type 1} → statement M
 among-spec =

@@ -1,0 +1,10 @@
+-- Keys as words: their order. Assumes nothing: these are definitions.
+use Prim.Native.Nat.{ℕ}
+use mathlib.Core.Bool.{Bool}
+use mathlib.Core.List.{List, map}
+use Rattle.words.specs.Words.{keyRank}
+use Rattle.words.specs.Sequences.{lexBefore}
+
+-- keys come before others in the order of keys, from the first key on
+abbrev pub keysFirst : List ℕ → List ℕ → Bool
+keysFirst x y = lexBefore (map keyRank x) (map keyRank y)
