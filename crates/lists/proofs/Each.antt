@@ -3,7 +3,7 @@ use Prim.Native.Nat.{ℕ, zero, suc}
 use mathlib.Core.Path.{_≡_, refl}
 use mathlib.Core.Bool.{Bool, true}
 use mathlib.Core.List.{List, [], _∷_, _++_, map}
-use lib.ListN.{getD, take, drop}
+use lib.ListN.{take, drop}
 use Rattle.words.specs.Sequences.{all, keep}
 use Rattle.words.proofs.Booleans.{and-left, and-right, and-both, yes, no, decided}
 use Rattle.lists.specs.Rows.{insertBy, insertAllBy, sortBy, bestBy, ahead}
@@ -80,22 +80,8 @@ module _ {A : Type 0} (f : A → Bool) where
   all-each [] e = tt
   all-each (x ∷ xs) e = (and-left (f x) (all f xs) e, all-each xs (and-right (f x) (all f xs) e))
 
-  pub all-append : (xs ys : List A) → all f xs ≡ true → all f ys ≡ true → all f (xs ++ ys) ≡ true
-  all-append xs ys p q =
-      each-all (xs ++ ys) (each-append (λ x. f x ≡ true) xs ys (all-each xs p) (all-each ys q))
-
-  pub all-take : (k : ℕ) (xs : List A) → all f xs ≡ true → all f (take k xs) ≡ true
-  all-take k xs p = each-all (take k xs) (each-take (λ x. f x ≡ true) k xs (all-each xs p))
-
   pub all-drop : (k : ℕ) (xs : List A) → all f xs ≡ true → all f (drop k xs) ≡ true
   all-drop k xs p = each-all (drop k xs) (each-drop (λ x. f x ≡ true) k xs (all-each xs p))
-
-  -- at each place, and past the end if it passes at what is read there
-  pub all-getD : (xs : List A) (i : ℕ) (d : A) → all f xs ≡ true → f d ≡ true → f (getD xs i d) ≡ true
-  unfolding all
-  all-getD [] i d p q = q
-  all-getD (x ∷ xs) zero d p q = and-left (f x) (all f xs) p
-  all-getD (x ∷ xs) (suc i) d p q = all-getD xs i d (and-right (f x) (all f xs) p) q
 
 -- each row that a threshold leaves comes strictly before it
 pub each-strict : (before : List ℕ → List ℕ → Bool) (w : ℕ) (ws : List ℕ) (xs : List (List ℕ))

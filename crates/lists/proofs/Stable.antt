@@ -9,16 +9,13 @@ use borrow.Author.Tests.{not-true}
 use Rattle.lists.specs.Rows.{insertBy, insertAllBy, sortBy}
 use Rattle.lists.proofs.Inserting.{insert-nil, insert-here, insert-later}
 use Rattle.lists.proofs.Each.{Each}
+use Rattle.lists.proofs.Keeping.{keep-none}
 use Rattle.lists.proofs.Counts.{keep-nil, keep-yes, keep-no, keep-append}
 use Rattle.lists.proofs.Best.{Sorted, sorted-insert}
 
 -- neither comes before the other
 abbrev pub alike : {A : Type 0} → (A → A → Bool) → A → A → Bool
 alike before a x = not (before x a) && not (before a x)
-
-keep-none : {A : Type 0} (f : A → Bool) (xs : List A) → Each (λ x. f x ≡ false) xs → keep f xs ≡ []
-keep-none f [] n = keep-nil f
-keep-none f (x ∷ xs) n = keep-no f x xs (n .0) ∙ keep-none f xs (n .1)
 
 module _ {A : Type 0} (before : A → A → Bool) (o : Ordered before) (a : A) where
   -- what a row alike to a comes before, a comes before

@@ -1,12 +1,9 @@
 -- One name that opens every definition of this crate, for proofs that compute.
-use Rattle.lists.specs.BestLists.{placeIn}
 use Rattle.lists.specs.Delivering.{withRow}
-use Rattle.lists.specs.Finding.{foundBy}
 use Rattle.lists.specs.Gathering.{recordsIn, gathered, thresholdRight, merged, groupRight, listRight, totalsFit}
 use Rattle.lists.specs.Groups.{lesser, greater, keysBefore, addBy, addAllBy, groupWords, groupIn}
 use Rattle.lists.specs.Rows.{indexOf, rowRanks, rowBefore, insertBy, insertAllBy, sortBy, bestBy, ahead}
-use Rattle.lists.specs.Weaving.{walkedIn, walked, pickAt, joinWords, joinFits, woven, unionOf}
 
 unfoldable pub computing : Unit {0}
-unfolding placeIn withRow foundBy recordsIn gathered thresholdRight merged groupRight listRight totalsFit lesser greater keysBefore addBy addAllBy groupWords groupIn indexOf rowRanks rowBefore insertBy insertAllBy sortBy bestBy ahead walkedIn walked pickAt joinWords joinFits woven unionOf
+unfolding withRow recordsIn gathered thresholdRight merged groupRight listRight totalsFit lesser greater keysBefore addBy addAllBy groupWords groupIn indexOf rowRanks rowBefore insertBy insertAllBy sortBy bestBy ahead
 computing = tt

@@ -1,17 +1,9 @@
 pub mod Sides
 pub mod Moves
 pub mod Putting
-pub mod Keys
 pub mod Rows
 pub mod Groups
 pub mod Gathering
 pub mod Delivering
-pub mod GroupTotals
-pub mod Finding
-pub mod TakingRows
-pub mod GroupTests
-pub mod Weaving
-pub mod MergingGroups
 pub mod Thresholds
-pub mod BestLists
 pub mod Computing

@@ -8,14 +8,13 @@ ghost use lib.ListN.{length, take};
 ghost use lib.Seq.{paste};
 ghost use Rattle.plans.specs.Endings.{rows, mostRowVariables};
 ghost use Rattle.words.specs.Bindings.{nothingBound};
-ghost use Rattle.words.specs.Sequences.{all, over};
-ghost use Rattle.words.specs.Words.{isValue};
+ghost use Rattle.words.specs.Sequences.{over};
 ghost use Rattle.lists.specs.Rows.{project};
 ghost use Rattle.lists.specs.Delivering.{withRow};
 ghost use Rattle.lists.specs.Putting.{Taken};
 
 // Writes the row of some variables to a buffer from a place on.
-pub fn write_row(vars: &[u32], bound: &[u32; 16], buf: &mut [u32], at: usize)
+fn write_row(vars: &[u32], bound: &[u32; 16], buf: &mut [u32], at: usize)
     requires { ⌜ at + length (now vars) ≤ length (now buf) ⌝ }
     ensures { λ _. ⌜ now (buf .exit) ≡ paste (now (buf .entry)) at (project (now (vars .entry)) (now (bound .entry))) (length (now (vars .entry))) ⌝ }
 {
@@ -48,18 +47,4 @@ pub fn put_row(vars: &[u32], bound: &[u32; 16], out: &mut [u32], used: usize) ->
     }
     write_row(vars, bound, out, used);
     Put::Words(used + w)
-}
-
-// Whether each word is one that a delivered row may have.
-pub fn is_values(list: &[u32]) -> bool
-    ensures { λ r. ⌜ r ≡ all isValue (now (list .entry)) ⌝ }
-{
-    let mut i: usize = 0;
-    while i < list.len() {
-        if !Term(list[i]).is_value() {
-            return false;
-        }
-        i += 1;
-    }
-    true
 }

@@ -1,0 +1,12 @@
+pub mod Comparing
+pub mod Placing
+pub mod RowWords
+pub mod BestWords
+pub mod InsertingBest
+pub mod DeliveringBest
+pub mod DeliveredBest
+pub mod MergingBest
+pub mod MergingOn
+pub mod BestTests
+pub mod RightLists
+pub mod BestSearching
