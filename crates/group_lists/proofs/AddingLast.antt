@@ -1,5 +1,5 @@
 -- What comes last of two lists added: the last element of the one, of the other, or of both joined.
-use mathlib.Core.Path.{_≡_, refl, sym, _∙_, ap}
+use mathlib.Core.Path.{_≡_, refl, _∙_, ap}
 use mathlib.Core.Bool.{Bool, true, false, cond}
 use mathlib.Core.List.{List, [], _∷_, _++_}
 use Rattle.lists.specs.Groups.{addBy, addAllBy}

@@ -3,14 +3,14 @@
 use Prim.Native.Nat.{ℕ, zero, suc, _≤_, _<_}
 use native.Mathlib.Omega.{arith}
 use mathlib.Core.Path.{_≡_, refl, sym, _∙_, ap}
-use mathlib.Core.Bool.{Bool, true, false, cond}
+use mathlib.Core.Bool.{Bool, true, false}
 use mathlib.Core.List.{List, [], _∷_, _++_}
 use Rattle.lists.specs.declared.Side.{Side}
 use Rattle.lists.specs.declared.Side.the-variants.{Before, Same, After}
-use Rattle.lists.specs.Groups.{addBy, addAllBy}
+use Rattle.lists.specs.Groups.{addAllBy}
 use Rattle.lists.specs.Sides.{sideBy}
 use Rattle.group_lists.specs.Weaving.{bySide, Walk, walked, walkedIn}
-use Rattle.lists.proofs.Each.{Each, each-append}
+use Rattle.lists.proofs.Each.{each-append}
 use Rattle.lists.proofs.EachMore.{each-weaken}
 use Rattle.group_lists.proofs.AddingLast.{Below, last-old, last-new, last-both}
 

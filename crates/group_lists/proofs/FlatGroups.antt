@@ -1,7 +1,7 @@
 -- The words of some records, one after the other, and words that stand between others.
 use Prim.Native.Nat.{ℕ, _+_, _*_}
 use mathlib.Core.Path.{_≡_, refl, sym, _∙_, ap, ap₂}
-use mathlib.Core.List.{List, [], _∷_, _++_, map, map-append, flatten, append-assoc}
+use mathlib.Core.List.{List, _∷_, _++_, map, map-append, flatten, append-assoc}
 use lib.ListN.{length, take, drop, length-append, length-map}
 use lib.Seq.{take-at, drop-at}
 use Rattle.lists.specs.Groups.{Group, totalsWidth, groupWords}

@@ -1,14 +1,14 @@
 -- How large the totals of groups get: added up over all groups they are those of the rows, so none is above so many times
 -- the most that one row adds.
-use Prim.Native.Nat.{ℕ, suc, _+_, _*_, _%_, _≤_, _<_}
+use Prim.Native.Nat.{ℕ, _+_, _*_, _≤_}
 use native.Mathlib.Omega.{arith}
 use native.Mathlib.Nat.{suc-mul}
-use mathlib.Core.Path.{_≡_, refl, sym, _∙_, ap}
+use mathlib.Core.Path.{_≡_, refl}
 use mathlib.Core.Bool.{Bool, true, false, cond}
 use mathlib.Core.List.{List, [], _∷_, map}
 use lib.ListN.{length}
 use borrow.Author.Tests.{lt-ltb}
-use Rattle.words.specs.Words.{isNumber, numberValue, termValues}
+use Rattle.words.specs.Words.{isNumber, numberValue}
 use Rattle.words.specs.Bindings.{Bindings, valueOf}
 use Rattle.words.specs.Sequences.{all}
 use Rattle.lists.specs.Groups.{Group, ofRow, together, keysBefore, addBy, addAllBy, addGroups, groupsOf}

@@ -1,10 +1,10 @@
 -- The last record of two lists: its width, that it is read alike from buffers with the same first words, and that the woven
 -- list ends with it.
-use Prim.Native.Nat.{ℕ, zero, suc, _+_, _*_, _-_, _≤_, _<_}
+use Prim.Native.Nat.{ℕ, zero, suc, _+_, _*_, _-_, _≤_}
 use native.Mathlib.Omega.{arith}
 use native.Mathlib.Nat.{suc-mul}
 use mathlib.Core.Path.{_≡_, refl, sym, _∙_, ap, ap₂}
-use mathlib.Core.Bool.{Bool, true, false, cond}
+use mathlib.Core.Bool.{cond}
 use mathlib.Core.List.{List, [], _∷_, _++_}
 use lib.Dec.{eqb}
 use lib.ListN.{length, take, drop, length-append, length-drop}
@@ -15,7 +15,7 @@ use Rattle.lists.specs.Groups.{totalsWidth}
 use Rattle.group_lists.specs.GroupTotals.{totalsIn, totalsWords, totalsBoth}
 use Rattle.group_lists.specs.Keys.{keysFirst}
 use Rattle.lists.specs.Sides.{sideBy}
-use Rattle.group_lists.specs.Weaving.{bySide, recordAt, pickAt, sides, joinWords, wordWalk, woven}
+use Rattle.group_lists.specs.Weaving.{recordAt, pickAt, joinWords, wordWalk, woven}
 use Rattle.group_lists.specs.MergingGroups.{lastRecord}
 use Rattle.group_lists.proofs.WalkSteps.{pick-none, Stepped, walk-steps}
 

@@ -1,11 +1,10 @@
 -- What a merge of groups answers and leaves: a total that does not fit, no room, or the merged list in front of the buffer.
 use Prim.Native.Nat.{ℕ, _+_, _*_, _/_, _%_, _≤_, _<_}
 use native.Mathlib.Omega.{arith}
-use native.Mathlib.Nat.{suc-mul, mul-le-mul-right, div-mul-le-self, div-lt-iff-lt-mul}
-use mathlib.Core.Path.{_≡_, refl, sym, _∙_, ap, ap₂, subst}
-use mathlib.Core.Bool.{Bool, true, false, cond}
+use native.Mathlib.Nat.{mul-le-mul-right, div-mul-le-self, div-lt-iff-lt-mul}
+use mathlib.Core.Path.{_≡_, sym, _∙_, ap, ap₂, subst}
+use mathlib.Core.Bool.{Bool, true}
 use mathlib.Core.List.{List, _++_}
-use lib.Dec.{leb}
 use lib.ListN.{length, getD, take, drop, replicate, length-replicate}
 use lib.Seq.{length-take-le}
 use borrow.Author.Tests.{le-leb, lt-leb}
@@ -13,7 +12,6 @@ use mir.Val.{Fits}
 use mir.Syntax.{w32}
 use Rattle.plans.specs.Endings.{group}
 use Rattle.group_lists.specs.declared.Union.the-variants.{Records, Overflows}
-use Rattle.group_lists.specs.declared.Merged.{Merged}
 use Rattle.group_lists.specs.declared.Merged.the-variants as answers
 use Rattle.lists.specs.Groups.{totalsWidth}
 use Rattle.lists.specs.Gathering.{listRight, merged, totalsFit}

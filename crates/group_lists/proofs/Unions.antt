@@ -3,7 +3,7 @@ use Prim.Native.Nat.{ℕ, zero, suc, _+_, _*_, _-_, _/_, _%_, _≤_, _<_}
 use native.Mathlib.Omega.{arith}
 use native.Mathlib.Nat.{suc-mul, div-add-mod', mul-div-cancel}
 use mathlib.Core.Path.{_≡_, refl, sym, _∙_, ap, ap₂}
-use mathlib.Core.Bool.{Bool, true, false, cond}
+use mathlib.Core.Bool.{true, false, cond}
 use mathlib.Core.List.{List}
 use lib.ListN.{length}
 use Rattle.lists.specs.declared.Side.{Side}
@@ -11,7 +11,7 @@ use Rattle.lists.specs.declared.Side.the-variants.{Before, Same, After}
 use Rattle.group_lists.specs.declared.Union.{Union}
 use Rattle.group_lists.specs.declared.Union.the-variants.{Records, Overflows}
 use Rattle.lists.specs.Groups.{totalsWidth}
-use Rattle.group_lists.specs.Weaving.{bySide, walked, recordAt, pickAt, sides, joinFits, moreBy, countWalk, unionOf}
+use Rattle.group_lists.specs.Weaving.{walked, recordAt, pickAt, sides, joinFits, moreBy, countWalk, unionOf}
 use Rattle.group_lists.proofs.BackWalks.{stepBy, walk-end}
 use Rattle.group_lists.proofs.WalkSteps.{mul-small, oldLeft, newLeft, Stepped, stepped, walk-steps}
 

@@ -5,7 +5,7 @@ use native.Mathlib.Omega.{arith}
 use native.Mathlib.Nat.{suc-mul, mul-le-mul-right}
 use mathlib.Core.Path.{_≡_, refl, sym, _∙_, ap, ap₂}
 use mathlib.Core.Bool.{Bool, true, false, cond}
-use mathlib.Core.List.{List, [], _∷_, _++_, append-assoc}
+use mathlib.Core.List.{List, _++_, append-assoc}
 use lib.ListN.{length, take, drop, length-append, length-drop, take-append-drop}
 use lib.Seq.{take-append-le, take-take, drop-at, length-take-le}
 use Rattle.lists.specs.declared.Side.{Side}
@@ -15,7 +15,7 @@ use Rattle.group_lists.specs.declared.Union.the-variants.{Records, Overf
 use Rattle.lists.specs.Groups.{totalsWidth}
 use Rattle.group_lists.specs.Weaving.{bySide, walked, walkedIn, recordAt, pickAt, sides, joinFits, moreBy, countWalk, wordWalk, woven, unionOf}
 use Rattle.group_lists.specs.MergingGroups.{lastRecord, Lays}
-use Rattle.group_lists.proofs.BackWalks.{stepBy, walk-end}
+use Rattle.group_lists.proofs.BackWalks.{walk-end}
 use Rattle.group_lists.proofs.WalkSteps.{mul-small, oldLeft, newLeft, Stepped, stepped, walk-steps}
 use Rattle.group_lists.proofs.Unions.{whole-words}
 use Rattle.group_lists.proofs.LastRecords.{pick-kept, last-wide, last-kept, last-woven, part-kept}

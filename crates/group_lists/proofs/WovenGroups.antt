@@ -1,32 +1,31 @@
 -- The walk from the back over the words of two right lists of groups makes the words of the merged list, and counts its
 -- records, unless a total of them does not fit.
-use Prim.Native.Nat.{ℕ, zero, suc, _+_, _*_, _-_, _/_, _%_, _≤_, _<_}
+use Prim.Native.Nat.{ℕ, zero, suc, _+_, _*_, _-_, _/_, _≤_, _<_}
 use native.Mathlib.Omega.{arith}
 use native.Mathlib.Decide.{decLt}
 use native.Mathlib.Nat.{suc-mul}
 use native.Mathlib.Numerals.{add-one}
 use mathlib.Core.Path.{_≡_, refl, sym, _∙_, ap, ap₂, subst}
 use mathlib.Core.Bool.{Bool, true, false, cond, _&&_}
-use mathlib.Core.List.{List, [], _∷_, _++_, map, flatten, append-nil}
+use mathlib.Core.List.{List, [], _∷_, _++_, flatten, append-nil}
 use lib.ListN.{length, take, drop, length-append, length-map}
 use lib.Seq.{take-add}
 use Rattle.words.specs.Words.{keyRank}
 use Rattle.words.specs.Sequences.{all}
 use Rattle.words.proofs.Orders.{lex-trans, lex-asym, lex-weak}
 use Rattle.plans.specs.Endings.{group}
-use Rattle.lists.specs.declared.Side.{Side}
 use Rattle.lists.specs.declared.Side.the-variants.{Before, Same, After}
 use Rattle.group_lists.specs.declared.Union.{Union}
 use Rattle.group_lists.specs.declared.Union.the-variants.{Records, Overflows}
-use Rattle.lists.specs.Groups.{Group, totalsWidth, together, keysBefore, addGroups, groupWords, groupIn}
+use Rattle.lists.specs.Groups.{Group, totalsWidth, together, keysBefore, addGroups, groupWords}
 use Rattle.lists.specs.Gathering.{groupsIn, merged, groupFits, listRight, totalsFit}
 use Rattle.group_lists.specs.Keys.{keysFirst}
 use Rattle.lists.specs.Sides.{sideBy}
-use Rattle.group_lists.specs.Weaving.{Walk, walked, recordAt, pickAt, sides, joinWords, joinFits, wordWalk, woven, moreBy, countWalk, unionOf}
+use Rattle.group_lists.specs.Weaving.{walked, recordAt, sides, wordWalk, woven, moreBy, countWalk, unionOf}
 use Rattle.lists.proofs.Keys.{ranks}
 use Rattle.lists.proofs.Ascending.{Ascending}
 use Rattle.group_lists.proofs.RecordAt as at-words
-use Rattle.lists.proofs.GroupWords.{Words, HaveKeys, have-keys-in}
+use Rattle.lists.proofs.GroupWords.{Words, have-keys-in}
 use Rattle.lists.proofs.GroupValid.{right-ascending}
 use Rattle.group_lists.proofs.GroupTesting.{before-keys}
 use Rattle.group_lists.proofs.FlatGroups.{flat, flat-append, length-flat}
@@ -34,7 +33,7 @@ use Rattle.lists.proofs.GroupsAdded.{have-addAll}
 use Rattle.group_lists.proofs.AddingLast.{Below, ascending-last}
 use Rattle.group_lists.proofs.BackWalks.{first, listWalk, walk-map, walk-adds}
 use Rattle.group_lists.proofs.WalkSteps.{pick-some}
-use Rattle.group_lists.proofs.WovenRecords.{groupAt, groups-first, groups-all, record-length, record-words, record-back, record-keys, record-fits, join-words, join-fits}
+use Rattle.group_lists.proofs.WovenRecords.{groupAt, groups-first, groups-all, record-words, record-back, record-keys, record-fits, join-words, join-fits}
 
 -- ---- lists of groups, one more at the end
 flat-last : (gs : List Group) (g : Group) → flat (gs ++ (g ∷ [])) ≡ flat gs ++ groupWords g

@@ -3,15 +3,14 @@ use Prim.Native.Nat.{ℕ, zero, suc, _+_, _*_, _-_, _/_, _≤_, _<_}
 use native.Mathlib.Omega.{arith}
 use native.Mathlib.Nat.{suc-mul, div-mul-le-self}
 use mathlib.Core.Path.{_≡_, refl, sym, _∙_, ap, ap₂}
-use mathlib.Core.Bool.{Bool, true, false}
+use mathlib.Core.Bool.{true}
 use mathlib.Core.List.{List, [], _∷_, _++_, map, map-append}
-use lib.ListN.{length, getD, take, drop, length-take, length-drop}
+use lib.ListN.{length, take, drop, length-drop}
 use lib.Seq.{take-take, drop-drop, length-take-le}
 use borrow.Author.Tests.{lt-ltb}
 use Rattle.words.specs.Sequences.{parts}
-use Rattle.lists.specs.Groups.{Group, totalsWidth, wordValues, pairAt, together, groupWords, groupIn}
+use Rattle.lists.specs.Groups.{Group, totalsWidth, pairAt, together, groupWords, groupIn}
 use Rattle.lists.specs.Gathering.{recordsIn, groupsIn, groupFits, longValues}
-use Rattle.group_lists.specs.GroupTotals.{groupOf, totalsIn}
 use Rattle.group_lists.specs.Weaving.{recordAt, joinWords, joinFits}
 use Rattle.lists.proofs.GroupWords.{Words, words-take, words-drop, words-in-group}
 use Rattle.group_lists.proofs.TotalsWords.{group-split, part-rest}

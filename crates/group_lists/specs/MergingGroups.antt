@@ -7,7 +7,7 @@ use mathlib.Core.List.{List}
 use lib.Dec.{leb}
 use lib.ListN.{length}
 use Rattle.lists.specs.declared.Side.{Side}
-use Rattle.lists.specs.declared.Side.the-variants.{Before, Same, After}
+use Rattle.lists.specs.declared.Side.the-variants.{Before, Same}
 use Rattle.group_lists.specs.declared.Merged.{Merged}
 use Rattle.group_lists.specs.declared.Merged.the-variants.{Words, Overflow, NoRoom}
 use Rattle.lists.specs.Groups.{totalsWidth}

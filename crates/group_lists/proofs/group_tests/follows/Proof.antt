@@ -1,8 +1,7 @@
 -- `follows` meets its contract.
 use borrow.Author.Needs.{needs}
 use Prim.Native.Nat.{_+_, _-_}
-use native.Mathlib.Omega.{arith}
-use mathlib.Core.Path.{_≡_, sym, _∙_}
+use mathlib.Core.Path.{_∙_}
 use lib.ListN.{take, drop}
 use borrow.Author.Tests.{eq-eqb}
 use Rattle.group_lists.specs.Keys.{keysFirst}

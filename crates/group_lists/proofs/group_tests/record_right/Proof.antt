@@ -1,7 +1,6 @@
 -- `record_right` meets its contract.
 use borrow.Author.Needs.{needs}
-use native.Mathlib.Omega.{arith}
-use mathlib.Core.Path.{_≡_, sym, _∙_, ap}
+use mathlib.Core.Path.{sym, _∙_, ap}
 use borrow.Author.Tests.{not-true, not-false}
 use Rattle.group_lists.proofs.GroupTesting.{right-parts}
 use Rattle.group_lists.specs.GroupTests.{totalsRight}

@@ -1,6 +1,5 @@
 -- `totals_right` meets its contract.
 use borrow.Author.Needs.{needs}
-use mathlib.Core.Path.{sym, _∙_}
 use borrow.Author.Tests.{le-leb, lt-leb}
 use Rattle.group_lists.proofs.group_tests.totals_right.Statement.{statement}
 use Rattle.group_lists.proofs.group_tests.totals_right.Tie as tie

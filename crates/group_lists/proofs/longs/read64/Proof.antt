@@ -1,8 +1,6 @@
 -- `read64` meets its contract: no sum and no product wraps.
 use borrow.Author.Needs.{needs}
-use mathlib.Core.Path.{_≡_}
 use native.Mathlib.Numerals.{add-one}
-use native.Mathlib.Omega.{arith}
 use Rattle.group_lists.proofs.longs.read64.Statement.{statement}
 use Rattle.group_lists.proofs.longs.read64.Tie as tie
 

@@ -1,7 +1,6 @@
 -- `join_fits` meets its contract.
 use borrow.Author.Needs.{needs}
-use native.Mathlib.Omega.{arith}
-use mathlib.Core.Path.{_≡_, _∙_}
+use mathlib.Core.Path.{_∙_}
 use Rattle.group_lists.proofs.Laying.{fits-lent}
 use Rattle.group_lists.proofs.weave.join_fits.Statement.{statement}
 use Rattle.group_lists.proofs.weave.join_fits.Tie as tie

@@ -1,7 +1,6 @@
 -- `lay` meets its contract: one record is laid, whichever list it comes from.
 use borrow.Author.Needs.{needs}
 use native.Mathlib.Omega.{arith}
-use mathlib.Core.Path.{_≡_, _∙_}
 use Rattle.group_lists.proofs.Laying.{new-size, new-laid, old-laid, joined-laid, joined-fits, same-old, after-old}
 use Rattle.group_lists.proofs.weave.lay.Statement.{statement}
 use Rattle.group_lists.proofs.weave.lay.Tie as tie

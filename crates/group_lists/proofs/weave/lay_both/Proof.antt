@@ -1,7 +1,5 @@
 -- `lay_both` meets its contract: the totals of the record are added to where it was moved.
 use borrow.Author.Needs.{needs}
-use native.Mathlib.Omega.{arith}
-use mathlib.Core.Path.{_≡_, _∙_}
 use Rattle.group_lists.proofs.Laying.{both-size, both-fit, both-laid}
 use Rattle.group_lists.proofs.weave.lay_both.Statement.{statement}
 use Rattle.group_lists.proofs.weave.lay_both.Tie as tie

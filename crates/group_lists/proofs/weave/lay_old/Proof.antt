@@ -1,7 +1,6 @@
 -- `lay_old` meets its contract.
 use borrow.Author.Needs.{needs}
-use native.Mathlib.Omega.{arith}
-use mathlib.Core.Path.{_≡_, _∙_}
+use mathlib.Core.Path.{_∙_}
 use Rattle.group_lists.proofs.Laying.{moved-up}
 use Rattle.group_lists.proofs.weave.lay_old.Statement.{statement}
 use Rattle.group_lists.proofs.weave.lay_old.Tie as tie

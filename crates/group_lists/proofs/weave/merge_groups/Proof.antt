@@ -1,9 +1,9 @@
 -- `merge_groups` meets its contract: 13 is decided before 14, and both before the first word is written.
 use borrow.Author.Needs.{needs}
-use Prim.Native.Nat.{_+_, _*_}
+use Prim.Native.Nat.{_+_}
 use native.Mathlib.Omega.{arith}
 use native.Mathlib.Nat.{mul-div-cancel, mul-mod-left}
-use mathlib.Core.Path.{_≡_, sym, _∙_, ap}
+use mathlib.Core.Path.{sym, _∙_, ap}
 use lib.ListN.{length}
 use Rattle.group_lists.specs.declared.Union.the-variants.{Records}
 use Rattle.group_lists.proofs.MergedGroups.{room-for, kept-whole, list-whole, merge-over, merge-small, merge-words}

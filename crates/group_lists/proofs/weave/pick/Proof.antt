@@ -2,7 +2,7 @@
 use borrow.Author.Needs.{needs}
 use Prim.Native.Nat.{_+_}
 use native.Mathlib.Omega.{arith}
-use mathlib.Core.Path.{_≡_, sym, _∙_}
+use mathlib.Core.Path.{sym, _∙_}
 use Rattle.group_lists.proofs.GroupTesting.{not-first}
 use Rattle.group_lists.proofs.WalkSteps.{pick-none}
 use Rattle.group_lists.proofs.Laying.{pick-lent}
