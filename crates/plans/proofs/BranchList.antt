@@ -3,15 +3,14 @@ use Prim.Native.Nat.{ℕ, zero, suc, _+_, _-_, _≤_, _<_}
 use native.Mathlib.Omega.{arith}
 use native.Mathlib.Numerals.{sub-one}
 use mathlib.Core.Path.{_≡_, refl, sym, _∙_, ap}
-use mathlib.Core.Bool.{Bool, true, false, _&&_, _||_}
+use mathlib.Core.Bool.{true, _&&_}
 use mathlib.Core.Option.{none, some}
 use mathlib.Core.List.{List, [], _∷_}
 use lib.ListN.{length, drop, length-drop}
 use lib.Seq.{drop-drop}
-use Rattle.words.specs.Sequences.{member}
-use Rattle.words.proofs.Booleans.{and-left, and-right, and-both}
+use Rattle.words.proofs.Booleans.{and-left, and-right}
 use Rattle.plans.specs.Conditions.{Read, next}
-use Rattle.plans.specs.Branches.{Branch, readBranch, readBranches, binds, noBranch, nthBranch}
+use Rattle.plans.specs.Branches.{Branch, readBranch, readBranches, noBranch, nthBranch}
 use Rattle.plans.specs.Reading.{isRead, wordsRead, readOr, Gives, branchIn, branchesIn}
 use Rattle.plans.proofs.Given.{gives}
 use Rattle.plans.proofs.BranchRead.{branch-in}

@@ -1,16 +1,15 @@
 -- A loop over branches that were read: so many words are passed, and so many branches are left.
-use Prim.Native.Nat.{ℕ, zero, suc, _+_, _-_, _≤_, _<_}
+use Prim.Native.Nat.{ℕ, _+_, _-_, _≤_, _<_}
 use native.Mathlib.Omega.{arith}
-use mathlib.Core.Path.{_≡_, refl, sym, _∙_, ap}
+use mathlib.Core.Path.{_≡_, sym, _∙_}
 use mathlib.Core.Bool.{Bool, true, false, _||_}
-use mathlib.Core.Option.{some}
-use mathlib.Core.List.{List, [], _∷_}
+use mathlib.Core.List.{List}
 use lib.ListN.{length, take, drop, length-drop}
 use lib.Seq.{drop-drop}
 use Rattle.words.specs.Sequences.{member}
 use Rattle.words.proofs.Walking.{rest-of}
 use Rattle.plans.specs.Branches.{readBranch, readBranches, binds}
-use Rattle.plans.specs.Reading.{isRead, wordsRead, readOr, branchIn, branchesIn}
+use Rattle.plans.specs.Reading.{isRead, wordsRead, branchIn, branchesIn}
 use Rattle.plans.proofs.BranchRead.{branch-in}
 use Rattle.plans.proofs.BranchList.{FirstRead, first-read}
 

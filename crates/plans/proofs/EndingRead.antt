@@ -1,9 +1,9 @@
 -- What stands where in the words of an ending that has the form.
 use Prim.Native.Nat.{ℕ, _+_, _-_}
 use native.Mathlib.Omega.{arith}
-use mathlib.Core.Path.{_≡_, refl, sym, _∙_, ap}
-use mathlib.Core.Bool.{true, false}
-use mathlib.Core.List.{List, []}
+use mathlib.Core.Path.{_≡_, refl}
+use mathlib.Core.Bool.{true}
+use mathlib.Core.List.{List}
 use lib.ListN.{length, getD, take, drop}
 use Rattle.words.specs.Words.{low}
 use Rattle.words.proofs.Booleans.{absurd-true}
@@ -31,6 +31,11 @@ module _ (ws : List ℕ) (t : Last) (et : t ≡ lastOf (getD ws 0 0)) where
   ending-group e n en = let h : 1 + n - 1 ≡ n = omega arith in rw (← et, e, h, en)
 
 -- ---- the kind of an ending
+pub some-kind : (e : Ending) → lastIn e ≡ Neither → ⊥
+some-kind (rows vs) h = let z : _≡_ {A = ℕ} 0 1 = cc in omega arith
+some-kind (top k vs keys) h = let z : _≡_ {A = ℕ} 0 1 = cc in omega arith
+some-kind (group vs m) h = let z : _≡_ {A = ℕ} 0 1 = cc in omega arith
+
 last-as : (t : Last) (ws : List ℕ) → formAs t ws ≡ true → lastIn (endingAs t ws) ≡ t
 unfolding formAs endingAs
 last-as Rows ws h = refl

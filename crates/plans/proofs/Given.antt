@@ -6,7 +6,7 @@ use mathlib.Core.Bool.{Bool, true, false, cond}
 use mathlib.Core.Option.{Option, none, some}
 use Rattle.words.proofs.Testing.{none-some}
 use Rattle.plans.specs.Conditions.{Read}
-use Rattle.plans.specs.Reading.{isRead, wordsRead, readOr, Gives}
+use Rattle.plans.specs.Reading.{isRead, readOr, Gives}
 
 -- ---- of what was read
 pub gives : {A : Type 0} (other : A) (r : Read A) → isRead r ≡ true → Gives r (readOr other r)

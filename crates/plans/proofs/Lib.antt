@@ -5,10 +5,7 @@ pub mod Trees
 pub mod Given
 pub mod BranchRead
 pub mod BranchList
-pub mod Parts
 pub mod BranchWalk
 pub mod EndingForms
 pub mod EndingRead
-pub mod EndingRight
 pub mod PlanRead
-pub mod Checked

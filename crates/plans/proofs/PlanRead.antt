@@ -1,8 +1,8 @@
 -- From words to the tree: what stands where in the words of a plan that was read.
-use Prim.Native.Nat.{ℕ, _+_, _-_, _≤_, _<_}
+use Prim.Native.Nat.{ℕ, _-_, _≤_, _<_}
 use native.Mathlib.Omega.{arith}
 use mathlib.Core.Path.{_≡_, refl, sym, _∙_, ap}
-use mathlib.Core.Bool.{Bool, true, false, _&&_, not}
+use mathlib.Core.Bool.{true, _&&_, not}
 use mathlib.Core.Option.{Option, none, some}
 use mathlib.Core.List.{List}
 use lib.Dec.{eqb, leb}
@@ -13,7 +13,7 @@ use Rattle.words.proofs.Booleans.{and-left, and-right}
 use Rattle.words.proofs.Testing.{none-some, some-injective}
 use Rattle.words.proofs.Walking.{rest-of, first-none}
 use Rattle.plans.specs.Conditions.{Read}
-use Rattle.plans.specs.Branches.{Branch, readBranch, readBranches, nthBranch}
+use Rattle.plans.specs.Branches.{Branch, readBranch, readBranches}
 use Rattle.plans.specs.Endings.{endingForm, endingAt}
 use Rattle.plans.specs.Plans.{Plan, mostPlanWords, branchCount, withEnding, readPlan, hasForm, planOr, planOf, branchAt}
 use Rattle.plans.specs.Reading.{isRead, wordsRead, Gives, branchesIn, branchStart}

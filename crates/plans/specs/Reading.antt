@@ -2,34 +2,23 @@
 use Prim.Native.Nat.{ℕ, _+_, _<_}
 use mathlib.Core.Path.{_≡_}
 use mathlib.Core.Bool.{Bool, true, false, cond, _&&_}
-use mathlib.Core.Option.{Option, none, some}
+use mathlib.Core.Option.{none, some}
 use mathlib.Core.List.{List, []}
 use lib.Dec.{eqb, leb, ltb}
 use lib.ListN.{length, getD, drop}
-use Rattle.words.specs.Words.{kind, low, isVariable}
+use Rattle.words.specs.Words.{kind, low}
 use Rattle.plans.specs.Conditions.{Condition, Read, nodes, boundIn, allBound}
-use Rattle.plans.specs.Branches.{Branch, noBranch, readBranch, readBranches, termRight}
-use Rattle.plans.specs.Endings.{Ending, rows, top, group, isKey}
-use Rattle.plans.specs.Plans.{Plan, variablesRight}
+use Rattle.plans.specs.Branches.{Branch, noBranch, readBranch, readBranches}
+use Rattle.plans.specs.Endings.{Ending, rows, top, group}
 use Rattle.plans.specs.declared.Last.{Last}
 use Rattle.plans.specs.declared.Last.the-variants.{Rows, Top, Group}
-use Rattle.plans.specs.declared.Part.{Part}
-use Rattle.plans.specs.declared.Part.the-variants.{Ends, Broken}
 use Rattle.plans.specs.declared.Tree.{Tree}
 use Rattle.plans.specs.declared.Tree.the-variants.{Reads, Bad}
-use Rattle.plans.specs.declared.Wanted.{Wanted}
-use Rattle.plans.specs.declared.Wanted.the-variants.{Variable, Key, RightTerm}
 
 -- ---- words
 -- the count in a word of a kind, 0 where it is another word or the count is above the most
 abbrev pub countIn : ℕ → ℕ → ℕ → ℕ
 countIn k most w = cond (eqb (kind w) k) (cond (leb (low w) most) (low w) 0) 0
-
--- a word is what is wanted of each word of a part
-abbrev pub isWanted : Wanted → ℕ → Bool
-isWanted Variable = isVariable
-isWanted Key = isKey
-isWanted RightTerm = termRight
 
 -- ---- what was read
 abbrev pub isRead : {A : Type 0} → Read A → Bool
@@ -75,16 +64,6 @@ joinTrees (Reads w n b) (Reads m k d) = Reads (1 + w + m) (1 + n + k) (b && d)
 abbrev pub SmallTree : Tree → Type 0
 SmallTree Bad = Unit {0}
 SmallTree (Reads w n b) = (w < 0x2000_0000_0000_0000) × (n < 0x2000_0000_0000_0000)
-
--- a part: its words, and a test of what was read
-abbrev pub partOf : {A : Type 0} → (A → Bool) → Read A → Part
-partOf test none = Broken
-partOf test (some x) = Ends (x .1) (test (x .0))
-
--- a plan: the number of the test that it fails, 0 where it fails none
-abbrev pub planNumber : Option Plan → ℕ
-planNumber none = 5
-planNumber (some q) = cond (variablesRight q) 0 6
 
 -- ---- branches
 -- the branch, and the first n branches, at the start of some words

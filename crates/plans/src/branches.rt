@@ -1,22 +1,16 @@
-// Branches: their reader, and what stands in one that was read.
+// Branches: what stands in one that was read.
 use crate::MOST_DEPTH;
-use crate::MOST_NODES;
-use crate::Part;
 use crate::Tree;
-use crate::Wanted;
-use crate::conditions::both;
 use crate::conditions::condition;
-use crate::searches::all_wanted;
 use crate::searches::count_in;
 use words::PlanWord;
 ghost use mathlib.Core.Path.{_≡_};
 ghost use mathlib.Core.Bool.{true};
 ghost use Prim.Native.Nat.{_≤_};
 ghost use lib.ListN.{getD};
-ghost use Rattle.words.specs.Sequences.{all};
 ghost use Rattle.plans.specs.Conditions.{readCondition, mostDepth};
-ghost use Rattle.plans.specs.Branches.{patternCount, mostPatterns, readBranch, readBranches, branchRight};
-ghost use Rattle.plans.specs.Reading.{partOf, isRead, wordsRead, branchIn, Gives};
+ghost use Rattle.plans.specs.Branches.{patternCount, mostPatterns, readBranch, readBranches};
+ghost use Rattle.plans.specs.Reading.{isRead, wordsRead, branchIn, Gives};
 
 // The terms of a pattern.
 pub const PATTERN_WIDTH: usize = 3;
@@ -28,62 +22,6 @@ pub fn pattern_count(p: &[u32]) -> usize
     ensures { λ r. ⌜ (r ≡ patternCount (getD (now (p .entry)) 0 0)) × (r ≤ mostPatterns) ⌝ }
 {
     words::wide(count_in(p, PlanWord::BRANCH, MOST_PATTERNS))
-}
-
-// Reads the branch at the start of p.
-pub fn branch(p: &[u32]) -> Part
-    ensures { λ r. ⌜ r ≡ partOf branchRight (readBranch (now (p .entry))) ⌝ }
-{
-    let n = pattern_count(p);
-    if n == 0 {
-        return Part::Broken;
-    }
-    let at = 1 + PATTERN_WIDTH * n;
-    if p.len() < at {
-        return Part::Broken;
-    }
-    let terms = &p[1..at];
-    match condition(&p[at..], MOST_DEPTH, terms) {
-        Tree::Bad => Part::Broken,
-        Tree::Reads {
-            words,
-            nodes,
-            bound,
-        } => {
-            if nodes > MOST_NODES {
-                return Part::Broken;
-            }
-            Part::Ends {
-                words: at + words,
-                right: both(all_wanted(terms, Wanted::RightTerm), bound),
-            }
-        }
-    }
-}
-
-// Reads so many branches at the start of p.
-pub fn branches(p: &[u32], count: u32) -> Part
-    ensures { λ r. ⌜ r ≡ partOf (all branchRight) (readBranches count (now (p .entry))) ⌝ }
-{
-    if count == 0 {
-        return Part::Ends {
-            words: 0,
-            right: true,
-        };
-    }
-    match branch(p) {
-        Part::Broken => Part::Broken,
-        Part::Ends { words, right } => match branches(&p[words..], count - 1) {
-            Part::Broken => Part::Broken,
-            Part::Ends {
-                words: more,
-                right: also,
-            } => Part::Ends {
-                words: words + more,
-                right: both(right, also),
-            },
-        },
-    }
 }
 
 // The terms of the patterns of the branch that p starts with.

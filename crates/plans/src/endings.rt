@@ -1,7 +1,5 @@
-// Endings: their form, and what stands in one that has it.
+// Endings: what stands in one that has the form.
 use crate::Last;
-use crate::Wanted;
-use crate::searches::all_wanted;
 use crate::searches::count_in;
 use crate::searches::first;
 use words::PlanWord;
@@ -9,15 +7,13 @@ ghost use mathlib.Core.Path.{_≡_};
 ghost use mathlib.Core.Bool.{true};
 ghost use Prim.Native.Nat.{_≤_};
 ghost use lib.ListN.{getD};
-ghost use Rattle.plans.specs.Endings.{mostRowVariables, bestCount, rowWidth, rowVariables, afterRows, rowsForm, keysForm, lastOf, endingForm, endingAt};
+ghost use Rattle.plans.specs.Endings.{mostRowVariables, rowWidth, rowVariables, afterRows, rowsForm, lastOf, endingForm, endingAt};
 ghost use Rattle.plans.specs.Reading.{lastIn, variablesIn, keysIn, bestIn, measuredIn};
 ghost use Rattle.plans.specs.declared.Last.{Last};
 
 pub const MOST_ROW_VARIABLES: u32 = 16;
 
 pub const MOST_BEST: u32 = 64;
-
-pub const MOST_KEYS: usize = 4;
 
 pub const MOST_GROUP_VARIABLES: u32 = 4;
 
@@ -50,63 +46,6 @@ pub fn row_width(p: &[u32]) -> usize
     ensures { λ r. ⌜ (r ≡ rowWidth (getD (now (p .entry)) 0 0)) × (r ≤ mostRowVariables) ⌝ }
 {
     words::wide(count_in(p, PlanWord::ROWS, MOST_ROW_VARIABLES))
-}
-
-// Whether p starts with a kind 8 part.
-pub fn rows_form(p: &[u32]) -> bool
-    ensures { λ r. ⌜ r ≡ rowsForm (now (p .entry)) ⌝ }
-{
-    let n = row_width(p);
-    if n == 0 {
-        return false;
-    }
-    let end = 1 + n;
-    if end <= p.len() {
-        return all_wanted(&p[1..end], Wanted::Variable);
-    }
-    false
-}
-
-// Whether p is 1 to 4 keys.
-pub fn keys_form(p: &[u32]) -> bool
-    ensures { λ r. ⌜ r ≡ keysForm (now (p .entry)) ⌝ }
-{
-    if p.len() == 0 {
-        return false;
-    }
-    if p.len() <= MOST_KEYS {
-        return all_wanted(p, Wanted::Key);
-    }
-    false
-}
-
-// Whether p is one ending and nothing more.
-pub fn ending_form(p: &[u32]) -> bool
-    ensures { λ r. ⌜ r ≡ endingForm (now (p .entry)) ⌝ }
-{
-    match last_of(first(p)) {
-        Last::Rows => {
-            if rows_form(p) {
-                return p.len() == 1 + row_width(p);
-            }
-            false
-        }
-        Last::Top => {
-            let rest = &p[1..];
-            if rows_form(rest) {
-                let at = 1 + row_width(rest);
-                return keys_form(&rest[at..]);
-            }
-            false
-        }
-        Last::Group => {
-            if p.len() == 2 + words::wide(PlanWord(first(p)).low()) {
-                return all_wanted(&p[1..], Wanted::Variable);
-            }
-            false
-        }
-        Last::Neither => false,
-    }
 }
 
 // The variables of the kind 8 part that p starts with.

@@ -1,46 +1,40 @@
-// Plans: the test of their form (5), the test of their variables (6), and what stands in them.
-mod bindings;
+// Plans: what stands in one that has the form.
 mod branches;
 mod conditions;
 mod endings;
 mod searches;
 
 pub use branches::PATTERN_WIDTH;
+pub use branches::branch_words;
 pub use branches::condition_part;
+pub use branches::pattern_count;
 pub use branches::terms;
-use conditions::both;
+pub use conditions::both;
+pub use conditions::condition;
 pub use endings::best_count;
 pub use endings::ending_kind;
 pub use endings::keys;
+pub use endings::last_of;
 pub use endings::measured;
+pub use endings::row_width;
 pub use endings::variables;
 pub use searches::among;
+pub use searches::first;
 use words::PlanWord;
 ghost use mathlib.Core.Path.{_≡_};
 ghost use mathlib.Core.Bool.{true};
-ghost use mathlib.Core.List.{_∷_, []};
 ghost use Prim.Native.Nat.{_≤_, _<_};
 ghost use lib.ListN.{getD, length, drop};
-ghost use Rattle.words.specs.Tests.{firstFailing, numberOf};
 ghost use Rattle.plans.specs.Conditions.{nodeOf, readCondition, mostDepth};
-ghost use Rattle.plans.specs.Branches.{readBranch, readBranches};
+ghost use Rattle.plans.specs.Branches.{readBranch};
 ghost use Rattle.plans.specs.Endings.{endingForm, endingAt};
-ghost use Rattle.plans.specs.Plans.{branchCount, mostBranches, withEnding, readPlan, hasForm, planOf, planTests, branchAt};
-ghost use Rattle.plans.specs.Reading.{Gives, branchStart, planNumber};
+ghost use Rattle.plans.specs.Plans.{branchCount, mostBranches, readPlan, hasForm, planOf, branchAt};
+ghost use Rattle.plans.specs.Reading.{Gives, branchStart};
 
-pub const MOST_WORDS: usize = 256;
-
-// A condition's depth, a lone node being 1 deep, and its nodes.
+// A condition's depth, a lone node being 1 deep.
 pub const MOST_DEPTH: u32 = 8;
 
-pub const MOST_NODES: usize = 31;
-
 pub const MOST_BRANCHES: u32 = 4;
-
-// The tests of a plan, by their numbers.
-pub const FORM: u32 = 5;
-
-pub const VARIABLES: u32 = 6;
 
 // What a word of a condition begins.
 pub enum Node {
@@ -61,25 +55,12 @@ pub enum Tree {
     Bad,
 }
 
-// A part of a plan that was read: its words, and whether its variables are right; or no such part.
-pub enum Part {
-    Ends { words: usize, right: bool },
-    Broken,
-}
-
 // What the first word of an ending begins.
 pub enum Last {
     Rows,
     Top,
     Group,
     Neither,
-}
-
-// What each word of a part must be.
-pub enum Wanted {
-    Variable,
-    Key,
-    RightTerm,
 }
 
 // The node that a word begins.
@@ -112,49 +93,6 @@ pub fn branch_count(plan: &[u32]) -> u32
     ensures { λ r. ⌜ (r ≡ branchCount (getD (now (plan .entry)) 0 0)) × (r ≤ mostBranches) ⌝ }
 {
     searches::count_in(plan, PlanWord::HEAD, MOST_BRANCHES)
-}
-
-// The number of the first of tests 5 and 6 that fails, or 0.
-fn number_of(form: bool, variables: bool) -> u32
-    ensures { λ r. ⌜ r ≡ numberOf (firstFailing ((5, form) ∷ (6, variables) ∷ [])) ⌝ }
-{
-    if form {
-        if variables {
-            return 0;
-        }
-        return VARIABLES;
-    }
-    FORM
-}
-
-// The check of a plan from the word after its head on, where so many branches and one ending are to stand.
-fn check_body(body: &[u32], count: u32) -> u32
-    ensures { λ r. ⌜ r ≡ planNumber (withEnding (now (body .entry)) (readBranches count (now (body .entry)))) ⌝ }
-{
-    match branches::branches(body, count) {
-        Part::Broken => FORM,
-        Part::Ends { words, right } => {
-            let e = &body[words..];
-            number_of(
-                endings::ending_form(e),
-                both(right, bindings::ending_right(body, count, e)),
-            )
-        }
-    }
-}
-
-// 0, or the number of the first test that a plan fails: 5 over the whole plan, and then 6.
-pub fn check(plan: &[u32]) -> u32
-    ensures { λ r. ⌜ r ≡ numberOf (firstFailing (planTests (now (plan .entry)))) ⌝ }
-{
-    if plan.len() > MOST_WORDS {
-        return FORM;
-    }
-    let count = branch_count(plan);
-    if count == 0 {
-        return FORM;
-    }
-    check_body(&plan[1..], count)
 }
 
 // The part of a plan from its branch with a number (from 0) on.

@@ -1,5 +1,5 @@
 -- `branch_condition` meets its contract.
-use Rattle.plans.specs.Branches.{Branch, noBranch, readBranch}
+use Rattle.plans.specs.Branches.{noBranch, readBranch}
 use Rattle.plans.specs.Plans.{planOf, branchAt}
 use Rattle.plans.proofs.Given.{given-read, given-is}
 use Rattle.plans.proofs.branch_condition.Statement.{statement}

@@ -1,8 +1,5 @@
 -- `branch_part` meets its contract: the branch with a number starts behind those before it.
 use native.Mathlib.Omega.{arith}
-use Rattle.plans.specs.Branches.{readBranch}
-use Rattle.plans.specs.Plans.{planOf, branchAt}
-use Rattle.plans.specs.Reading.{Gives}
 use Rattle.plans.proofs.PlanRead.{plan-in, plan-words, body-read, part-room, part-from}
 use Rattle.plans.proofs.branch_part.Statement.{statement}
 use Rattle.plans.proofs.branch_part.Tie as tie

@@ -2,8 +2,6 @@
 use borrow.Author.Needs.{needs}
 use mathlib.Core.Path.{_∙_}
 use native.Mathlib.Omega.{arith}
-use Rattle.plans.specs.Endings.{endingForm, endingAt}
-use Rattle.plans.specs.Plans.{planOf}
 use Rattle.plans.proofs.PlanRead.{plan-in, plan-words, body-read, part-room, part-from}
 use Rattle.plans.proofs.ending_part.Statement.{statement}
 use Rattle.plans.proofs.ending_part.Tie as tie

@@ -1,7 +1,6 @@
 -- `join` meets its contract: the words and nodes of both, and one more.
 use borrow.Author.Needs.{needs}
 use native.Mathlib.Omega.{arith}
-use Rattle.plans.specs.Reading.{SmallTree}
 use Rattle.plans.proofs.conditions.join.Statement.{statement}
 use Rattle.plans.proofs.conditions.join.Tie as tie
 

@@ -1,7 +1,6 @@
 -- `over` meets its contract: one word and one node more.
 use borrow.Author.Needs.{needs}
 use native.Mathlib.Omega.{arith}
-use Rattle.plans.specs.Reading.{SmallTree}
 use Rattle.plans.proofs.conditions.over.Statement.{statement}
 use Rattle.plans.proofs.conditions.over.Tie as tie
 

@@ -1,0 +1,38 @@
+-- The variables of an ending, in test 6, by its pieces.
+use Prim.Native.Nat.{ℕ}
+use mathlib.Core.Path.{_≡_, sym, _∙_}
+use mathlib.Core.Bool.{Bool, true, false, _&&_}
+use Rattle.words.specs.Sequences.{all, distinct}
+use Rattle.plans.specs.declared.Last.the-variants.{Rows, Top, Group}
+use Rattle.plans.specs.Endings.{Ending, rows, top, group, keyAmong, endingRight}
+use Rattle.plans.specs.Reading.{lastIn, variablesIn, keysIn, measuredIn}
+
+-- the variables are bound and differ, or not: what is left to test
+module _ (bound : ℕ → Bool) (b : Bool) where
+  pub wrong-variables : (e : Ending) → b ≡ (all bound (variablesIn e) && distinct (variablesIn e)) → b ≡ false
+      → endingRight bound e ≡ false
+  unfolding endingRight
+  wrong-variables (rows vs) h f = sym h ∙ f
+  wrong-variables (top k vs keys) h f = rw (← h, f)
+  wrong-variables (group vs m) h f = rw (← h, f)
+
+  pub right-rows : (e : Ending) → b ≡ (all bound (variablesIn e) && distinct (variablesIn e)) → b ≡ true → lastIn e ≡ Rows
+      → endingRight bound e ≡ true
+  unfolding endingRight
+  right-rows (rows vs) h t k = sym h ∙ t
+  right-rows (top n vs keys) h t k = cc
+  right-rows (group vs m) h t k = cc
+
+  pub right-top : (e : Ending) → b ≡ (all bound (variablesIn e) && distinct (variablesIn e)) → b ≡ true → lastIn e ≡ Top
+      → endingRight bound e ≡ all (keyAmong (variablesIn e)) (keysIn e)
+  unfolding endingRight
+  right-top (rows vs) h t k = cc
+  right-top (top n vs keys) h t k = rw (← h, t)
+  right-top (group vs m) h t k = cc
+
+  pub right-group : (e : Ending) → b ≡ (all bound (variablesIn e) && distinct (variablesIn e)) → b ≡ true → lastIn e ≡ Group
+      → endingRight bound e ≡ bound (measuredIn e)
+  unfolding endingRight
+  right-group (rows vs) h t k = cc
+  right-group (top n vs keys) h t k = cc
+  right-group (group vs m) h t k = rw (← h, t)

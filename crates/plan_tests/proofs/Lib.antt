@@ -1,0 +1,3 @@
+pub mod Parts
+pub mod EndingRight
+pub mod Checked

@@ -1,0 +1,61 @@
+-- `check` meets its contract: a plan that is too long or has no head, and then the body.
+use borrow.Author.Needs.{needs}
+use mathlib.Core.Path.{refl, sym, _∙_}
+use native.Mathlib.Omega.{arith}
+use Rattle.plans.proofs.PlanRead.{some-words}
+use Rattle.plan_tests.proofs.Checked.{check-long, check-headless, check-with}
+use Rattle.plan_tests.proofs.check.Statement.{statement}
+use Rattle.plan_tests.proofs.check.Tie as tie
+
+returns : tie.Need-returns
+returns c =
+    let args = c .before .before .args in
+    sym (check-long (args .plan .now) (c .if1 .taken))
+
+branch-count-requires : tie.Need-branch-count-requires
+branch-count-requires c κs = search needs
+
+returns-2 : tie.Need-returns-2
+returns-2 c =
+    let n = c .before .branch-count in
+    let args = c .before .before .before .before .args in
+    sym (check-headless (args .plan .now) (n .result) (n .ensures .0) (c .if2 .taken))
+
+sub-check-body : tie.Need-sub-check-body
+sub-check-body c =
+    let n = c .before .branch-count in
+    let args = c .before .before .before .before .args in
+    omega (arith, some-words (args .plan .now) (n .result) (n .ensures .0) (c .if2 .left))
+
+part-check-body-start : tie.Need-part-check-body-start
+part-check-body-start c =
+    let n = c .before .branch-count in
+    let args = c .before .before .before .before .args in
+    omega (arith, some-words (args .plan .now) (n .result) (n .ensures .0) (c .if2 .left))
+
+part-check-body-end : tie.Need-part-check-body-end
+part-check-body-end c = omega arith
+
+check-body-requires : tie.Need-check-body-requires
+check-body-requires c κs = search needs
+
+returns-3 : tie.Need-returns-3
+returns-3 c =
+    let n = c .before .before .before .branch-count in
+    let args = c .before .before .before .before .before .before .args in
+    let if2 = c .before .before .if2 in
+    let if1 = c .before .before .before .before .if1 in
+    c .check-body .ensures ∙ sym (check-with (args .plan .now) (n .result) (n .ensures .0) (if2 .left) (if1 .left) _ refl)
+
+pub check-spec : {M : Type 1} → statement M
+check-spec =
+    tie.close
+    (tie.spec
+    returns
+    branch-count-requires
+    returns-2
+    sub-check-body
+    part-check-body-start
+    part-check-body-end
+    check-body-requires
+    returns-3)

@@ -1,0 +1,29 @@
+-- What the tests of a plan answer of the words that they read. Assumes nothing: these are definitions.
+use Prim.Native.Nat.{ℕ}
+use mathlib.Core.Bool.{Bool, cond}
+use mathlib.Core.Option.{Option, none, some}
+use Rattle.words.specs.Words.{isVariable}
+use Rattle.plans.specs.Conditions.{Read}
+use Rattle.plans.specs.Branches.{termRight}
+use Rattle.plans.specs.Endings.{isKey}
+use Rattle.plans.specs.Plans.{Plan, variablesRight}
+use Rattle.plan_tests.specs.declared.Part.{Part}
+use Rattle.plan_tests.specs.declared.Part.the-variants.{Ends, Broken}
+use Rattle.plan_tests.specs.declared.Wanted.{Wanted}
+use Rattle.plan_tests.specs.declared.Wanted.the-variants.{Variable, Key, RightTerm}
+
+-- a word is what is wanted of each word of a part
+abbrev pub isWanted : Wanted → ℕ → Bool
+isWanted Variable = isVariable
+isWanted Key = isKey
+isWanted RightTerm = termRight
+
+-- a part: its words, and a test of what was read
+abbrev pub partOf : {A : Type 0} → (A → Bool) → Read A → Part
+partOf test none = Broken
+partOf test (some x) = Ends (x .1) (test (x .0))
+
+-- a plan: the number of the test that it fails, 0 where it fails none
+abbrev pub planNumber : Option Plan → ℕ
+planNumber none = 5
+planNumber (some q) = cond (variablesRight q) 0 6

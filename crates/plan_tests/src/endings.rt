@@ -1,0 +1,69 @@
+// The form of an ending, in test 5.
+use crate::Wanted;
+use crate::searches::all_wanted;
+use plans::Last;
+use plans::first;
+use plans::last_of;
+use plans::row_width;
+use words::PlanWord;
+ghost use mathlib.Core.Path.{_≡_};
+ghost use Rattle.plans.specs.Endings.{rowsForm, keysForm, endingForm};
+
+pub const MOST_KEYS: usize = 4;
+
+// Whether p starts with a kind 8 part.
+pub fn rows_form(p: &[u32]) -> bool
+    ensures { λ r. ⌜ r ≡ rowsForm (now (p .entry)) ⌝ }
+{
+    let n = row_width(p);
+    if n == 0 {
+        return false;
+    }
+    let end = 1 + n;
+    if end <= p.len() {
+        return all_wanted(&p[1..end], Wanted::Variable);
+    }
+    false
+}
+
+// Whether p is 1 to 4 keys.
+pub fn keys_form(p: &[u32]) -> bool
+    ensures { λ r. ⌜ r ≡ keysForm (now (p .entry)) ⌝ }
+{
+    if p.len() == 0 {
+        return false;
+    }
+    if p.len() <= MOST_KEYS {
+        return all_wanted(p, Wanted::Key);
+    }
+    false
+}
+
+// Whether p is one ending and nothing more.
+pub fn ending_form(p: &[u32]) -> bool
+    ensures { λ r. ⌜ r ≡ endingForm (now (p .entry)) ⌝ }
+{
+    match last_of(first(p)) {
+        Last::Rows => {
+            if rows_form(p) {
+                return p.len() == 1 + row_width(p);
+            }
+            false
+        }
+        Last::Top => {
+            let rest = &p[1..];
+            if rows_form(rest) {
+                let at = 1 + row_width(rest);
+                return keys_form(&rest[at..]);
+            }
+            false
+        }
+        Last::Group => {
+            if p.len() == 2 + words::wide(PlanWord(first(p)).low()) {
+                return all_wanted(&p[1..], Wanted::Variable);
+            }
+            false
+        }
+        Last::Neither => false,
+    }
+}

@@ -1,0 +1,76 @@
+// The test of a plan's form (5) and that of its variables (6).
+mod bindings;
+mod branches;
+mod endings;
+mod searches;
+
+use plans::both;
+ghost use mathlib.Core.Path.{_≡_};
+ghost use mathlib.Core.List.{_∷_, []};
+ghost use Rattle.words.specs.Tests.{firstFailing, numberOf};
+ghost use Rattle.plans.specs.Branches.{readBranches};
+ghost use Rattle.plans.specs.Plans.{withEnding, planTests};
+ghost use Rattle.plan_tests.specs.Testing.{planNumber};
+
+pub const MOST_WORDS: usize = 256;
+
+// The tests of a plan, by their numbers.
+pub const FORM: u32 = 5;
+
+pub const VARIABLES: u32 = 6;
+
+// A part of a plan that was read: its words, and whether its variables are right; or no such part.
+pub enum Part {
+    Ends { words: usize, right: bool },
+    Broken,
+}
+
+// What each word of a part must be.
+pub enum Wanted {
+    Variable,
+    Key,
+    RightTerm,
+}
+
+// The number of the first of tests 5 and 6 that fails, or 0.
+fn number_of(form: bool, variables: bool) -> u32
+    ensures { λ r. ⌜ r ≡ numberOf (firstFailing ((5, form) ∷ (6, variables) ∷ [])) ⌝ }
+{
+    if form {
+        if variables {
+            return 0;
+        }
+        return VARIABLES;
+    }
+    FORM
+}
+
+// The check of a plan from the word after its head on, where so many branches and one ending are to stand.
+fn check_body(body: &[u32], count: u32) -> u32
+    ensures { λ r. ⌜ r ≡ planNumber (withEnding (now (body .entry)) (readBranches count (now (body .entry)))) ⌝ }
+{
+    match branches::branches(body, count) {
+        Part::Broken => FORM,
+        Part::Ends { words, right } => {
+            let e = &body[words..];
+            number_of(
+                endings::ending_form(e),
+                both(right, bindings::ending_right(body, count, e)),
+            )
+        }
+    }
+}
+
+// 0, or the number of the first test that a plan fails: 5 over the whole plan, and then 6.
+pub fn check(plan: &[u32]) -> u32
+    ensures { λ r. ⌜ r ≡ numberOf (firstFailing (planTests (now (plan .entry)))) ⌝ }
+{
+    if plan.len() > MOST_WORDS {
+        return FORM;
+    }
+    let count = plans::branch_count(plan);
+    if count == 0 {
+        return FORM;
+    }
+    check_body(&plan[1..], count)
+}
