@@ -6,6 +6,7 @@ mod longs;
 mod weave;
 
 pub use group_tests::is_groups;
+pub use group_totals::TOTALS;
 pub use groups::put_group;
 pub use weave::merge_groups;
 
