@@ -48,7 +48,7 @@ upper-fits t terms (p ∷ upper) few e =
     all-cons fitsLow p upper (lt-ltb p lowNumbers (omega (arith, i .end, end-le-count t (under t terms upper))))
     (upper-fits t terms upper few (i .above))
 
-right-fits : (t : Tables) (q : Plan) → rowCount t ≤ mostRows → PlanForm q → (s : State) → Right t q s → Fits s
+pub right-fits : (t : Tables) (q : Plan) → rowCount t ≤ mostRows → PlanForm q → (s : State) → Right t q s → Fits s
 right-fits t q few form s r =
     let d = depth-most t q form s r in
     record {

@@ -1,21 +1,31 @@
--- The words of a cursor's state, written one after the other, the outermost place first.
+-- The words of a cursor's state, written one after the other, the outermost place first; what a run holds can be saved.
 use Prim.Native.Nat.{ℕ, zero, suc, _+_, _≤_, _<_}
 use native.Mathlib.Omega.{arith}
 use native.Mathlib.Numerals.{add-one}
 use mathlib.Core.Path.{_≡_, refl, sym, _∙_, ap, ap₂}
+use mathlib.Core.Bool.{Bool, true, false}
 use mathlib.Core.List.{List, [], _∷_, _++_}
+use lib.Dec.{eqb}
 use lib.ListN.{length, drop, getD, set, length-set}
 use lib.Seq.{drop-cons, drop-set-lt, getD-set-same}
-use Rattle.words.specs.Words.{positionWord, placeWord}
-use Rattle.words.specs.Sequences.{over}
+use borrow.Author.Tests.{ltb-true, lt-ltb, eqb-true, eqb-false}
+use Rattle.words.specs.Words.{lowNumbers, positionWord, placeWord}
+use Rattle.words.specs.Bindings.{Bindings}
+use Rattle.words.specs.Sequences.{all, over}
 use Rattle.words.proofs.Buffers.{over-next}
+use Rattle.words.proofs.Elements.{all-head, all-tail, all-cons}
 use Rattle.tables.specs.declared.Place.{Place}
+use Rattle.tables.specs.Tables.{Tables}
+use Rattle.tables.specs.Right.{Right}
+use Rattle.plans.specs.Plans.{planOf}
 use Rattle.steps.specs.declared.Cursor.{Cursor}
 use Rattle.steps.specs.Saved.{upperWords, positionWords, stateWords}
 use Rattle.steps.specs.Carried.{placeAt}
-use Rattle.steps.specs.Held.{upperOf, stateOf}
-use Rattle.steps.proofs.SavedWords.{upper-length}
-use Rattle.steps.proofs.Cursors.{upper-length as places-length, upper-next}
+use Rattle.steps.specs.Held.{upperOf, stateOf, Held}
+use Rattle.steps.specs.Loading.{Storable}
+use Rattle.steps.proofs.SavedWords.{fitsLow, upper-length}
+use Rattle.steps.proofs.Accepted.{right-fits}
+use Rattle.steps.proofs.Cursors.{upper-length as places-length, upper-next, form-of, level-few, held-right}
 
 -- the first word, and the places of the levels above one
 abbrev pub wordsAbove : ℕ → List Place → ℕ → List ℕ
@@ -67,3 +77,25 @@ module _ (c : Cursor) (w : ℕ) (position : w ≡ positionWord (c .branch) (c .l
             ∙ ap (λ (ds : List ℕ). ws ++ ds) (drop-set-lt (length ws) buffer 0 w (omega arith))
             ∙ ap (λ (vs : List ℕ). over vs buffer) above-all,
       )
+
+-- ---- what a run holds can be saved
+places-fit : (ps : List Place) (level : ℕ) → all fitsLow (upperOf ps level) ≡ true → (i : ℕ) → i < level → placeAt ps i < lowNumbers
+unfolding upperOf
+places-fit ps zero e i h = absurd (omega arith)
+places-fit ps (suc level) e i h =
+    go (eqb i level) refl (places-fit ps level (all-tail fitsLow (placeAt ps level) (upperOf ps level) e) i)
+  where
+    go : (b : Bool) → eqb i level ≡ b → (i < level → placeAt ps i < lowNumbers) → placeAt ps i < lowNumbers
+    go true q above = rw (eqb-true i level q) (ltb-true (placeAt ps level) lowNumbers (all-head fitsLow _ _ e))
+    go false q above = let n = eqb-false i level q in above (omega arith)
+
+pub held-storable : (t : Tables) (ws : List ℕ) (c : Cursor) (b : Bindings) → Right t → Held t ws c b → Storable c
+unfolding upperOf
+held-storable t ws c b w k =
+    let form = form-of ws (k .planned) in
+    let f = right-fits t (planOf ws) (w .sized .few) form (stateOf c) (held-right t ws c b k) in
+    record {
+      branch = omega (arith, k .branch, form .most);
+      level = level-few ws (k .planned) (c .branch) (c .level) (k .branch) (k .level);
+      places = λ i h. places-fit (c .places) (suc (c .level)) (all-cons fitsLow _ _ (lt-ltb _ _ (f .place)) (f .upper)) i (omega arith);
+    }
