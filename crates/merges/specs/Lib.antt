@@ -1,2 +1,3 @@
 pub mod Merging
 pub mod Computing
+pub mod Answering
