@@ -13,8 +13,8 @@ use Rattle.steps.specs.Saved.{positionWords, savedWords, stateIn}
 use Rattle.lists.proofs.Room.{NoSpaceFor, no-space-longer, longer-no-space}
 use Rattle.turns.specs.declared.TurnEnding.{TurnEnding}
 use Rattle.turns.specs.declared.TurnEnding.the-variants.{Done, Spent, Full, Refused}
-use Rattle.turns.specs.Turns.{Progress, going, stopped, TurnInput, givenState, givenPlan, served, turnOf}
-use Rattle.turns.proofs.Stepping.{endingOf, stepsOf, stateOf, rowsOf, GoesOn, Stands, roomFor, has-room, lacks-room, served-stands}
+use Rattle.turns.specs.Turns.{Progress, going, stopped, endingOf, stepsOf, leftOf, rowsOf, TurnInput, givenState, givenPlan, served, turnOf}
+use Rattle.turns.proofs.Stepping.{GoesOn, Stands, roomFor, has-room, lacks-room, served-stands}
 use Rattle.turns.proofs.Refusals.{Served}
 use Rattle.turns.proofs.Follows.{givenRun, turnRun, listOf, follows, served-steps, served-ending, served-run}
 use Rattle.turns.proofs.Progress.{turn-limits}
@@ -94,7 +94,7 @@ module _ (i : TurnInput) (serve : Served i) where
 
   ended-as : (p : Progress) → Stands (i .tables) (givenPlan i) (roomFor i) (stateIn (givenState i)) (i .quantum) p
       → turnOf i .answer .steps ≡ stepsOf p → turnOf i .answer .ending ≡ endingOf p
-      → turnRun i ≡ record { state = stateOf p; delivered = rowsOf p } → Ended i
+      → turnRun i ≡ record { state = leftOf p; delivered = rowsOf p } → Ended i
   ended-as (going n u bs) h s e r =
       spent e (record { exactly = s ∙ h .how; not-done = λ z. none-some (sym z ∙ ap (λ (x : Run). x .state) r) })
   ended-as (stopped Done n o bs) h s e r =

@@ -18,8 +18,8 @@ use Rattle.steps.specs.Saved.{positionWords, upperWords, leastStateWords, state
 use Rattle.lists.specs.Gathering.{gathered}
 use Rattle.lists.proofs.OneRow.{gathered-nil}
 use Rattle.turns.specs.Opening.{Opened, openTests, openOf}
-use Rattle.turns.specs.Turns.{Progress, going, stopped, TurnInput, TurnResult, resultOf, givenState, givenPlan, turnList, finished, served, turnOf}
-use Rattle.turns.proofs.Stepping.{endingOf, stepsOf, stateOf, rowsOf, has-room, served-stands}
+use Rattle.turns.specs.Turns.{Progress, going, stopped, endingOf, stepsOf, leftOf, rowsOf, TurnInput, TurnResult, resultOf, givenState, givenPlan, turnList, finished, served, turnOf}
+use Rattle.turns.proofs.Stepping.{has-room, served-stands}
 use Rattle.turns.proofs.Refusals.{open-refusals, Opens, opened-so, Served, turned-so}
 
 -- the run from the state that a turn was given
@@ -44,14 +44,14 @@ pub record Follows (i : TurnInput) : Type 0 where
 
 -- the result of some progress, by its parts
 pub by-parts : (i : TurnInput) (p : Progress)
-    → finished i p ≡ resultOf i (endingOf p) (stepsOf p) (savedWords (stateOf p)) (turnList i (endingOf p) (rowsOf p))
+    → finished i p ≡ resultOf i (endingOf p) (stepsOf p) (savedWords (leftOf p)) (turnList i (endingOf p) (rowsOf p))
 by-parts i (going n s bs) = refl
 by-parts i (stopped e n s bs) = refl
 
 module _ (i : TurnInput) (serve : Served i) where
   -- the parts of a served turn's result
   pub served-parts : turnOf i
-      ≡ resultOf i (endingOf (served i)) (stepsOf (served i)) (savedWords (stateOf (served i))) (listOf i (rowsOf (served i)))
+      ≡ resultOf i (endingOf (served i)) (stepsOf (served i)) (savedWords (leftOf (served i))) (listOf i (rowsOf (served i)))
   served-parts = turned-so i serve ∙ by-parts i (served i)
 
   pub served-steps : turnOf i .answer .steps ≡ stepsOf (served i)
@@ -61,7 +61,7 @@ module _ (i : TurnInput) (serve : Served i) where
   served-ending = ap (λ (r : TurnResult). r .answer .ending) served-parts
 
   -- the run where the turn leaves it
-  pub served-run : turnRun i ≡ record { state = stateOf (served i); delivered = rowsOf (served i) }
+  pub served-run : turnRun i ≡ record { state = leftOf (served i); delivered = rowsOf (served i) }
   served-run = ap (givenRun i) served-steps ∙ served-stands i .run
 
   -- the result in terms of that run

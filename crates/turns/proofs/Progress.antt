@@ -16,8 +16,8 @@ use Rattle.steps.specs.Saved.{stateIn, leastStateWords}
 use Rattle.lists.specs.Gathering.{leastOutput}
 use Rattle.lists.proofs.OneRow.{one-row}
 use Rattle.turns.specs.declared.TurnEnding.the-variants.{Done, Spent, Full, Refused}
-use Rattle.turns.specs.Turns.{Progress, going, stopped, mostSteps, TurnInput, givenState, givenPlan, served, turnOf}
-use Rattle.turns.proofs.Stepping.{stepsOf, Stands, roomFor, has-room, served-stands}
+use Rattle.turns.specs.Turns.{Progress, going, stopped, stepsOf, mostSteps, TurnInput, givenState, givenPlan, served, turnOf}
+use Rattle.turns.proofs.Stepping.{Stands, roomFor, has-room, served-stands}
 use Rattle.turns.proofs.Refusals.{Served, turn-refusals}
 use Rattle.turns.proofs.Follows.{served-steps}
 

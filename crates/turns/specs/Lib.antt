@@ -1,3 +1,5 @@
 pub mod Opening
 pub mod Turns
+pub mod Running
+pub mod Testing
 pub mod Computing

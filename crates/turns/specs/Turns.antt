@@ -31,6 +31,23 @@ pub data Progress : Type 0 where
   going : ℕ → State → List Bindings → Progress
   stopped : TurnEnding → ℕ → Option State → List Bindings → Progress
 
+-- the parts of a progress: the ending that it has come to, its steps, its state, none when done, and its rows
+abbrev pub endingOf : Progress → TurnEnding
+endingOf (going n s bs) = Spent
+endingOf (stopped e n s bs) = e
+
+abbrev pub stepsOf : Progress → ℕ
+stepsOf (going n s bs) = n
+stepsOf (stopped e n s bs) = n
+
+abbrev pub leftOf : Progress → Option State
+leftOf (going n s bs) = some s
+leftOf (stopped e n s bs) = s
+
+abbrev pub rowsOf : Progress → List Bindings
+rowsOf (going n s bs) = bs
+rowsOf (stopped e n s bs) = bs
+
 -- after n steps at s, with some rows, the next step: a row is delivered only if the list with it fits
 abbrev pub tried : (List Bindings → Bool) → ℕ → State → List Bindings → Step → Progress
 tried fits n s bs (moves u) = going (n + 1) u bs

@@ -1,0 +1,27 @@
+// Opening a query: the words of its start state.
+use crate::testing::ACCEPTED;
+use crate::testing::ROOM;
+use crate::testing::STATE_WORDS;
+use crate::testing::check;
+use words::Term;
+use words::Written;
+ghost use mathlib.Core.Path.{_≡_};
+ghost use Rattle.tables.specs.Tables.{tablesOf};
+ghost use Rattle.turns.specs.Opening.{openOf};
+
+// Writes the start state of a query to the state buffer, or refuses by the number of the first test that fails.
+pub fn open(rows: &[u32], pos: &[u32], osp: &[u32], plan: &[u32], state: &mut [u32]) -> Written
+    ensures answer { λ r. ⌜ r ≡ openOf (tablesOf (now (rows .entry)) (now (pos .entry)) (now (osp .entry))) (now (plan .entry)) (now (state .entry)) .answer ⌝ }
+    ensures state { λ _. ⌜ now (state .exit) ≡ openOf (tablesOf (now (rows .entry)) (now (pos .entry)) (now (osp .entry))) (now (plan .entry)) (now (state .entry)) .state ⌝ }
+{
+    let number = check(rows, pos, osp, plan);
+    if number != ACCEPTED {
+        return Written::Refused(number);
+    }
+    if state.len() < STATE_WORDS {
+        return Written::Refused(ROOM);
+    }
+    let mut bound = [Term::UNBOUND; 16];
+    let start = steps::start_branch(rows, pos, osp, plan, 0, &mut bound);
+    Written::Words(steps::save(start, state))
+}
