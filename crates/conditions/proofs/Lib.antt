@@ -1,6 +1,5 @@
 pub mod ComparisonCases
 pub mod ComparisonLaws
-pub mod Operands
 pub mod Reading
 pub mod Evaluating
 pub mod Logic

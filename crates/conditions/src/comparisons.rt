@@ -5,9 +5,9 @@ use crate::truths::negation;
 use crate::truths::of_test;
 use words::PlanWord;
 use words::Term;
+use words::value_of;
 ghost use mathlib.Core.Path.{_≡_};
 ghost use lib.Dec.{ltb, leb};
-ghost use Rattle.words.specs.Bindings.{valueOf};
 ghost use Rattle.conditions.specs.Truth.{kindsAre, equality, inequality, comparison};
 ghost use Rattle.conditions.specs.Values.{haveOrder, areMixed, comparisonAt};
 
@@ -78,22 +78,6 @@ fn compare(operator: u32, a: u32, b: u32) -> Truth
     }
 }
 
-// The value of a term: a variable's binding, and a constant itself.
-pub fn operand(word: u32, bound: &[u32; 16]) -> u32
-    ensures { λ r. ⌜ r ≡ valueOf (now (bound .entry)) word ⌝ }
-{
-    let term = Term(word);
-    if term.is_variable() {
-        let values: &[u32] = bound;
-        let variable = words::wide(term.value());
-        if variable < values.len() {
-            return values[variable];
-        }
-        return Term::UNBOUND;
-    }
-    word
-}
-
 // The value of the comparison at the start of p.
 pub fn compared(p: &[u32], bound: &[u32; 16]) -> Value
     ensures { λ r. ⌜ r ≡ comparisonAt (now (bound .entry)) (now (p .entry)) ⌝ }
@@ -104,8 +88,8 @@ pub fn compared(p: &[u32], bound: &[u32; 16]) -> Value
     Value::Is {
         truth: compare(
             PlanWord(p[0]).low(),
-            operand(p[1], bound),
-            operand(p[2], bound),
+            value_of(p[1], bound),
+            value_of(p[2], bound),
         ),
         words: 3,
     }

@@ -3,7 +3,7 @@ mod comparisons;
 mod truths;
 
 use comparisons::compared;
-pub use comparisons::operand;
+use plans::MOST_DEPTH;
 use plans::Node;
 use truths::is_true;
 use truths::join;
@@ -24,9 +24,6 @@ pub enum Value {
     Is { truth: Truth, words: usize },
     Unread,
 }
-
-// How deep a condition is at most.
-const MOST_DEPTH: u32 = 8;
 
 // The value of the condition at the start of p, at most `left` deep. Both operands of a pair are evaluated.
 pub fn evaluate(p: &[u32], left: u32, bound: &[u32; 16]) -> Value

@@ -1,4 +1,4 @@
--- `compared` meets its contract: a comparison is three words, and its value is that of its operands' values.
+-- `compared` meets its contract: a comparison is three words, and its value is that of its value-ofs' values.
 use borrow.Author.Needs.{needs}
 use mathlib.Core.Path.{sym, _∙_}
 use Rattle.conditions.proofs.Evaluating.{short-comparison, whole-comparison}
@@ -16,17 +16,17 @@ shared-slice-read-t8 c = search needs
 low-requires : tie.Need-low-requires
 low-requires c κs = search needs
 
-shared-slice-read-operand : tie.Need-shared-slice-read-operand
-shared-slice-read-operand c = search needs
+shared-slice-read-value-of : tie.Need-shared-slice-read-value-of
+shared-slice-read-value-of c = search needs
 
-operand-requires : tie.Need-operand-requires
-operand-requires c κs = search needs
+value-of-requires : tie.Need-value-of-requires
+value-of-requires c κs = search needs
 
-shared-slice-read-operand-2 : tie.Need-shared-slice-read-operand-2
-shared-slice-read-operand-2 c = search needs
+shared-slice-read-value-of-2 : tie.Need-shared-slice-read-value-of-2
+shared-slice-read-value-of-2 c = search needs
 
-operand-requires-2 : tie.Need-operand-requires-2
-operand-requires-2 c κs = search needs
+value-of-requires-2 : tie.Need-value-of-requires-2
+value-of-requires-2 c κs = search needs
 
 compare-requires : tie.Need-compare-requires
 compare-requires c κs = search needs
@@ -40,8 +40,8 @@ returns-2 c =
       whole-comparison (s .args .bound .now) (s .args .p .now) (f .if1 .left),
       c .compare .ensures,
       k .before .before .low .ensures,
-      k .operand .ensures,
-      c .before .operand2 .ensures,
+      k .value-of .ensures,
+      c .before .value-of2 .ensures,
     )
 
 pub compared-spec : {M : Type 1} → statement M
@@ -51,9 +51,9 @@ compared-spec =
     returns
     shared-slice-read-t8
     low-requires
-    shared-slice-read-operand
-    operand-requires
-    shared-slice-read-operand-2
-    operand-requires-2
+    shared-slice-read-value-of
+    value-of-requires
+    shared-slice-read-value-of-2
+    value-of-requires-2
     compare-requires
     returns-2)
