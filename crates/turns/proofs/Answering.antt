@@ -1,6 +1,6 @@
 -- What a turn answers and leaves: by the number of the first test that fails, or by its steps.
 use Prim.Native.Nat.{ℕ}
-use mathlib.Core.Path.{_≡_, refl, sym, _∙_, ap, subst}
+use mathlib.Core.Path.{_≡_, sym, _∙_, ap, subst}
 use mathlib.Core.Option.{none, some}
 use mathlib.Core.List.{List, []}
 use lib.ListN.{length}
@@ -19,30 +19,29 @@ use Rattle.turns.proofs.Numbering.{Accepted}
 
 -- the answer, the state buffer and the output are those of the definition
 abbrev pub Answers : TurnInput → Turned → List ℕ → List ℕ → Type 0
-Answers i answer state output = (answer ≡ turnOf i .answer) × ((state ≡ turnOf i .state) × (output ≡ turnOf i .output))
+Answers i answer state output = record { answer = answer; state = state; output = output } ≡ turnOf i
 
 same-answer : (a b : ℕ) (x y : TurnEnding) (c d e f : ℕ) → a ≡ b → x ≡ y → c ≡ d → e ≡ f
     → _≡_ {A = Turned} (record { steps = a; ending = x; saved = c; listed = e }) (record { steps = b; ending = y; saved = d; listed = f })
 same-answer a b x y c d e f p q r s = rw (p, q, r, s)
 
-module _ (i : TurnInput) where
-  answers : (r : TurnResult) → turnOf i ≡ r → Answers i (r .answer) (r .state) (r .output)
-  answers r e = rw e (refl, (refl, refl))
+same-result : (a b : Turned) (s t o u : List ℕ) → a ≡ b → s ≡ t → o ≡ u
+    → _≡_ {A = TurnResult} (record { answer = a; state = s; output = o }) (record { answer = b; state = t; output = u })
+same-result a b s t o u p q r = rw (p, q, r)
 
+module _ (i : TurnInput) where
   pub refuses : (n : ℕ) → firstFailing (turnTests i) ≡ some n
       → Answers i (record { steps = 0; ending = Refused n; saved = 0; listed = 0 }) (i .state) (i .output)
   unfolding turnOf
-  refuses n e = answers (resultOf i (Refused n) 0 [] []) (ap (turnedAs i) e)
+  refuses n e = sym (ap (turnedAs i) e)
 
   -- by the steps of some progress
   by-steps : (p : Progress) → turnOf i ≡ finished i p → (r : Ran) (after : List ℕ) → Runs (givenPlan i .ending) (i .threshold) p (i .output) after r
       → Answers i (answerOf r) (over (savedWords (leftAt (r .ending) (r .next))) (i .state)) after
   by-steps p e r after k =
       let w = ap savedWords (sym (k .left)) in
-      let a = answers (resultOf i (endingOf p) (stepsOf p) (savedWords (leftOf p)) (turnList i (endingOf p) (rowsOf p))) (e ∙ by-parts i p) in (
-        same-answer (r .steps) (stepsOf p) (r .ending) (endingOf p) _ _ (r .used) _ (k .steps) (k .ending) (ap length w) (k .listed .0) ∙ a .0,
-        (ap (λ ws. over ws (i .state)) w ∙ a .1 .0, k .listed .1 ∙ a .1 .1),
-      )
+      let a = same-answer (r .steps) (stepsOf p) (r .ending) (endingOf p) _ _ (r .used) _ (k .steps) (k .ending) (ap length w) (k .listed .0) in
+      same-result (answerOf r) _ _ _ after _ a (ap (λ ws. over ws (i .state)) w) (k .listed .1) ∙ sym (e ∙ by-parts i p)
 
   -- those of a turn start at the given state
   abbrev runFor : State → Progress

@@ -15,7 +15,7 @@ use Rattle.steps.specs.Steps.{startOf}
 use Rattle.steps.specs.declared.Cursor.{Cursor}
 use Rattle.steps.specs.Held.{stateOf}
 use Rattle.steps.specs.Saved.{stateWords, leastStateWords}
-use Rattle.turns.specs.Opening.{Opened, openTests, openedWith, openedAs, openOf}
+use Rattle.turns.specs.Opening.{openTests, openedWith, openedAs, openOf}
 use Rattle.turns.proofs.Numbering.{earlyTests, early-pass, front-fails, rest-decides}
 
 module _ (t : Tables) (plan state : List ℕ) where
@@ -50,7 +50,7 @@ module _ (t : Tables) (plan state : List ℕ) where
   pub opened-words : (c : Cursor) → stateOf c ≡ startOf t (planOf plan) 0
       → openOf t plan state ≡ openedWith (stateWords (startOf t (planOf plan) 0)) state → (n : ℕ) (after : List ℕ)
       → (n ≡ length (stateWords (stateOf c))) × (after ≡ over (stateWords (stateOf c)) state)
-      → (Words n ≡ openOf t plan state .answer) × (after ≡ openOf t plan state .state)
+      → record { answer = Words n; state = after } ≡ openOf t plan state
   opened-words c e r n after w =
       let x : openOf t plan state ≡ openedWith (stateWords (stateOf c)) state = rw e r in
-      (ap Words (w .0) ∙ sym (ap (λ (o : Opened). o .answer) x), w .1 ∙ sym (ap (λ (o : Opened). o .state) x))
+      rw (w .0, w .1) (sym x)

@@ -11,8 +11,7 @@ ghost use Rattle.turns.specs.Opening.{openOf};
 
 // Writes the start state of a query to the state buffer, or refuses by the number of the first test that fails.
 pub fn open(rows: &[u32], pos: &[u32], osp: &[u32], plan: &[u32], state: &mut [u32]) -> Written
-    ensures answer { λ r. ⌜ r ≡ openOf (tablesOf (now (rows .entry)) (now (pos .entry)) (now (osp .entry))) (now (plan .entry)) (now (state .entry)) .answer ⌝ }
-    ensures state { λ _. ⌜ now (state .exit) ≡ openOf (tablesOf (now (rows .entry)) (now (pos .entry)) (now (osp .entry))) (now (plan .entry)) (now (state .entry)) .state ⌝ }
+    ensures { λ r. ⌜ record { answer = r; state = now (state .exit) } ≡ openOf (tablesOf (now (rows .entry)) (now (pos .entry)) (now (osp .entry))) (now (plan .entry)) (now (state .entry)) ⌝ }
 {
     let number = check(rows, pos, osp, plan);
     if number != ACCEPTED {

@@ -59,9 +59,7 @@ pub fn turn(
     threshold: &[u32],
     output: &mut [u32],
 ) -> Turned
-    ensures answer { λ r. ⌜ r ≡ turnOf (turnInput (now (rows .entry)) (now (pos .entry)) (now (osp .entry)) (now (plan .entry)) (now (state .entry)) given quantum (now (threshold .entry)) (now (output .entry))) .answer ⌝ }
-    ensures state { λ _. ⌜ now (state .exit) ≡ turnOf (turnInput (now (rows .entry)) (now (pos .entry)) (now (osp .entry)) (now (plan .entry)) (now (state .entry)) given quantum (now (threshold .entry)) (now (output .entry))) .state ⌝ }
-    ensures output { λ _. ⌜ now (output .exit) ≡ turnOf (turnInput (now (rows .entry)) (now (pos .entry)) (now (osp .entry)) (now (plan .entry)) (now (state .entry)) given quantum (now (threshold .entry)) (now (output .entry))) .output ⌝ }
+    ensures { λ r. ⌜ record { answer = r; state = now (state .exit); output = now (output .exit) } ≡ turnOf (turnInput (now (rows .entry)) (now (pos .entry)) (now (osp .entry)) (now (plan .entry)) (now (state .entry)) given quantum (now (threshold .entry)) (now (output .entry))) ⌝ }
 {
     let mut bound = [Term::UNBOUND; 16];
     let loaded = prepare(

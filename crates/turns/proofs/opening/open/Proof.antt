@@ -1,10 +1,9 @@
 -- `open` meets its contract: tests 1 to 6, then the room for a state, then the start state.
 use borrow.Author.Needs.{needs}
-use mathlib.Core.Path.{sym, _∙_, ap}
+use mathlib.Core.Path.{sym, _∙_}
 use Rattle.tables.specs.Tables.{tablesOf}
 use Rattle.steps.proofs.Cursors.{form-of}
 use Rattle.steps.proofs.Storing.{held-storable}
-use Rattle.turns.specs.Opening.{Opened}
 use Rattle.turns.proofs.Numbering.{early-right, early-planned}
 use Rattle.turns.proofs.Opened.{open-refused, open-short, open-served, opened-words}
 use Rattle.turns.proofs.opening.open.Statement.{statement}
@@ -18,16 +17,14 @@ returns c =
     let k = c .before in
     let s = k .before .before .before .before .before .before in
     let t = tablesOf (s .args .rows .now) (s .args .pos .now) (s .args .osp .now) in
-    let r = open-refused t (s .args .plan .now) (s .args .state .now) (k .check .result) (k .check .ensures) (c .if1 .taken) in
-    (sym (ap (λ (o : Opened). o .answer) r), sym (ap (λ (o : Opened). o .state) r))
+    sym (open-refused t (s .args .plan .now) (s .args .state .now) (k .check .result) (k .check .ensures) (c .if1 .taken))
 
 returns-2 : tie.Need-returns-2
 returns-2 c =
     let k = c .before .before in
     let s = k .before .before .before .before .before .before in
     let t = tablesOf (s .args .rows .now) (s .args .pos .now) (s .args .osp .now) in
-    let r = open-short t (s .args .plan .now) (s .args .state .now) (sym (k .check .ensures) ∙ c .before .if1 .left) (c .if2 .taken) in
-    (sym (ap (λ (o : Opened). o .answer) r), sym (ap (λ (o : Opened). o .state) r))
+    sym (open-short t (s .args .plan .now) (s .args .state .now) (sym (k .check .ensures) ∙ c .before .if1 .left) (c .if2 .taken))
 
 start-branch-requires : tie.Need-start-branch-requires
 start-branch-requires c κs =

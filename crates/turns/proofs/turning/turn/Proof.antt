@@ -58,7 +58,7 @@ returns-2 c =
     let i = turnInput (s .args .rows .now) (s .args .pos .now) (s .args .osp .now) (s .args .plan .now) (s .args .state .now) (s .args .given) (s .args .quantum) (s .args .threshold .now) (s .args .output .now) in
     let a = serves i (turn-passes i (sym (p .prepare .ensures .0) ∙ f .if1 .left)) (stateOf (p .prepare .result .from)) (p .prepare .ensures .1 (f .if1 .left) .0)
     (r .run .result) (r .run .last .1 .1 .1 .1 .1 .1 .1 .1 .0) (r .run .ensures) in
-    (n .finish .ensures .0 ∙ a .0, (n .finish .ensures .1 ∙ a .1 .0, a .1 .1))
+    rw (n .finish .ensures .0, n .finish .ensures .1) a
 
 pub turn-spec : {M : Type 1} → statement M
 turn-spec =
