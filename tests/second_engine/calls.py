@@ -1,0 +1,237 @@
+"""Calls of opening, turns and merging for a wood and a plan: cuts, turns from any state, wild lists, and damaged input."""
+from collections import namedtuple
+
+from evaluation import DONE, MOST_QUANTUM, TooLong, read_plan, split_record, state_words, width
+from words import (FALLING, GROUP, MOST_VALUE, MOST_WORD, NOT, NUMBER, PLACE, RISING, ROWS, STATE, TOP, UNBOUND, number, plan_word,
+                   term, two_words, variable)
+
+Open = namedtuple('Open', 'tables words state')
+Turn = namedtuple('Turn', 'tables words state given quantum threshold output')
+Merge = namedtuple('Merge', 'words kept given made')
+
+
+class CutDiffers(Exception):
+    """A cut that does not add up to the uncut run."""
+
+
+def made_by(evaluation, call):
+    """The answer of a call, and the buffers it may write, as they are at exit."""
+    return getattr(evaluation, type(call).__name__.lower())(*call)
+
+
+class Script:
+    """The calls made for one plan, each with its right answer and buffers."""
+
+    def __init__(self, rng, right, tables, words):
+        self.rng, self.right, self.tables, self.words = rng, right, tables, words
+        self.plan = read_plan(words)
+        self.states = right.walk(tables, words).states
+        self.delivered = right.deliveries(tables, words)
+        self.rows = [row for row in self.delivered if row is not None]
+        self.calls = []
+
+    def make(self, call):
+        result = made_by(self.right, call)
+        self.calls.append((call, result))
+        return result
+
+    def filler(self, length):
+        return tuple(self.rng.getrandbits(32) for _ in range(length))
+
+    def spare(self):
+        return self.rng.choice([0, 0, 1, 2, 5])
+
+    # Cuts.
+
+    def output(self, share):
+        """An output with space for a share of the rows or groups, and at least for what test 7 asks."""
+        every = len(self.right.groups(self.rows)) if self.plan.kind == GROUP else len(self.rows)
+        needed = self.right.least_output(self.plan)
+        return self.filler(max(needed, needed if self.plan.kind == TOP else int(every * share) * width(self.plan)) + self.spare())
+
+    def cut(self, quantum, share, with_threshold):
+        """A query from its opening to its end, each list taken as it comes."""
+        answer, state = self.make(Open(self.tables, self.words, self.filler(9 + self.spare())))
+        whole = tuple(self.right.list_words(self.plan, self.rows))
+        kept, held, given, threshold, steps, joined = self.filler(len(whole) + self.spare()), 0, answer.words, (), 0, ()
+        while True:
+            answer, state, output = self.make(Turn(self.tables, self.words, state, given, quantum(), threshold, self.output(share)))
+            made, given, steps = output[:answer.list_words], answer.state_words, steps + answer.steps
+            if self.plan.kind == ROWS:
+                joined += made
+            else:
+                merged, kept = self.make(Merge(self.words, kept, held, made))
+                held = merged.words
+            if with_threshold and self.plan.kind == TOP and held == width(self.plan) * self.plan.k:
+                threshold = kept[held - width(self.plan):held]
+            if answer.ending == DONE or answer.refused:
+                break
+        if answer.refused or steps != len(self.states) or (joined if self.plan.kind == ROWS else kept[:held]) != whole:
+            raise CutDiffers
+
+    def cuts(self):
+        steps = len(self.states)
+        even, most = max(1, -(-steps // self.rng.randint(1, 7))), max(2, steps // 2)
+        self.cut(lambda: even, 1, True)
+        self.cut(lambda: self.rng.randint(1, most), self.rng.choice([.1, .2, .4]), self.rng.random() < .5)
+        if steps <= 20:
+            self.cut(lambda: 1, 0, False)
+
+    # Turns from any state, and lists that no run made.
+
+    def some_term(self):
+        terms = self.tables.rows or (number(1),)
+        return self.rng.choice([UNBOUND, self.rng.choice(terms), self.rng.choice(terms), term(self.rng.randrange(3), self.rng.randrange(3))])
+
+    def some_threshold(self):
+        if self.plan.kind != TOP or self.rng.random() < .3:
+            return ()
+        row = list(self.rng.choice(self.rows)) if self.rows else [self.some_term() for _ in self.plan.columns]
+        if self.rng.random() < .5:
+            row[self.rng.randrange(len(row))] = self.some_term()
+        return tuple(row)
+
+    def turn(self):
+        words = state_words(self.rng.choice(self.states))
+        quantum = self.rng.choice([1, 2, self.rng.randint(1, len(self.states)), len(self.states), MOST_QUANTUM])
+        return Turn(self.tables, self.words, tuple(words) + self.filler(9 + self.spare() - len(words)), len(words), quantum,
+                    self.some_threshold(), self.output(self.rng.choice([0, .3, .6, 1])))
+
+    def some_totals(self):
+        count = self.rng.choice([1, 2, 3, MOST_WORD, 1 << 32, 1 << 62, 1 << 63, (1 << 64) - 2])
+        numbers = self.rng.choice([0, count, self.rng.randint(0, count)])
+        if numbers == 0:
+            return two_words(count) + [0, 0, 0, 0, UNBOUND, UNBOUND]
+        bounds = sorted(number(self.rng.choice([0, 1, 45, MOST_VALUE])) for _ in range(2))
+        total = self.rng.choice([0, 45, MOST_WORD, MOST_WORD - 1, 1 << 32, 1 << 63, (1 << 64) - 1])
+        return two_words(count) + two_words(numbers) + two_words(total) + bounds
+
+    def wild_list(self, pool):
+        """A list in order, of rows or records that no run need have made."""
+        if self.plan.kind == GROUP:
+            keys = {key for key in pool if self.rng.random() < .7}
+            return tuple(w for key in sorted(keys, key=self.right.group_key) for w in [*key, *self.some_totals()])
+        rows = [self.rng.choice(pool) for _ in range(self.rng.randint(0, min(self.plan.k, 6)))]
+        return tuple(w for row in sorted(rows, key=lambda row: self.right.sort_key(self.plan, row)) for w in row)
+
+    def wild_merge(self):
+        fields = len(self.plan.group) if self.plan.kind == GROUP else len(self.plan.columns)
+        pool = [tuple(self.some_term() for _ in range(fields)) for _ in range(4)] if self.plan.kind != ROWS else []
+        kept, made = (self.wild_list(pool) if pool else () for _ in range(2))
+        return Merge(self.words, kept + self.filler(self.rng.choice([0, 1, len(made), len(made) + 3])), len(kept), made)
+
+    # Damage.
+
+    def nudged(self, words, word):
+        """The words with one of them changed, left out or doubled, two exchanged, or one more."""
+        words, at = list(words), self.rng.randrange(len(words)) if words else 0
+        way = self.rng.randrange(6)
+        if not words or way == 0:
+            words.insert(at, word)
+        elif way == 1:
+            del words[at]
+        elif way == 2:
+            words.append(words[at])
+        elif way == 3:
+            other = self.rng.randrange(len(words))
+            words[at], words[other] = words[other], words[at]
+        elif way == 4:
+            words[at] ^= 1 << self.rng.randrange(32)
+        else:
+            words[at] = word
+        return tuple(words)
+
+    def plan_damage(self, call):
+        word = self.rng.choice([variable(self.rng.choice([0, 1, 3, 15, 16, 17, MOST_VALUE])), plan_word(self.rng.randrange(16), self.rng.choice([0, 1, 2, 5, 6, 64, 65])),
+                                plan_word(self.rng.choice([RISING, FALLING]), self.rng.choice([0, 3, 16, 0xfffffff])), self.some_term()])
+        words = self.nudged(call.words, word)
+        if self.rng.random() < .1:
+            at = self.rng.randrange(len(words) + 1)
+            words = words[:at] + (plan_word(NOT, 0),) * self.rng.randint(1, 8) + words[at:]
+        if self.rng.random() < .1:
+            words = words[:self.rng.randrange(len(words) + 1)]
+        if self.rng.random() < .05:
+            words = words + (word,) * 250
+        return call._replace(words=words)
+
+    def table_damage(self, call):
+        tables, count = call.tables, len(call.tables.pos)
+        way = self.rng.randrange(5)
+        if way == 0 and count > 1:
+            at, rows = 3 * self.rng.randrange(count - 1), list(tables.rows)
+            rows[at:at + 3] = rows[at + 3:at + 6]
+            return call._replace(tables=tables._replace(rows=tuple(rows)))
+        if way == 1 and count > 1:
+            at, rows = 3 * self.rng.randrange(count - 1), list(tables.rows)
+            rows[at:at + 6] = rows[at + 3:at + 6] + rows[at:at + 3]
+            return call._replace(tables=tables._replace(rows=tuple(rows)))
+        if way == 2:
+            return call._replace(tables=tables._replace(rows=self.nudged(tables.rows, self.rng.choice([UNBOUND, number(3), self.some_term()]))))
+        field = self.rng.choice(['pos', 'osp'])
+        return call._replace(tables=tables._replace(**{field: self.nudged(getattr(tables, field), self.rng.choice([0, count, count + 1, MOST_WORD]))}))
+
+    def state_damage(self, call):
+        if isinstance(call, Open) or self.rng.random() < .2:
+            return call._replace(state=call.state[:self.rng.randrange(9)])
+        if self.rng.random() < .4:
+            return call._replace(given=self.rng.choice([0, 1, max(0, call.given - 1), call.given + 1, len(call.state), len(call.state) + 1]))
+        if not 0 < call.given <= len(call.state):
+            return call
+        state, at = list(call.state), self.rng.randrange(call.given)
+        way = self.rng.randrange(3)
+        if way == 0:
+            state[at] = plan_word(self.rng.choice([STATE, PLACE, PLACE, 1]), self.rng.choice([0, 1, 2, 3, 16, 17, 18, 33, 64, 65]))
+        elif way == 1:
+            state[at] = (state[at] + self.rng.choice([-2, -1, 1, 1, 2])) & MOST_WORD
+        else:
+            words = state_words(self.rng.choice(self.states))
+            state[at] = words[min(at, len(words) - 1)]
+        return call._replace(state=tuple(state))
+
+    def turn_damage(self, call):
+        way = self.rng.randrange(4)
+        if way == 0:
+            return call._replace(quantum=self.rng.choice([0, MOST_QUANTUM + 1, MOST_WORD]))
+        if way == 1:
+            return call._replace(output=call.output[:self.rng.choice([0, max(0, self.right.least_output(self.plan) - 1)])])
+        if way == 2:
+            return call._replace(threshold=self.nudged(call.threshold, self.rng.choice([variable(1), MOST_WORD, self.some_term()])))
+        return self.state_damage(call)
+
+    def list_damage(self, call):
+        field = self.rng.choice(['kept', 'made'])
+        way = self.rng.randrange(5)
+        if way == 0:
+            return call._replace(given=self.rng.choice([0, 1, max(0, call.given - 1), call.given + 1, len(call.kept) + 1]))
+        if way == 1:
+            return call._replace(made=call.made * self.rng.choice([2, 2, 12]))
+        if way == 2:
+            return call._replace(kept=call.kept[:call.given])
+        word = self.rng.choice([0, 1, UNBOUND, UNBOUND + 1, MOST_WORD, number(5), number(MOST_VALUE), self.some_term()])
+        words = getattr(call, field)
+        if way == 3 and words and self.plan.kind == GROUP:
+            at = self.rng.randrange(len(words))
+            return call._replace(**{field: words[:at] + (word,) + words[at + 1:]})
+        return call._replace(**{field: self.nudged(words, word)})
+
+    def damaged(self, call):
+        ways = {Open: [self.table_damage, self.plan_damage, self.state_damage],
+                Turn: [self.table_damage, self.plan_damage, self.turn_damage, self.state_damage],
+                Merge: [self.plan_damage, self.list_damage, self.list_damage, self.list_damage]}[type(call)]
+        for _ in range(self.rng.choice([1, 1, 1, 2])):
+            call = self.rng.choice(ways)(call)
+        return call
+
+    def all(self, damages):
+        self.cuts()
+        for _ in range(3):
+            self.make(self.turn())
+        for _ in range(2):
+            self.make(self.wild_merge())
+        for _ in range(damages):
+            call = self.rng.choice([self.turn, self.turn, self.wild_merge, lambda: Open(self.tables, self.words, self.filler(9))])()
+            try:
+                self.make(self.damaged(call))
+            except TooLong:
+                pass
+        return self.calls

@@ -1,0 +1,98 @@
+"""The engine's three calls, from a library with their C declarations, answering as the evaluation does."""
+import os
+import subprocess
+from ctypes import CDLL, POINTER, Structure, addressof, c_size_t, c_uint32, cast, sizeof
+
+from evaluation import Turned, Written
+
+GUARD = 4
+GUARD_WORD = 0xA5A5C3C3
+WORDS = POINTER(c_uint32)
+
+
+class CWritten(Structure):
+    _fields_ = [('refused', c_uint32), ('words', c_size_t)]
+
+
+class CTurned(Structure):
+    _fields_ = [('ending', c_uint32), ('refused', c_uint32), ('steps', c_uint32), ('state_words', c_size_t), ('list_words', c_size_t)]
+
+
+class Touched(Exception):
+    """A word changed that the call was not lent for writing."""
+
+
+class Buffer:
+    """Words lent to a call, with guard words before and behind."""
+
+    def __init__(self, words):
+        self.lent = tuple(words)
+        self.array = (c_uint32 * (len(words) + 2 * GUARD))(*(GUARD_WORD,) * GUARD, *words, *(GUARD_WORD,) * GUARD)
+
+    def arguments(self):
+        return cast(addressof(self.array) + GUARD * sizeof(c_uint32), WORDS), len(self.lent)
+
+    def words(self, name):
+        """The words at exit."""
+        words = tuple(self.array)
+        if set(words[:GUARD] + words[len(words) - GUARD:]) != {GUARD_WORD}:
+            raise Touched(f'a word beside {name}')
+        return words[GUARD:len(words) - GUARD]
+
+    def unchanged(self, name):
+        if self.words(name) != self.lent:
+            raise Touched(name)
+
+
+def lent(tables, words):
+    """The buffers that open and turn take first."""
+    return [('rows', Buffer(tables.rows)), ('pos', Buffer(tables.pos)), ('osp', Buffer(tables.osp)), ('plan', Buffer(words))]
+
+
+def passed(buffers):
+    return [argument for _, buffer in buffers for argument in buffer.arguments()]
+
+
+def check(buffers):
+    for name, buffer in buffers:
+        buffer.unchanged(name)
+
+
+def shared(path, folder):
+    """A shared library: a static one is linked into it."""
+    if not path.endswith('.a'):
+        return os.path.abspath(path)
+    target = os.path.join(folder, 'libengine.so')
+    subprocess.run(['cc', '-shared', '-o', target, '-Wl,--whole-archive', path, '-Wl,--no-whole-archive'], check=True)
+    return target
+
+
+class Engine:
+    """The calls of a library."""
+
+    def __init__(self, path, folder):
+        library = CDLL(shared(path, folder))
+        table_types = [WORDS, c_size_t] * 4
+        self.opening, self.turning, self.merging = library.sotjarn_open, library.sotjarn_turn, library.sotjarn_merge
+        self.opening.restype, self.opening.argtypes = CWritten, table_types + [WORDS, c_size_t]
+        self.turning.restype, self.turning.argtypes = CTurned, table_types + [WORDS, c_size_t, c_size_t, c_uint32] + [WORDS, c_size_t] * 2
+        self.merging.restype, self.merging.argtypes = CWritten, [WORDS, c_size_t, WORDS, c_size_t, c_size_t, WORDS, c_size_t]
+
+    def open(self, tables, words, state):
+        read, buffer = lent(tables, words), Buffer(state)
+        answer = self.opening(*passed(read), *buffer.arguments())
+        check(read)
+        return Written(answer.refused, answer.words), buffer.words('state')
+
+    def turn(self, tables, words, state, given, quantum, threshold, output):
+        read, buffer, limit, made = lent(tables, words), Buffer(state), ('threshold', Buffer(threshold)), Buffer(output)
+        answer = self.turning(*passed(read), *buffer.arguments(), given, quantum, *limit[1].arguments(), *made.arguments())
+        check(read + [limit])
+        return (Turned(answer.ending, answer.refused, answer.steps, answer.state_words, answer.list_words), buffer.words('state'),
+                made.words('output'))
+
+    def merge(self, words, kept, given, made):
+        read, buffer, taken = ('plan', Buffer(words)), Buffer(kept), ('list', Buffer(made))
+        answer = self.merging(*read[1].arguments(), *buffer.arguments(), given, *taken[1].arguments())
+        check([read, taken])
+        return Written(answer.refused, answer.words), buffer.words('kept')

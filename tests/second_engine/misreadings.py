@@ -1,0 +1,388 @@
+"""Known misreadings of the rules, each as an evaluation with one other method, to see whether random plans expose it."""
+import struct
+
+from calls import Merge, Open, Turn
+from evaluation import DONE, FULL, Evaluation, read_plan, variables_right, written
+from words import GROUP, MOST_WORD, NUMBER, ROWS, TOP, UNBOUND, UNEQUAL, is_variable, number, term_kind, term_value
+
+ALL = (ROWS, TOP, GROUP)
+
+
+class Misreading(Evaluation):
+    """It concerns the steps, the rows they deliver, or else some calls; and plans of some endings."""
+    concerns, endings = 'rows', ALL
+    calls = Open, Turn, Merge
+
+    def __init__(self, right):
+        super().__init__(right.most_steps)
+        self.right = right
+        if self.concerns != 'steps':
+            self.walks = right.walks
+        if self.concerns == 'calls':
+            self.delivered, self.checked = right.delivered, right.checked
+
+    def walk(self, tables, words):
+        return super().walk(tables, words) if self.concerns == 'steps' else self.right.walk(tables, words)
+
+    def deliveries(self, tables, words):
+        return self.right.deliveries(tables, words) if self.concerns == 'calls' else super().deliveries(tables, words)
+
+
+# Conditions.
+
+class NamesOrdered(Misreading):
+    """names are ordered by <"""
+    def ordered(self, a, b):
+        return term_kind(a) == term_kind(b)
+
+
+class ErrorIsFalse(Misreading):
+    """an error in a condition is taken as false, so that "not" keeps the row"""
+    def compared(self, operator, a, b):
+        return super().compared(operator, a, b) is True
+
+
+class LeftErrorDecides(Misreading):
+    """an error on the left decides and, or"""
+    def conjunction(self, x, y):
+        return None if x is None else super().conjunction(x, y)
+
+    def disjunction(self, x, y):
+        return None if x is None else super().disjunction(x, y)
+
+
+class ErrorDecidesOr(Misreading):
+    """or(error, true) is error"""
+    def disjunction(self, x, y):
+        return None if x is None or y is None else x or y
+
+
+class ErrorDecidesAnd(Misreading):
+    """and(false, error) is error"""
+    def conjunction(self, x, y):
+        return None if x is None or y is None else x and y
+
+
+class KeepsErrors(Misreading):
+    """the filter keeps what is not false"""
+    def keeps(self, truth):
+        return truth is not False
+
+
+class NumberIsNoText(Misreading):
+    """number = text is false"""
+    def equal(self, a, b):
+        return a == b
+
+
+class ErrorIsUnequal(Misreading):
+    """number != text is true"""
+    def compared(self, operator, a, b):
+        return a != b if operator == UNEQUAL else super().compared(operator, a, b)
+
+
+# Steps and delivered rows.
+
+class RepeatsIgnored(Misreading):
+    """a variable repeated within a pattern is not tested"""
+    concerns = 'steps'
+
+    def matched(self, pattern, row, bound):
+        fields = reversed(list(zip(pattern, row)))
+        return {**{term_value(word): field for word, field in fields if is_variable(word)}, **bound}
+
+
+class EmptyAtZero(Misreading):
+    """an empty range lies at 0"""
+    concerns = 'steps'
+
+    def range(self, keys, prefix):
+        first, end = super().range(keys, prefix)
+        return (first, end) if first < end else (0, 0)
+
+
+class EndTooEarly(Misreading):
+    """a range's end is found by "before" where "not after" is meant"""
+    concerns = 'steps'
+
+    def range(self, keys, prefix):
+        first, end = super().range(keys, prefix)
+        return first, first if prefix else end
+
+
+class SubjectBeforeObject(Misreading):
+    """subject and object fixed: read by subject, the object tested on the row"""
+    concerns = 'steps'
+
+    def prefix(self, pattern, bound):
+        order, prefix = super().prefix(pattern, bound)
+        return ('spo', prefix[1:]) if order == 'osp' and len(prefix) == 2 else (order, prefix)
+
+    def matched(self, pattern, row, bound):
+        fits = all(self.fixed(word, bound) in (None, field) for word, field in zip(pattern, row))
+        return super().matched(pattern, row, bound) if fits else None
+
+
+class BoundBefore(Misreading):
+    """values bound in one branch are seen in the next"""
+    def row(self, plan, bound):
+        self.seen = {**getattr(self, 'seen', {}), **bound}
+        return super().row(plan, self.seen)
+
+    def deliveries(self, tables, words):
+        self.seen = {}
+        return super().deliveries(tables, words)
+
+
+class BranchDuplicates(Misreading):
+    """duplicates between branches are removed"""
+    def deliveries(self, tables, words):
+        delivered, states = super().deliveries(tables, words), self.walk(tables, words).states
+        first = {}
+        for (branch, _), row in zip(states, delivered):
+            first.setdefault(row, branch)
+        return [row if first[row] == branch else None for (branch, _), row in zip(states, delivered)]
+
+
+class AllDuplicates(Misreading):
+    """all duplicates are removed"""
+    def deliveries(self, tables, words):
+        seen, kept = set(), []
+        for row in super().deliveries(tables, words):
+            kept.append(None if row in seen else row)
+            seen.add(row)
+        return kept
+
+
+# Lists.
+
+class RawWords(Misreading):
+    """row words are compared raw, so that unbound sorts last"""
+    concerns, endings = 'calls', (TOP, GROUP)
+    calls = Turn, Merge
+
+    def key(self, word):
+        return word
+
+
+class UnboundFirstFalling(Misreading):
+    """unbound comes first by a falling key too"""
+    concerns, endings = 'calls', (TOP,)
+    calls = Turn, Merge
+
+    def sort_key(self, plan, row):
+        return tuple(-MOST_WORD if row[plan.columns.index(v)] == UNBOUND else value
+                     for (_, v), value in zip(plan.keys, super().sort_key(plan, row)))
+
+
+class TextsBeforeNumbers(Misreading):
+    """texts are ordered before numbers"""
+    concerns, endings = 'calls', (TOP, GROUP)
+    calls = Turn, Merge
+
+    def key(self, word):
+        kind = 0 if word == UNBOUND else (1, 3, 2, 4)[term_kind(word)]
+        return kind << 30 | term_value(word)
+
+
+class LaterPushesOut(Misreading):
+    """a later equal row pushes out the kept one"""
+    concerns, endings = 'calls', (TOP,)
+    calls = Turn, Merge
+
+    def best(self, plan, rows):
+        return super().best(plan, rows[::-1])
+
+
+class TurnFirst(Misreading):
+    """the turn's rows come first among equals in a merge"""
+    concerns, endings = 'calls', (TOP,)
+    calls = (Merge,)
+
+    def best_of_both(self, plan, kept, made):
+        return self.best(plan, made + kept)
+
+
+class ThresholdNotAfter(Misreading):
+    """rows equal to the threshold are kept"""
+    concerns, endings = 'calls', (TOP,)
+    calls = (Turn,)
+
+    def passes_threshold(self, plan, row, threshold):
+        return not threshold or self.sort_key(plan, row) <= self.sort_key(plan, threshold)
+
+
+class LeastFromZero(Misreading):
+    """least starts at 0"""
+    concerns, endings = 'calls', (GROUP,)
+    calls = Turn, Merge
+
+    def added(self, a, b):
+        totals = super().added(a, b)
+        return totals._replace(least=number(0)) if totals.numbers else totals
+
+
+class CarryDropped(Misreading):
+    """the carry into a sum's high word is dropped"""
+    concerns, endings = 'calls', (GROUP,)
+    calls = Turn, Merge
+
+    def sum(self, a, b):
+        return (a + b & MOST_WORD) | ((a >> 32) + (b >> 32)) << 32
+
+
+class SingleFloats(Misreading):
+    """sums are kept as single-precision floats"""
+    concerns, endings = 'calls', (GROUP,)
+    calls = Turn, Merge
+
+    def sum(self, a, b):
+        return int(struct.unpack('f', struct.pack('f', a + b))[0])
+
+
+class TextsCounted(Misreading):
+    """a text's value is counted among the numbers"""
+    concerns, endings = 'calls', (GROUP,)
+    calls = (Turn,)
+
+    def counted(self, value):
+        return super().counted(value if value == UNBOUND or term_kind(value) == 0 else number(term_value(value)))
+
+
+class NoNumberNoRow(Misreading):
+    """a row whose measured value is no number is left out of rows"""
+    concerns, endings = 'calls', (GROUP,)
+    calls = (Turn,)
+
+    def groups(self, rows):
+        return super().groups([row for row in rows if term_kind(row[-1]) == NUMBER])
+
+
+class UnboundLeftOut(Misreading):
+    """rows with an unbound group key are left out"""
+    concerns, endings = 'calls', (GROUP,)
+    calls = (Turn,)
+
+    def groups(self, rows):
+        return super().groups([row for row in rows if UNBOUND not in row[:-1]])
+
+
+# Turns, states and refusals.
+
+class FullTakesStep(Misreading):
+    """a step that delivers nothing because the output was full is used up"""
+    concerns, endings = 'calls', (ROWS, GROUP)
+    calls = (Turn,)
+
+    def steps(self, start, end, ending):
+        return end - start + (ending == FULL)
+
+
+class FullLosesRow(Misreading):
+    """the row for which a full output had no space is lost"""
+    concerns, endings = 'calls', (ROWS, GROUP)
+    calls = (Turn,)
+
+    def end_of_turn(self, plan, delivered, start, quantum, space):
+        ending, end = super().end_of_turn(plan, delivered, start, quantum, space)
+        return ending, end + 1 if ending == FULL and end + 1 < len(delivered) else end
+
+
+class FullKnownGroup(Misreading):
+    """full where the next row's group is there"""
+    concerns, endings = 'calls', (GROUP,)
+    calls = (Turn,)
+
+    def lacks_space(self, wanted, held, space):
+        return len(held) >= space
+
+
+class FullAtOnce(Misreading):
+    """full as soon as the output has no space, though the next step delivers nothing"""
+    concerns, endings = 'calls', (ROWS, GROUP)
+    calls = (Turn,)
+
+    def end_of_turn(self, plan, delivered, start, quantum, space):
+        ending, end = super().end_of_turn(plan, delivered, start, quantum, space)
+        held = set()
+        for at in range(start, end - 1):
+            held |= {self.wanted(plan, at, delivered[at])} - {None}
+            if len(held) >= space:
+                return FULL, at + 1
+        return ending, end
+
+
+class DoneTakesStep(Misreading):
+    """one more step on done"""
+    concerns = 'calls'
+    calls = (Turn,)
+
+    def steps(self, start, end, ending):
+        return end - start + (ending == DONE)
+
+
+class SavedEarly(Misreading):
+    """the state is saved one step early"""
+    concerns = 'calls'
+    calls = (Turn,)
+
+    def saved(self, end):
+        return end - 1
+
+
+class BelowEnd(Misreading):
+    """a state's last place is accepted only below its range's end"""
+    concerns = 'calls'
+    calls = (Turn,)
+
+    def accepts(self, tables, words, state):
+        states, number = self.walk(tables, words).states, self.walk(tables, words).number
+        if state not in number:
+            return False
+        branch, places = states[number[state] + 1] if number[state] + 1 < len(states) else (-1, ())
+        return branch == state[0] and len(places) >= len(state[1])
+
+
+class SixBeforeFive(Misreading):
+    """test 6 is made before test 5"""
+    concerns = 'calls'
+
+    def plan_tests(self, words, plan):
+        return [(6, lambda: plan or not starts_wrong(words))] + super().plan_tests(words, plan)
+
+
+class EqualRowsPass(Misreading):
+    """the table check lets equal rows pass"""
+    concerns = 'calls'
+    calls = Open, Turn
+
+    def __init__(self, right):
+        super().__init__(right)
+        self.checked = {}
+
+    def rows_ascend(self, rows):
+        return all(a <= b for a, b in zip(rows, rows[1:]))
+
+
+class RefusalWrites(Misreading):
+    """a merge writes what has space and then refuses by 14"""
+    concerns, endings = 'calls', (TOP, GROUP)
+    calls = (Merge,)
+
+    def merge(self, words, kept, given, made):
+        answer, buffer = super().merge(words, kept, given, made)
+        if answer.refused == 14:
+            buffer = written(kept, self.merged(read_plan(words), kept[:given], made)[:len(kept)])
+        return answer, buffer
+
+
+def starts_wrong(words):
+    """Whether a plan with a wrong variable stands at the beginning, with words left over."""
+    return any(plan and not variables_right(plan) for plan in (read_plan(words[:length]) for length in range(len(words))))
+
+
+ALL_MISREADINGS = [NamesOrdered, ErrorIsFalse, LeftErrorDecides, ErrorDecidesOr, ErrorDecidesAnd, KeepsErrors, NumberIsNoText, ErrorIsUnequal,
+                   RepeatsIgnored, EmptyAtZero, EndTooEarly, SubjectBeforeObject, BoundBefore, BranchDuplicates, AllDuplicates,
+                   RawWords, UnboundFirstFalling, TextsBeforeNumbers, LaterPushesOut, TurnFirst, ThresholdNotAfter, LeastFromZero,
+                   CarryDropped, SingleFloats, TextsCounted, NoNumberNoRow, UnboundLeftOut, FullTakesStep, FullLosesRow, FullKnownGroup,
+                   FullAtOnce, DoneTakesStep, SavedEarly, BelowEnd, SixBeforeFive, EqualRowsPass, RefusalWrites]

@@ -1,0 +1,206 @@
+"""A wood as Turtle, a plan as SPARQL 1.1, and Apache Jena ARQ to answer it.
+
+Names and texts are padded with zeros, so that code-point order is the order of their numbers. Where SPARQL leaves an engine
+more freedom than the rules here, the query says what is meant: '=' between a number and a text is an error, each sort key
+stands behind a key of its kind, and aggregates see the numbers alone.
+"""
+import glob
+import os
+import shutil
+import subprocess
+import sys
+import zipfile
+
+from evaluation import Totals
+from words import (AND, COMPARISON, EQUAL, GROUP, MOST_VALUE, NAME, NOT, NUMBER, OPERATORS, ROWS, TEXT, TOP, TRUE, UNBOUND, UNEQUAL, VARIABLE,
+                   name, number, term_kind, term_value, text)
+
+HERE = os.path.dirname(os.path.abspath(__file__))
+NAMES = 'http://wood/'
+NOWHERE = f'<{NAMES}nowhere>'
+XSD = 'http://www.w3.org/2001/XMLSchema#'
+PACKAGES = ['libapache-jena-java', 'libslf4j-java', 'default-jdk-headless']
+JARS = '/usr/share/java'
+LIBRARIES = ['commons-cli', 'commons-codec', 'commons-compress', 'commons-csv', 'commons-io', 'commons-lang3', 'dexx.collection', 'gson',
+             'guava', 'httpclient', 'httpcore', 'jackson-annotations', 'jackson-core', 'jackson-databind', 'jakarta.json-api',
+             'jcl-over-slf4j', 'jsonld-java', 'protobuf', 'slf4j-api', 'slf4j-nop', 'thrift', 'titanium-json-ld', 'xercesImpl']
+
+
+# Terms.
+
+def written_term(word):
+    kind, value = term_kind(word), term_value(word)
+    return {NAME: f'<{NAMES}{value:010}>', NUMBER: str(value), TEXT: f'"{value:010}"', VARIABLE: f'?v{value}'}[kind]
+
+
+def read_term(shown):
+    """The word of a term as the driver prints it."""
+    if shown == '-':
+        return UNBOUND
+    if shown.startswith('<'):
+        return name(int(shown[1 + len(NAMES):-1]))
+    value, datatype = shown.split('^^')
+    return {XSD + 'integer': number, XSD + 'string': text}[datatype](int(value))
+
+
+def turtle(rows):
+    return ''.join(' '.join(map(written_term, row)) + ' .\n' for row in rows)
+
+
+# Queries.
+
+def pattern(words):
+    """A literal predicate is outside the grammar: one that no row has stands for it."""
+    fields = list(map(written_term, words))
+    if term_kind(words[1]) in (NUMBER, TEXT):
+        fields[1] = NOWHERE
+    return ' '.join(fields) + ' .'
+
+
+def comparison(operator, a, b):
+    plain = f'({a} {OPERATORS[operator]} {b})'
+    if operator not in (EQUAL, UNEQUAL):
+        return plain
+    return f'IF(isLiteral({a}) && isLiteral({b}) && isNumeric({a}) != isNumeric({b}), ?undefined, {plain})'
+
+
+def condition(node):
+    if node.kind == TRUE:
+        return 'true'
+    if node.kind == COMPARISON:
+        return comparison(node.operator, *map(written_term, node.parts))
+    parts = list(map(condition, node.parts))
+    return f'(! {parts[0]})' if node.kind == NOT else f"({parts[0]} {'&&' if node.kind == AND else '||'} {parts[1]})"
+
+
+def where(plan):
+    branches = ['{ ' + ' '.join(map(pattern, b.patterns)) + ('' if b.condition.kind == TRUE else f' FILTER({condition(b.condition)})') + ' }'
+                for b in plan.branches]
+    return 'WHERE { ' + ' UNION '.join(branches) + ' }'
+
+
+def selected(variables):
+    return ' '.join(f'?v{v}' for v in variables)
+
+
+def rows_query(plan):
+    return f'SELECT {selected(plan.columns)} {where(plan)}'
+
+
+def sort_key(falling, v):
+    way, kind = 'DESC' if falling else 'ASC', f'IF(!BOUND(?v{v}), 0, IF(isIRI(?v{v}), 1, IF(isNumeric(?v{v}), 2, 3)))'
+    return f'{way}({kind}) {way}(?v{v})'
+
+
+def top_query(plan):
+    return f"{rows_query(plan)} ORDER BY {' '.join(sort_key(*key) for key in plan.keys)} LIMIT {plan.k}"
+
+
+def measured(plan, function, number_as, other):
+    return f'{function}(COALESCE(IF(isNumeric(?v{plan.measured}), {number_as}, {other}), {other}))'
+
+
+def group_query(plan):
+    value = f'?v{plan.measured}'
+    totals = [('COUNT(*)', 'rows'), (measured(plan, 'SUM', 1, 0), 'numbers'), (measured(plan, 'SUM', value, 0), 'sum'),
+              (measured(plan, 'MIN', value, MOST_VALUE + 1), 'least'), (measured(plan, 'MAX', value, -1), 'greatest')]
+    by = f' GROUP BY {selected(plan.group)}' if plan.group else ''
+    return f"SELECT {selected(plan.group)} {' '.join(f'({e} AS ?{n})' for e, n in totals)} {where(plan)}{by}"
+
+
+def queries(plan):
+    """The queries whose answers a plan is compared with: for a best-of list also all its rows."""
+    return {ROWS: [rows_query], TOP: [rows_query, top_query], GROUP: [group_query]}[plan.kind]
+
+
+# Answers.
+
+def group_of(plan, shown):
+    """A group's keys and totals from an answer's line. Without rows, MIN and MAX are unbound; without numbers, they are the bounds."""
+    rows, numbers, total, least, greatest = (0 if field == '-' else int(field.split('^^')[0]) for field in shown[-5:])
+    bound = lambda value: number(value) if numbers else UNBOUND
+    return tuple(map(read_term, shown[:len(plan.group)])), Totals(rows, numbers, total, bound(least), bound(greatest))
+
+
+def groups_of(plan, lines):
+    """Here no delivered row means no group; SPARQL has one where there is no GROUP BY."""
+    return {keys: totals for keys, totals in (group_of(plan, line) for line in lines) if totals.rows}
+
+
+def rows_of_answer(lines):
+    return [tuple(map(read_term, line)) for line in lines]
+
+
+class Jena:
+    """The driver as a running program."""
+
+    def __init__(self, folder):
+        self.folder = folder
+        path = os.pathsep.join([prepared(folder)] + jars())
+        self.driver = subprocess.Popen(['java', '-Xss16m', '-cp', path, 'Driver'], stdin=subprocess.PIPE, stdout=subprocess.PIPE, text=True)
+
+    def line(self, text):
+        self.driver.stdin.write(text + '\n')
+        self.driver.stdin.flush()
+        return self.answer()
+
+    def answer(self):
+        line = self.driver.stdout.readline()
+        if not line:
+            raise RuntimeError('Jena ended')
+        return line.rstrip('\n')
+
+    def load(self, rows):
+        path = os.path.join(self.folder, 'wood.ttl')
+        with open(path, 'w', encoding='utf-8') as file:
+            file.write(turtle(rows))
+        if self.line('LOAD ' + path) != f'loaded {len(rows)}':
+            raise RuntimeError('Jena did not load every row')
+
+    def lines(self, query):
+        answer = self.line('QUERY ' + query)
+        if not answer.startswith('rows '):
+            raise RuntimeError(f'Jena: {answer}\n{query}')
+        return [self.answer().split('\t') for _ in range(int(answer[5:]))]
+
+    def asked(self, plan):
+        """All rows of a plan (none for groups), and its list: rows in order, or groups."""
+        if plan.kind == GROUP:
+            return None, groups_of(plan, self.lines(group_query(plan)))
+        rows = rows_of_answer(self.lines(rows_query(plan)))
+        return rows, rows_of_answer(self.lines(top_query(plan))) if plan.kind == TOP else rows
+
+    def close(self):
+        self.driver.stdin.close()
+        self.driver.wait()
+
+
+# Installing.
+
+def jars():
+    """Jena's jars and their libraries, each once (a jar with a version in its name is the same again)."""
+    jena = [j for j in glob.glob(f'{JARS}/jena-*.jar') if not any(c.isdigit() for c in os.path.basename(j).replace('tdb2', ''))]
+    return sorted(jena) + [j for j in (f'{JARS}/{name}.jar' for name in LIBRARIES) if os.path.exists(j)]
+
+
+def install():
+    if not os.path.exists(f'{JARS}/jena-arq.jar') or not shutil.which('javac'):
+        print('installing', ' '.join(PACKAGES), file=sys.stderr)
+        subprocess.run(['apt-get', 'install', '-y', '-q', *PACKAGES], check=True, stdout=sys.stderr)
+
+
+def prepared(folder):
+    """The compiled driver, and Jena's message bundles where its code looks for them: the jar has them under another path."""
+    install()
+    classes = os.path.join(folder, 'classes')
+    os.makedirs(classes, exist_ok=True)
+    with zipfile.ZipFile(f'{JARS}/jena-core.jar') as jar:
+        for entry in jar.namelist():
+            if entry.startswith('org/apache/jena/ext/xerces/') and entry.endswith('.properties'):
+                for place in ('xerces/', 'org/apache/xerces/'):
+                    target = os.path.join(classes, place + entry[len('org/apache/jena/ext/xerces/'):])
+                    os.makedirs(os.path.dirname(target), exist_ok=True)
+                    with open(target, 'wb') as file:
+                        file.write(jar.read(entry))
+    subprocess.run(['javac', '-cp', os.pathsep.join(jars()), '-d', classes, os.path.join(HERE, 'Driver.java')], check=True)
+    return classes
