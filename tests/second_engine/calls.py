@@ -1,8 +1,11 @@
 """Calls of opening, turns and merging for a wood and a plan: cuts, turns from any state, wild lists, and damaged input."""
 from collections import namedtuple
 
-from evaluation import DONE, MOST_QUANTUM, TooLong, read_plan, split_record, state_words, width
-from words import (FALLING, GROUP, MOST_VALUE, MOST_WORD, NOT, NUMBER, PLACE, RISING, ROWS, STATE, TOP, UNBOUND, number, plan_word,
+from evaluation import DONE, MOST_QUANTUM
+from inputs import state_words
+from plan_reader import read_plan, width
+from running import TooLong
+from words import (FALLING, GROUP, MOST_VALUE, MOST_WORD, NOT, PLACE, RISING, ROWS, STATE, TOP, UNBOUND, number, plan_word,
                    term, two_words, variable)
 
 Open = namedtuple('Open', 'tables words state')
@@ -81,7 +84,8 @@ class Script:
 
     def some_term(self):
         terms = self.tables.rows or (number(1),)
-        return self.rng.choice([UNBOUND, self.rng.choice(terms), self.rng.choice(terms), term(self.rng.randrange(3), self.rng.randrange(3))])
+        return self.rng.choice([UNBOUND, self.rng.choice(terms), self.rng.choice(terms),
+                                term(self.rng.randrange(3), self.rng.randrange(3))])
 
     def some_threshold(self):
         if self.plan.kind != TOP or self.rng.random() < .3:
@@ -142,8 +146,10 @@ class Script:
         return tuple(words)
 
     def plan_damage(self, call):
-        word = self.rng.choice([variable(self.rng.choice([0, 1, 3, 15, 16, 17, MOST_VALUE])), plan_word(self.rng.randrange(16), self.rng.choice([0, 1, 2, 5, 6, 64, 65])),
-                                plan_word(self.rng.choice([RISING, FALLING]), self.rng.choice([0, 3, 16, 0xfffffff])), self.some_term()])
+        word = self.rng.choice([variable(self.rng.choice([0, 1, 3, 15, 16, 17, MOST_VALUE])),
+                                plan_word(self.rng.randrange(16), self.rng.choice([0, 1, 2, 5, 6, 64, 65])),
+                                plan_word(self.rng.choice([RISING, FALLING]), self.rng.choice([0, 3, 16, 0xfffffff])),
+                                self.some_term()])
         words = self.nudged(call.words, word)
         if self.rng.random() < .1:
             at = self.rng.randrange(len(words) + 1)
@@ -166,15 +172,17 @@ class Script:
             rows[at:at + 6] = rows[at + 3:at + 6] + rows[at:at + 3]
             return call._replace(tables=tables._replace(rows=tuple(rows)))
         if way == 2:
-            return call._replace(tables=tables._replace(rows=self.nudged(tables.rows, self.rng.choice([UNBOUND, number(3), self.some_term()]))))
-        field = self.rng.choice(['pos', 'osp'])
-        return call._replace(tables=tables._replace(**{field: self.nudged(getattr(tables, field), self.rng.choice([0, count, count + 1, MOST_WORD]))}))
+            word = self.rng.choice([UNBOUND, number(3), self.some_term()])
+            return call._replace(tables=tables._replace(rows=self.nudged(tables.rows, word)))
+        field, row = self.rng.choice(['pos', 'osp']), self.rng.choice([0, count, count + 1, MOST_WORD])
+        return call._replace(tables=tables._replace(**{field: self.nudged(getattr(tables, field), row)}))
 
     def state_damage(self, call):
         if isinstance(call, Open) or self.rng.random() < .2:
             return call._replace(state=call.state[:self.rng.randrange(9)])
         if self.rng.random() < .4:
-            return call._replace(given=self.rng.choice([0, 1, max(0, call.given - 1), call.given + 1, len(call.state), len(call.state) + 1]))
+            return call._replace(given=self.rng.choice([0, 1, max(0, call.given - 1), call.given + 1, len(call.state),
+                                                        len(call.state) + 1]))
         if not 0 < call.given <= len(call.state):
             return call
         state, at = list(call.state), self.rng.randrange(call.given)

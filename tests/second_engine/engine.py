@@ -15,7 +15,8 @@ class CWritten(Structure):
 
 
 class CTurned(Structure):
-    _fields_ = [('ending', c_uint32), ('refused', c_uint32), ('steps', c_uint32), ('state_words', c_size_t), ('list_words', c_size_t)]
+    _fields_ = [('ending', c_uint32), ('refused', c_uint32), ('steps', c_uint32), ('state_words', c_size_t),
+                ('list_words', c_size_t)]
 
 
 class Touched(Exception):
@@ -75,7 +76,8 @@ class Engine:
         table_types = [WORDS, c_size_t] * 4
         self.opening, self.turning, self.merging = library.sotjarn_open, library.sotjarn_turn, library.sotjarn_merge
         self.opening.restype, self.opening.argtypes = CWritten, table_types + [WORDS, c_size_t]
-        self.turning.restype, self.turning.argtypes = CTurned, table_types + [WORDS, c_size_t, c_size_t, c_uint32] + [WORDS, c_size_t] * 2
+        turn_types = [WORDS, c_size_t, c_size_t, c_uint32] + [WORDS, c_size_t] * 2
+        self.turning.restype, self.turning.argtypes = CTurned, table_types + turn_types
         self.merging.restype, self.merging.argtypes = CWritten, [WORDS, c_size_t, WORDS, c_size_t, c_size_t, WORDS, c_size_t]
 
     def open(self, tables, words, state):

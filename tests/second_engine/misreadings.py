@@ -2,7 +2,8 @@
 import struct
 
 from calls import Merge, Open, Turn
-from evaluation import DONE, FULL, Evaluation, read_plan, variables_right, written
+from evaluation import DONE, FULL, Evaluation, written
+from plan_reader import read_plan, variables_right
 from words import GROUP, MOST_WORD, NUMBER, ROWS, TOP, UNBOUND, UNEQUAL, is_variable, number, term_kind, term_value
 
 ALL = (ROWS, TOP, GROUP)
@@ -381,8 +382,9 @@ def starts_wrong(words):
     return any(plan and not variables_right(plan) for plan in (read_plan(words[:length]) for length in range(len(words))))
 
 
-ALL_MISREADINGS = [NamesOrdered, ErrorIsFalse, LeftErrorDecides, ErrorDecidesOr, ErrorDecidesAnd, KeepsErrors, NumberIsNoText, ErrorIsUnequal,
-                   RepeatsIgnored, EmptyAtZero, EndTooEarly, SubjectBeforeObject, BoundBefore, BranchDuplicates, AllDuplicates,
-                   RawWords, UnboundFirstFalling, TextsBeforeNumbers, LaterPushesOut, TurnFirst, ThresholdNotAfter, LeastFromZero,
-                   CarryDropped, SingleFloats, TextsCounted, NoNumberNoRow, UnboundLeftOut, FullTakesStep, FullLosesRow, FullKnownGroup,
-                   FullAtOnce, DoneTakesStep, SavedEarly, BelowEnd, SixBeforeFive, EqualRowsPass, RefusalWrites]
+ALL_MISREADINGS = [
+    NamesOrdered, ErrorIsFalse, LeftErrorDecides, ErrorDecidesOr, ErrorDecidesAnd, KeepsErrors, NumberIsNoText, ErrorIsUnequal,
+    RepeatsIgnored, EmptyAtZero, EndTooEarly, SubjectBeforeObject, BoundBefore, BranchDuplicates, AllDuplicates, RawWords,
+    UnboundFirstFalling, TextsBeforeNumbers, LaterPushesOut, TurnFirst, ThresholdNotAfter, LeastFromZero, CarryDropped,
+    SingleFloats, TextsCounted, NoNumberNoRow, UnboundLeftOut, FullTakesStep, FullLosesRow, FullKnownGroup, FullAtOnce,
+    DoneTakesStep, SavedEarly, BelowEnd, SixBeforeFive, EqualRowsPass, RefusalWrites]

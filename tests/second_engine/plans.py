@@ -3,9 +3,11 @@
 About half of the plans have solutions: their patterns are rows of the wood with some terms put into variables, the same
 variable for the same term. The others are made of anything that the plan's words allow.
 """
-from evaluation import MOST_DEPTH, MOST_NODES, MOST_PLAN_WORDS, Tables, TooLong, osp_key, pos_key
-from words import (AND, AT_LEAST, BRANCH, COMPARISON, EQUAL, FALLING, GROUP, HEAD, MOST_VALUE, NOT, OR, RISING, ROWS, TOP, TRUE, UNEQUAL,
-                   is_variable, name, number, plan_word, term, term_kind, term_value, text, variable)
+from inputs import Tables, osp_key, pos_key, rows_of
+from plan_reader import MOST_DEPTH, MOST_NODES, MOST_PLAN_WORDS
+from running import TooLong
+from words import (AND, AT_LEAST, BRANCH, COMPARISON, EQUAL, FALLING, GROUP, HEAD, MOST_VALUE, NOT, OR, RISING, ROWS, TOP, TRUE,
+                   UNEQUAL, is_variable, name, number, plan_word, term, term_kind, term_value, text, variable)
 
 
 # Woods.
@@ -56,14 +58,29 @@ def extreme_rows(rng, count):
 def measure_rows(rng, count):
     """One predicate with many great numbers among texts and names, so that sums need more than a word."""
     for at in range(count):
-        yield name(rng.randrange(count)), name(1), rng.choice([number(MOST_VALUE - at), number(MOST_VALUE - at), text(at % 3), name(at % 3)])
+        yield name(rng.randrange(count)), name(1), rng.choice([number(MOST_VALUE - at)] * 4 + [text(at % 3), name(at % 3)])
         yield name(at), name(2), rng.choice([text(rng.randrange(3)), number(rng.randrange(3))])
 
 
 def wood(rng):
-    shape = rng.choice([stand_rows, stand_rows, mixed_rows, mixed_rows, graph_rows, extreme_rows, measure_rows])
-    most = {stand_rows: 9, measure_rows: 14}.get(shape, 24)
+    shape = rng.choice([stand_rows, stand_rows, mixed_rows, mixed_rows, graph_rows, extreme_rows, measure_rows, measure_rows])
+    most = {stand_rows: 9, measure_rows: 18}.get(shape, 24)
     return tables_of(shape(rng, rng.choice([0, 1, 2] + [rng.randint(3, most)] * 12)))
+
+
+def large_wood(count):
+    """So many rows, one to a stem."""
+    return tables_of((name(stem), name(1 + stem % 3), number(stem % 1000)) for stem in range(count))
+
+
+def large_plan():
+    """A plan of few steps over a large wood: stems of one diameter and species, three times over, by the three orders."""
+    stem, kind, size = map(variable, range(3))
+    branches = [[stem, name(2), number(7)], [stem, kind, number(999)], [name(65535), kind, size]]
+    words = [plan_word(HEAD, len(branches))]
+    for pattern in branches:
+        words += [plan_word(BRANCH, 1), *pattern, plan_word(TRUE, 0)]
+    return (*words, plan_word(ROWS, 3), stem, kind, size)
 
 
 # Patterns.
@@ -76,6 +93,7 @@ class Draft:
         self.terms = sorted({word for row in rows for word in row}) or [name(1), number(1), text(1)]
         self.numbers = rng.sample(range(16), 16)
         self.pool = rng.randint(2, 6)
+        self.objects = set()
 
     def some_variable(self):
         return variable(self.numbers[self.rng.randrange(self.pool)])
@@ -89,7 +107,8 @@ class Draft:
 
     def some_patterns(self, count):
         """Anything that the words allow."""
-        return [tuple(self.some_variable() if self.rng.random() < .55 else self.some_constant() for _ in range(3)) for _ in range(count)]
+        field = lambda: self.some_variable() if self.rng.random() < .55 else self.some_constant()
+        return [(field(), field(), field()) for _ in range(count)]
 
     def row_like(self, chosen):
         """A row that shares a term with the chosen ones, or any row."""
@@ -115,7 +134,13 @@ class Draft:
     # Conditions.
 
     def comparison(self, variables):
-        side = lambda: self.rng.choice(variables) if variables and self.rng.random() < .6 else self.some_constant()
+        """Often a variable with a number or a text, so that kinds meet that cannot be compared."""
+        def side():
+            if variables and self.rng.random() < .6:
+                return self.rng.choice(variables)
+            if self.rng.random() < .6:
+                return self.some_constant()
+            return self.rng.choice([number, text])(term_value(self.rng.choice(self.terms)))
         return [plan_word(COMPARISON, self.rng.choice([EQUAL, UNEQUAL, *range(AT_LEAST + 1)])), side(), side()]
 
     def condition(self, variables, deep):
@@ -151,28 +176,29 @@ class Draft:
 
     # Endings.
 
-    def columns(self, variables):
-        return self.rng.sample(variables, self.rng.choice([1, 2, 3, self.rng.randint(1, 16), 16]) if len(variables) >= 16
-                               else min(len(variables), self.rng.choice([1, 2, 2, 3, 4, 16])))
-
     def rows_ending(self, variables):
-        columns = self.columns(variables)
+        columns = self.rng.sample(variables, min(len(variables), self.rng.choice([1, 2, 2, 3, 4, 16])))
         return [plan_word(ROWS, len(columns))] + columns
 
     def top_ending(self, variables):
         rows = self.rows_ending(variables)
-        keys = [plan_word(self.rng.choice([RISING, FALLING]), term_value(self.rng.choice(rows[1:]))) for _ in range(self.rng.choice([1, 1, 2, 3, 4]))]
+        keys = [plan_word(self.rng.choice([RISING, FALLING]), term_value(self.rng.choice(rows[1:])))
+                for _ in range(self.rng.choice([1, 1, 2, 3, 4]))]
         return [plan_word(TOP, self.rng.choice([0, 1, 1, 2, 3, 5, 8, 64]))] + rows + keys
 
     def group_ending(self, variables):
+        """The measured variable is mostly one that stands for objects."""
         keys = self.rng.sample(variables, min(len(variables), self.rng.choice([0, 0, 1, 1, 2, 3, 4])))
-        return [plan_word(GROUP, len(keys))] + keys + [self.rng.choice(variables)]
+        objects = [v for v in variables if v in self.objects]
+        measured = self.rng.choice(objects if objects and self.rng.random() < .8 else variables)
+        return [plan_word(GROUP, len(keys))] + keys + [measured]
 
     def branch(self):
         count = self.rng.choice([1, 1, 2, 2, 2, 3, 3, 4, 5, 6, 7, 8])
         real = self.rows and self.rng.random() < .8
         patterns = self.abstracted(count) if real else self.some_patterns(count)
         variables = sorted({word for pattern in patterns for word in pattern if is_variable(word)})
+        self.objects.update(pattern[2] for pattern in patterns)
         return [plan_word(BRANCH, count)] + [w for p in patterns for w in p] + self.some_condition(variables), variables
 
     def plan(self):
@@ -190,9 +216,8 @@ class Draft:
 
 def plan(rng, tables, evaluation):
     """A plan's words whose uncut run the evaluation finds short enough."""
-    rows = [tuple(tables.rows[i:i + 3]) for i in range(0, len(tables.rows), 3)]
     while True:
-        words = Draft(rng, rows).plan()
+        words = Draft(rng, rows_of(tables)).plan()
         try:
             if words is not None and evaluation.walk(tables, words):
                 return words

@@ -11,9 +11,9 @@ import subprocess
 import sys
 import zipfile
 
-from evaluation import Totals
-from words import (AND, COMPARISON, EQUAL, GROUP, MOST_VALUE, NAME, NOT, NUMBER, OPERATORS, ROWS, TEXT, TOP, TRUE, UNBOUND, UNEQUAL, VARIABLE,
-                   name, number, term_kind, term_value, text)
+from inputs import Totals
+from words import (AND, COMPARISON, EQUAL, GROUP, MOST_VALUE, NAME, NOT, NUMBER, OPERATORS, ROWS, TEXT, TOP, TRUE, UNBOUND, UNEQUAL,
+                   VARIABLE, name, number, term_kind, term_value, text)
 
 HERE = os.path.dirname(os.path.abspath(__file__))
 NAMES = 'http://wood/'
@@ -21,9 +21,10 @@ NOWHERE = f'<{NAMES}nowhere>'
 XSD = 'http://www.w3.org/2001/XMLSchema#'
 PACKAGES = ['libapache-jena-java', 'libslf4j-java', 'default-jdk-headless']
 JARS = '/usr/share/java'
-LIBRARIES = ['commons-cli', 'commons-codec', 'commons-compress', 'commons-csv', 'commons-io', 'commons-lang3', 'dexx.collection', 'gson',
-             'guava', 'httpclient', 'httpcore', 'jackson-annotations', 'jackson-core', 'jackson-databind', 'jakarta.json-api',
-             'jcl-over-slf4j', 'jsonld-java', 'protobuf', 'slf4j-api', 'slf4j-nop', 'thrift', 'titanium-json-ld', 'xercesImpl']
+LIBRARIES = [
+    'commons-cli', 'commons-codec', 'commons-compress', 'commons-csv', 'commons-io', 'commons-lang3', 'dexx.collection', 'gson',
+    'guava', 'httpclient', 'httpcore', 'jackson-annotations', 'jackson-core', 'jackson-databind', 'jakarta.json-api',
+    'jcl-over-slf4j', 'jsonld-java', 'protobuf', 'slf4j-api', 'slf4j-nop', 'thrift', 'titanium-json-ld', 'xercesImpl']
 
 
 # Terms.
@@ -73,10 +74,13 @@ def condition(node):
     return f'(! {parts[0]})' if node.kind == NOT else f"({parts[0]} {'&&' if node.kind == AND else '||'} {parts[1]})"
 
 
+def branch(part):
+    kept = '' if part.condition.kind == TRUE else f' FILTER({condition(part.condition)})'
+    return '{ ' + ' '.join(map(pattern, part.patterns)) + kept + ' }'
+
+
 def where(plan):
-    branches = ['{ ' + ' '.join(map(pattern, b.patterns)) + ('' if b.condition.kind == TRUE else f' FILTER({condition(b.condition)})') + ' }'
-                for b in plan.branches]
-    return 'WHERE { ' + ' UNION '.join(branches) + ' }'
+    return 'WHERE { ' + ' UNION '.join(map(branch, plan.branches)) + ' }'
 
 
 def selected(variables):
@@ -116,7 +120,7 @@ def queries(plan):
 # Answers.
 
 def group_of(plan, shown):
-    """A group's keys and totals from an answer's line. Without rows, MIN and MAX are unbound; without numbers, they are the bounds."""
+    """A group's keys and totals from an answer's line. Without rows MIN and MAX are unbound, without numbers they mean nothing."""
     rows, numbers, total, least, greatest = (0 if field == '-' else int(field.split('^^')[0]) for field in shown[-5:])
     bound = lambda value: number(value) if numbers else UNBOUND
     return tuple(map(read_term, shown[:len(plan.group)])), Totals(rows, numbers, total, bound(least), bound(greatest))
@@ -137,7 +141,8 @@ class Jena:
     def __init__(self, folder):
         self.folder = folder
         path = os.pathsep.join([prepared(folder)] + jars())
-        self.driver = subprocess.Popen(['java', '-Xss16m', '-cp', path, 'Driver'], stdin=subprocess.PIPE, stdout=subprocess.PIPE, text=True)
+        self.driver = subprocess.Popen(['java', '-Xss16m', '-cp', path, 'Driver'], stdin=subprocess.PIPE,
+                                       stdout=subprocess.PIPE, text=True)
 
     def line(self, text):
         self.driver.stdin.write(text + '\n')

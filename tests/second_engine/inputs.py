@@ -1,0 +1,85 @@
+"""Tables, states and lists as words: what tests 1 to 4, 9 and 12 of document 01 look at."""
+from collections import namedtuple
+
+from plan_reader import width
+from words import NAME, NUMBER, PLACE, STATE, UNBOUND, VARIABLE, kind, low, plan_word, term_kind
+
+MOST_ROWS = 65536
+
+Tables = namedtuple('Tables', 'rows pos osp')               # words of the rows, and two lists of row numbers
+Totals = namedtuple('Totals', 'rows numbers sum least greatest')
+
+
+# Tables: tests 1 to 4.
+
+def rows_of(tables):
+    return [tuple(tables.rows[i:i + 3]) for i in range(0, len(tables.rows), 3)]
+
+
+def lengths_right(tables):
+    count, over = divmod(len(tables.rows), 3)
+    return over == 0 and len(tables.pos) == count and len(tables.osp) == count and count <= MOST_ROWS
+
+
+def kinds_right(tables):
+    return all(term_kind(s) == NAME and term_kind(p) == NAME and term_kind(o) != VARIABLE for s, p, o in rows_of(tables))
+
+
+def ascend(keys):
+    return all(a < b for a, b in zip(keys, keys[1:]))
+
+
+def pos_key(row):
+    return row[1], row[2], row[0]
+
+
+def osp_key(row):
+    return row[2], row[0], row[1]
+
+
+def order_right(rows, numbers, key):
+    return all(n < len(rows) for n in numbers) and ascend([key(rows[n]) for n in numbers])
+
+
+# States and terms.
+
+def state_words(state):
+    branch, places = state
+    return [plan_word(STATE, branch * 16 + len(places))] + [plan_word(PLACE, place) for place in places]
+
+
+def state_right(plan, words):
+    """Test 9 on a state's words."""
+    if not words or kind(words[0]) != STATE or any(kind(w) != PLACE for w in words[1:]):
+        return False
+    branch, places = divmod(low(words[0]), 16)
+    return branch < len(plan.branches) and 1 <= places <= len(plan.branches[branch].patterns) and len(words) == places + 1
+
+
+def state_of(words):
+    return low(words[0]) // 16, tuple(map(low, words[1:]))
+
+
+def delivered_term(word):
+    return word == UNBOUND or term_kind(word) != VARIABLE
+
+
+# Lists.
+
+def in_parts(plan, words):
+    """A list's rows or records."""
+    return [tuple(words[i:i + width(plan)]) for i in range(0, len(words), width(plan))]
+
+
+def split_record(record):
+    """A record's keys and its totals."""
+    *keys, r, r_high, n, n_high, s, s_high, least, greatest = record
+    return tuple(keys), Totals(r | r_high << 32, n | n_high << 32, s | s_high << 32, least, greatest)
+
+
+def totals_right(totals):
+    if totals.rows == 0 or totals.numbers > totals.rows:
+        return False
+    if totals.numbers == 0:
+        return totals.sum == 0 and totals.least == totals.greatest == UNBOUND
+    return term_kind(totals.least) == term_kind(totals.greatest) == NUMBER and totals.least <= totals.greatest

@@ -1,0 +1,95 @@
+"""Best-of lists and groups: of delivered rows, and merged."""
+from inputs import Totals, ascend, delivered_term, in_parts, split_record, totals_right
+from plan_reader import width
+from words import GROUP, NUMBER, ROWS, TOP, UNBOUND, term_kind, term_value, two_words
+
+MOST_TOTAL = (1 << 64) - 1
+
+
+class Lists:
+    """Orders of rows and groups, their words, and merging."""
+
+    def key(self, word):
+        """A word's position among the values of a key: unbound first, then names, numbers, texts, each by value."""
+        return 0 if word == UNBOUND else word + 1
+
+    def sort_key(self, plan, row):
+        values = [(falling, self.key(row[plan.columns.index(v)])) for falling, v in plan.keys]
+        return tuple(-value if falling else value for falling, value in values)
+
+    def best(self, plan, rows):
+        """The first k by the keys; rows equal in all keys keep their order."""
+        return sorted(rows, key=lambda row: self.sort_key(plan, row))[:plan.k]
+
+    def passes_threshold(self, plan, row, threshold):
+        return not threshold or self.sort_key(plan, row) < self.sort_key(plan, threshold)
+
+    def counted(self, value):
+        """The totals of one row."""
+        if term_kind(value) == NUMBER:
+            return Totals(1, 1, term_value(value), value, value)
+        return Totals(1, 0, 0, UNBOUND, UNBOUND)
+
+    def added(self, a, b):
+        if a is None or b is None:
+            return a or b
+        numbers = [t for t in (a, b) if t.numbers > 0]
+        return Totals(a.rows + b.rows, a.numbers + b.numbers, self.sum(a.sum, b.sum),
+                      min((t.least for t in numbers), default=UNBOUND), max((t.greatest for t in numbers), default=UNBOUND))
+
+    def sum(self, a, b):
+        return a + b
+
+    def groups(self, rows):
+        groups = {}
+        for *keys, value in rows:
+            groups[tuple(keys)] = self.added(groups.get(tuple(keys)), self.counted(value))
+        return groups
+
+    def group_key(self, keys):
+        return tuple(map(self.key, keys))
+
+    def records(self, groups):
+        """The words of groups, in ascending order of their keys."""
+        return [word for keys in sorted(groups, key=self.group_key) for word in [
+            *keys, *two_words(groups[keys].rows), *two_words(groups[keys].numbers), *two_words(groups[keys].sum),
+            groups[keys].least, groups[keys].greatest]]
+
+    def list_words(self, plan, rows, threshold=()):
+        """The words of the list that these delivered rows make."""
+        if plan.kind == GROUP:
+            return self.records(self.groups(rows))
+        if plan.kind == TOP:
+            rows = self.best(plan, [row for row in rows if self.passes_threshold(plan, row, threshold)])
+        return [word for row in rows for word in row]
+
+    # Merging.
+
+    def list_right(self, plan, words):
+        """Test 12 on a list."""
+        if plan.kind == ROWS or len(words) % width(plan) != 0:
+            return False
+        parts = in_parts(plan, words)
+        if plan.kind == TOP:
+            keys = [self.sort_key(plan, row) for row in parts]
+            return len(parts) <= plan.k and all(map(delivered_term, words)) and all(a <= b for a, b in zip(keys, keys[1:]))
+        groups = [split_record(record) for record in parts]
+        return (all(delivered_term(w) for keys, _ in groups for w in keys) and ascend([self.group_key(keys) for keys, _ in groups])
+                and all(totals_right(totals) for _, totals in groups))
+
+    def added_groups(self, plan, kept, made):
+        groups = {}
+        for keys, totals in map(split_record, in_parts(plan, kept) + in_parts(plan, made)):
+            groups[keys] = self.added(groups.get(keys), totals)
+        return groups
+
+    def totals_fit(self, plan, kept, made):
+        return all(max(t.rows, t.numbers, t.sum) <= MOST_TOTAL for t in self.added_groups(plan, kept, made).values())
+
+    def merged(self, plan, kept, made):
+        if plan.kind == GROUP:
+            return self.records(self.added_groups(plan, kept, made))
+        return [word for row in self.best_of_both(plan, in_parts(plan, kept), in_parts(plan, made)) for word in row]
+
+    def best_of_both(self, plan, kept, made):
+        return self.best(plan, kept + made)
