@@ -65,7 +65,7 @@ class Script:
             else:
                 merged, kept = self.make(Merge(self.words, kept, held, made))
                 held = merged.words
-            if with_threshold and self.plan.kind == TOP and held == width(self.plan) * self.plan.k:
+            if with_threshold and self.plan.kind == TOP and held == width(self.plan) * self.right.best_count(self.plan):
                 threshold = kept[held - width(self.plan):held]
             if answer.ending == DONE or answer.refused:
                 break
@@ -115,7 +115,7 @@ class Script:
         if self.plan.kind == GROUP:
             keys = {key for key in pool if self.rng.random() < .7}
             return tuple(w for key in sorted(keys, key=self.right.group_key) for w in [*key, *self.some_totals()])
-        rows = [self.rng.choice(pool) for _ in range(self.rng.randint(0, min(self.plan.k, 6)))]
+        rows = [self.rng.choice(pool) for _ in range(self.rng.randint(0, min(self.right.best_count(self.plan), 6)))]
         return tuple(w for row in sorted(rows, key=lambda row: self.right.sort_key(self.plan, row)) for w in row)
 
     def wild_merge(self):

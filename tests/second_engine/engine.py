@@ -1,4 +1,5 @@
 """The engine's three calls, from a library with their C declarations, answering as the evaluation does."""
+import faulthandler
 import os
 import subprocess
 from ctypes import CDLL, POINTER, Structure, addressof, c_size_t, c_uint32, cast, sizeof
@@ -72,6 +73,7 @@ class Engine:
     """The calls of a library."""
 
     def __init__(self, path, folder):
+        faulthandler.enable()
         library = CDLL(shared(path, folder))
         table_types = [WORDS, c_size_t] * 4
         self.opening, self.turning, self.merging = library.sotjarn_open, library.sotjarn_turn, library.sotjarn_merge

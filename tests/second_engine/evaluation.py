@@ -52,7 +52,7 @@ class Evaluation(Running, Lists):
         return [(5, lambda: plan is not None), (6, lambda: named_right(words))]
 
     def least_output(self, plan):
-        return width(plan) * (plan.k if plan.kind == TOP else 1)
+        return width(plan) * (self.best_count(plan) if plan.kind == TOP else 1)
 
     def threshold_right(self, plan, threshold):
         return not threshold or plan.kind == TOP and len(threshold) == width(plan) and all(map(delivered_term, threshold))

@@ -4,6 +4,7 @@ from plan_reader import width
 from words import GROUP, NUMBER, ROWS, TOP, UNBOUND, term_kind, term_value, two_words
 
 MOST_TOTAL = (1 << 64) - 1
+DEFAULT_BEST = 64
 
 
 class Lists:
@@ -17,9 +18,12 @@ class Lists:
         values = [(falling, self.key(row[plan.columns.index(v)])) for falling, v in plan.keys]
         return tuple(-value if falling else value for falling, value in values)
 
+    def best_count(self, plan):
+        return plan.k or DEFAULT_BEST
+
     def best(self, plan, rows):
         """The first k by the keys; rows equal in all keys keep their order."""
-        return sorted(rows, key=lambda row: self.sort_key(plan, row))[:plan.k]
+        return sorted(rows, key=lambda row: self.sort_key(plan, row))[:self.best_count(plan)]
 
     def passes_threshold(self, plan, row, threshold):
         return not threshold or self.sort_key(plan, row) < self.sort_key(plan, threshold)
@@ -72,7 +76,8 @@ class Lists:
         parts = in_parts(plan, words)
         if plan.kind == TOP:
             keys = [self.sort_key(plan, row) for row in parts]
-            return len(parts) <= plan.k and all(map(delivered_term, words)) and all(a <= b for a, b in zip(keys, keys[1:]))
+            return (len(parts) <= self.best_count(plan) and all(map(delivered_term, words))
+                    and all(a <= b for a, b in zip(keys, keys[1:])))
         groups = [split_record(record) for record in parts]
         return (all(delivered_term(w) for keys, _ in groups for w in keys) and ascend([self.group_key(keys) for keys, _ in groups])
                 and all(totals_right(totals) for _, totals in groups))

@@ -186,6 +186,15 @@ class TextsBeforeNumbers(Misreading):
         return kind << 30 | term_value(word)
 
 
+class ZeroIsNone(Misreading):
+    """a best-of list of 0 rows has none"""
+    concerns, endings = 'calls', (TOP,)
+    calls = Turn, Merge
+
+    def best_count(self, plan):
+        return plan.k
+
+
 class LaterPushesOut(Misreading):
     """a later equal row pushes out the kept one"""
     concerns, endings = 'calls', (TOP,)
@@ -385,6 +394,6 @@ def starts_wrong(words):
 ALL_MISREADINGS = [
     NamesOrdered, ErrorIsFalse, LeftErrorDecides, ErrorDecidesOr, ErrorDecidesAnd, KeepsErrors, NumberIsNoText, ErrorIsUnequal,
     RepeatsIgnored, EmptyAtZero, EndTooEarly, SubjectBeforeObject, BoundBefore, BranchDuplicates, AllDuplicates, RawWords,
-    UnboundFirstFalling, TextsBeforeNumbers, LaterPushesOut, TurnFirst, ThresholdNotAfter, LeastFromZero, CarryDropped,
+    UnboundFirstFalling, TextsBeforeNumbers, ZeroIsNone, LaterPushesOut, TurnFirst, ThresholdNotAfter, LeastFromZero, CarryDropped,
     SingleFloats, TextsCounted, NoNumberNoRow, UnboundLeftOut, FullTakesStep, FullLosesRow, FullKnownGroup, FullAtOnce,
     DoneTakesStep, SavedEarly, BelowEnd, SixBeforeFive, EqualRowsPass, RefusalWrites]

@@ -76,7 +76,7 @@ class Reader:
         if kind(word) == ROWS:
             return Plan(branches, ROWS, self.row(), None, None, None, None)
         if kind(word) == TOP:
-            k = self.part(TOP, 0, 64) or 64
+            k = self.part(TOP, 0, 64)
             return Plan(branches, TOP, self.row(), k, self.sort_keys(), None, None)
         group = self.variables(self.part(GROUP, 0, 4))
         measured, = self.variables(1)

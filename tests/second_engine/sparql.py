@@ -12,6 +12,7 @@ import sys
 import zipfile
 
 from inputs import Totals
+from lists import DEFAULT_BEST
 from words import (AND, COMPARISON, EQUAL, GROUP, MOST_VALUE, NAME, NOT, NUMBER, OPERATORS, ROWS, TEXT, TOP, TRUE, UNBOUND, UNEQUAL,
                    VARIABLE, name, number, term_kind, term_value, text)
 
@@ -97,7 +98,7 @@ def sort_key(falling, v):
 
 
 def top_query(plan):
-    return f"{rows_query(plan)} ORDER BY {' '.join(sort_key(*key) for key in plan.keys)} LIMIT {plan.k}"
+    return f"{rows_query(plan)} ORDER BY {' '.join(sort_key(*key) for key in plan.keys)} LIMIT {plan.k or DEFAULT_BEST}"
 
 
 def measured(plan, function, number_as, other):
