@@ -185,16 +185,21 @@ class Script:
                                                         len(call.state) + 1]))
         if not 0 < call.given <= len(call.state):
             return call
-        state, at = list(call.state), self.rng.randrange(call.given)
-        way = self.rng.randrange(3)
+        state, given, at = list(call.state), call.given, self.rng.randrange(call.given)
+        way = self.rng.randrange(5)
         if way == 0:
             state[at] = plan_word(self.rng.choice([STATE, PLACE, PLACE, 1]), self.rng.choice([0, 1, 2, 3, 16, 17, 18, 33, 64, 65]))
         elif way == 1:
             state[at] = (state[at] + self.rng.choice([-2, -1, 1, 1, 2])) & MOST_WORD
+        elif way == 2:
+            state[0] = (state[0] + 16 * self.rng.choice([1, 1, 2, 3, 4])) & MOST_WORD
+        elif way == 3 and given < len(state):
+            state[0], state[given] = (state[0] + 1) & MOST_WORD, plan_word(PLACE, self.rng.randrange(len(self.tables.pos) + 2))
+            given += 1
         else:
             words = state_words(self.rng.choice(self.states))
             state[at] = words[min(at, len(words) - 1)]
-        return call._replace(state=tuple(state))
+        return call._replace(state=tuple(state), given=given)
 
     def turn_damage(self, call):
         way = self.rng.randrange(4)
