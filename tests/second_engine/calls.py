@@ -3,10 +3,11 @@ from collections import namedtuple
 
 from evaluation import DONE, MOST_QUANTUM
 from inputs import state_words
-from plan_reader import read_plan, width
+from plan_reader import Marked, read_plan, width
+from plans import Draft
 from running import TooLong
-from words import (FALLING, GROUP, MOST_VALUE, MOST_WORD, NOT, PLACE, RISING, ROWS, STATE, TOP, UNBOUND, number, plan_word,
-                   term, two_words, variable)
+from words import (FALLING, GROUP, MOST_VALUE, MOST_WORD, NOT, PLACE, RISING, ROWS, STATE, TOP, UNBOUND, is_variable, kind, low,
+                   number, plan_word, term, two_words, variable)
 
 Open = namedtuple('Open', 'tables words state')
 Turn = namedtuple('Turn', 'tables words state given quantum threshold output')
@@ -145,20 +146,45 @@ class Script:
             words[at] = word
         return tuple(words)
 
-    def plan_damage(self, call):
-        word = self.rng.choice([variable(self.rng.choice([0, 1, 3, 15, 16, 17, MOST_VALUE])),
+    def some_word(self):
+        """A word that may stand in a plan, though perhaps nowhere."""
+        return self.rng.choice([variable(self.rng.choice([0, 1, 3, 15, 16, 17, MOST_VALUE])),
                                 plan_word(self.rng.randrange(16), self.rng.choice([0, 1, 2, 5, 6, 64, 65])),
                                 plan_word(self.rng.choice([RISING, FALLING]), self.rng.choice([0, 3, 16, 0xfffffff])),
                                 self.some_term()])
-        words = self.nudged(call.words, word)
-        if self.rng.random() < .1:
-            at = self.rng.randrange(len(words) + 1)
-            words = words[:at] + (plan_word(NOT, 0),) * self.rng.randint(1, 8) + words[at:]
-        if self.rng.random() < .1:
-            words = words[:self.rng.randrange(len(words) + 1)]
-        if self.rng.random() < .05:
-            words = words + (word,) * 250
-        return call._replace(words=words)
+
+    def other_end(self, words):
+        """The plan with its last words left out, or some more."""
+        count = self.rng.choice([1, 1, 2, 3, len(words), self.rng.randrange(len(words) + 1)])
+        more = (self.some_word(),) * self.rng.choice([1, 250])
+        return self.rng.choice([words[:len(words) - count], words + words[-count:], words + more])
+
+    def other_count(self, words):
+        """One of the plan's own words with another kind or other low bits, mostly beside a limit."""
+        at = self.rng.choice(Marked(words).own)
+        count = self.rng.choice([0, low(words[at]) + 1, max(0, low(words[at]) - 1), 4, 5, 8, 9, 15, 16, 17, 64, 65, 0xfffffff])
+        word = self.rng.choice([plan_word(kind(words[at]), count), plan_word(self.rng.randrange(16), low(words[at]))])
+        return words[:at] + (word,) + words[at + 1:]
+
+    def other_variable(self, words):
+        """One variable in the place of another, in a pattern, a condition or the ending."""
+        own = set(Marked(words).own)
+        at = self.rng.choice([i for i, word in enumerate(words) if is_variable(word) and i not in own])
+        return words[:at] + (variable(self.rng.choice([*range(18), MOST_VALUE])),) + words[at + 1:]
+
+    def other_condition(self, words):
+        """A condition of about as many nodes as there may be, or about as deep."""
+        draft, (start, end) = Draft(self.rng, []), self.rng.choice(Marked(words).conditions)
+        grown = draft.sized([], self.rng.randint(28, 33), 8) if self.rng.random() < .5 else \
+            [plan_word(NOT, 0)] * self.rng.randint(1, 8) + list(words[start:end])
+        return words[:start] + tuple(grown) + words[end:]
+
+    def plan_damage(self, call):
+        if read_plan(call.words) is None:
+            return call
+        way = self.rng.choice([self.other_end, self.other_count, self.other_variable, self.other_condition,
+                               lambda words: self.nudged(words, self.some_word())])
+        return call._replace(words=way(call.words))
 
     def table_damage(self, call):
         tables, count = call.tables, len(call.tables.pos)

@@ -94,6 +94,30 @@ class Reader:
         return tuple((kind(w) == FALLING, low(w)) for w in words)
 
 
+class Marked(Reader):
+    """A reader that notes where the plan's own words stand, those that are no terms, and where its conditions lie."""
+
+    def __init__(self, words):
+        super().__init__(words)
+        self.own, self.conditions = [], []
+        self.plan()
+
+    def part(self, wanted, least, most):
+        self.own.append(self.at)
+        return super().part(wanted, least, most)
+
+    def condition(self):
+        start = self.at
+        self.own.append(start)
+        node = super().condition()
+        self.conditions.append((start, self.at))
+        return node
+
+    def sort_keys(self):
+        self.own += range(self.at, len(self.words))
+        return super().sort_keys()
+
+
 def nodes(condition):
     return 1 + sum(nodes(part) for part in condition_parts(condition))
 
