@@ -161,9 +161,10 @@ class Script:
 
     def other_count(self, words):
         """One of the plan's own words with another kind or other low bits, mostly beside a limit."""
-        at = self.rng.choice(Marked(words).own)
-        count = self.rng.choice([0, low(words[at]) + 1, max(0, low(words[at]) - 1), 4, 5, 8, 9, 15, 16, 17, 64, 65, 0xfffffff])
-        word = self.rng.choice([plan_word(kind(words[at]), count), plan_word(self.rng.randrange(16), low(words[at]))])
+        own = Marked(words).own
+        at = self.rng.choice(self.rng.choice([own, own[-4:]]))
+        count = self.rng.choice([0, low(words[at]) + 1, max(0, low(words[at]) - 1), 5, 9, 17, 65, 0xfffffff])
+        word = plan_word(kind(words[at]), count) if self.rng.random() < .7 else plan_word(self.rng.randrange(16), low(words[at]))
         return words[:at] + (word,) + words[at + 1:]
 
     def other_variable(self, words):
