@@ -142,8 +142,7 @@ class Jena:
     def __init__(self, folder):
         self.folder = folder
         path = os.pathsep.join([prepared(folder)] + jars())
-        self.driver = subprocess.Popen(['java', '-Xss16m', '-cp', path, 'Driver'], stdin=subprocess.PIPE,
-                                       stdout=subprocess.PIPE, text=True)
+        self.driver = subprocess.Popen(['java', '-cp', path, 'Driver'], stdin=subprocess.PIPE, stdout=subprocess.PIPE, text=True)
 
     def line(self, text):
         self.driver.stdin.write(text + '\n')
