@@ -1,0 +1,82 @@
+/* Sotjarn's three calls for C and C++: opening a query, one turn of it, and merging a turn's list into a kept one.
+ *
+ * Link with libsotjarn.a, which `rt staticlib sotjarn` writes to target/staticlib/. No call allocates, keeps an address, or has a
+ * state of its own: calls on different buffers may run at the same time.
+ *
+ * A buffer is its address and its length in 32-bit words. Whatever the words are, a call ends, reads and writes nothing outside its
+ * buffers, and refuses faulty input by number; a refused call changes no word. The caller sees to the addresses:
+ *   - none is null, even where its length is 0; each is aligned for uint32_t, and so many words may be read from it;
+ *   - a buffer that is written (no `const`) may be written, and overlaps no other buffer of the same call;
+ *   - nobody else writes a buffer of a call while it runs.
+ * Buffers that are only read may overlap.
+ *
+ * The tables are three buffers: `rows` has three terms a row, in ascending order; `pos` and `osp` have row numbers, in the order of
+ * predicate, object, subject and of object, subject, predicate. `plan` is the query. The same four go with every turn of a query.
+ */
+#ifndef SOTJARN_H
+#define SOTJARN_H
+
+#include <stddef.h>
+#include <stdint.h>
+
+#ifdef __cplusplus
+extern "C" {
+#endif
+
+/* How a turn ended. */
+enum {
+    SOTJARN_DONE = 0,   /* the query has ended; no state is left */
+    SOTJARN_SPENT = 1,  /* it took exactly the quantum and is not done */
+    SOTJARN_FULL = 2,   /* the next step delivers a row or a new group for which the output has no space */
+    SOTJARN_REFUSED = 3 /* it was refused, and nothing changed */
+};
+
+/* The words that a state buffer has at least, and the most steps that a turn may take. */
+enum { SOTJARN_STATE_WORDS = 9, SOTJARN_MOST_STEPS = 1000000 };
+
+/* What opening and merging answer. */
+struct sotjarn_written {
+    uint32_t refused; /* the number of the first test that failed; 0: written */
+    size_t words;     /* the words written to the buffer, from its front; 0 if refused */
+};
+
+/* What a turn answers. */
+struct sotjarn_turned {
+    uint32_t ending;    /* SOTJARN_DONE, _SPENT, _FULL or _REFUSED */
+    uint32_t refused;   /* the number of the first test that failed; 0 unless the ending is SOTJARN_REFUSED */
+    uint32_t steps;     /* the steps taken */
+    size_t state_words; /* the words of the new state, written over the front of `state`; 0 when done */
+    size_t list_words;  /* the words of the turn's list, written over the front of `output` */
+};
+
+/* Writes the start state of a query over the front of `state`. Refused by 1 to 7. */
+struct sotjarn_written sotjarn_open(const uint32_t *rows, size_t rows_len,
+                                    const uint32_t *pos, size_t pos_len,
+                                    const uint32_t *osp, size_t osp_len,
+                                    const uint32_t *plan, size_t plan_len,
+                                    uint32_t *state, size_t state_len);
+
+/* Runs at most `quantum` steps from the saved state, which is the first `state_words` words of `state`: those that opening or the
+ * turn before wrote. `threshold` is empty (length 0), or for a best-of query the last row of a full list merged from earlier turns.
+ * Refused by 1 to 11. */
+struct sotjarn_turned sotjarn_turn(const uint32_t *rows, size_t rows_len,
+                                   const uint32_t *pos, size_t pos_len,
+                                   const uint32_t *osp, size_t osp_len,
+                                   const uint32_t *plan, size_t plan_len,
+                                   uint32_t *state, size_t state_len, size_t state_words,
+                                   uint32_t quantum,
+                                   const uint32_t *threshold, size_t threshold_len,
+                                   uint32_t *output, size_t output_len);
+
+/* Merges a turn's whole list into the kept one, which is the first `kept_words` words of `kept`; none at first. The merged list is
+ * written over the front of `kept`. For best-of queries and groups; the lists of a row query are joined end to end instead.
+ * Refused by 5, 6 and 12 to 14. */
+struct sotjarn_written sotjarn_merge(const uint32_t *plan, size_t plan_len,
+                                     uint32_t *kept, size_t kept_len, size_t kept_words,
+                                     const uint32_t *list, size_t list_len);
+
+#ifdef __cplusplus
+}
+#endif
+
+#endif

@@ -1,0 +1,34 @@
+-- The answers of the three calls as numbers, for programs in other languages. Assumes nothing: these are definitions.
+use Prim.Native.Nat.{ℕ}
+use Rattle.words.specs.declared.Written.{Written}
+use Rattle.words.specs.Answers.{refusalIn, wordsIn}
+use Rattle.turns.specs.declared.TurnEnding.{TurnEnding}
+use Rattle.turns.specs.declared.TurnEnding.the-variants.{Done, Spent, Full, Refused}
+use Rattle.turns.specs.declared.Turned.{Turned}
+use Rattle.turns.specs.Turns.{refusalOf}
+use Rattle.sotjarn.specs.declared.WrittenNumbers.{WrittenNumbers}
+use Rattle.sotjarn.specs.declared.EndingNumbers.{EndingNumbers}
+use Rattle.sotjarn.specs.declared.TurnedNumbers.{TurnedNumbers}
+
+-- the endings of a turn, counted from 0 in the order in which the rules name them; then refused
+abbrev pub endingNumber : TurnEnding → ℕ
+endingNumber Done = 0
+endingNumber Spent = 1
+endingNumber Full = 2
+endingNumber (Refused x) = 3
+
+abbrev pub writtenNumbers : Written → WrittenNumbers
+writtenNumbers w = record { refused = refusalIn w; words = wordsIn w }
+
+abbrev pub endingNumbers : TurnEnding → EndingNumbers
+endingNumbers e = record { ending = endingNumber e; refused = refusalOf e }
+
+abbrev pub turnedNumbers : Turned → TurnedNumbers
+turnedNumbers t =
+    record {
+      ending = endingNumber (t .ending);
+      refused = refusalOf (t .ending);
+      steps = t .steps;
+      saved = t .saved;
+      listed = t .listed;
+    }

@@ -1,0 +1,159 @@
+// The three calls for programs in other languages: an answer is a struct of numbers, and a buffer its address and its length in words.
+// bindings/c/sotjarn.h declares them for C.
+use turns::TurnEnding;
+use turns::Turned;
+use words::Written;
+ghost use mathlib.Core.Path.{_≡_};
+ghost use Rattle.tables.specs.Tables.{tablesOf};
+ghost use Rattle.turns.specs.Opening.{openOf};
+ghost use Rattle.turns.specs.Turns.{turnOf};
+ghost use Rattle.turns.specs.Testing.{turnInput};
+ghost use Rattle.merges.specs.Merging.{mergeOf};
+ghost use Rattle.sotjarn.specs.Numbers.{writtenNumbers, endingNumbers, turnedNumbers};
+
+// What a call that writes to one buffer answers: the number of the test that refused it, or 0; and the words written.
+#[repr(C)]
+pub struct WrittenNumbers {
+    pub refused: u32,
+    pub words: usize,
+}
+
+// What a turn answers: its ending by number; the number of the test that refused it, or 0; its steps; and the words written to the state
+// and to the output.
+#[repr(C)]
+pub struct TurnedNumbers {
+    pub ending: u32,
+    pub refused: u32,
+    pub steps: u32,
+    pub saved: usize,
+    pub listed: usize,
+}
+
+// An ending by its number, and the number of the test that refused a turn, or 0.
+pub struct EndingNumbers {
+    pub ending: u32,
+    pub refused: u32,
+}
+
+// The endings of a turn, by their numbers.
+pub const DONE: u32 = 0;
+
+pub const SPENT: u32 = 1;
+
+pub const FULL: u32 = 2;
+
+pub const REFUSED: u32 = 3;
+
+// The numbers of an answer: no words are written by a refused call.
+fn written_numbers(w: Written) -> WrittenNumbers
+    ensures { λ r. ⌜ r ≡ writtenNumbers w ⌝ }
+{
+    match w {
+        Written::Words(n) => WrittenNumbers {
+            refused: 0,
+            words: n,
+        },
+        Written::Refused(number) => WrittenNumbers {
+            refused: number,
+            words: 0,
+        },
+    }
+}
+
+// The numbers of an ending: of a served turn the test's is 0.
+fn ending_numbers(e: TurnEnding) -> EndingNumbers
+    ensures { λ r. ⌜ r ≡ endingNumbers e ⌝ }
+{
+    match e {
+        TurnEnding::Done => EndingNumbers {
+            ending: DONE,
+            refused: 0,
+        },
+        TurnEnding::Spent => EndingNumbers {
+            ending: SPENT,
+            refused: 0,
+        },
+        TurnEnding::Full => EndingNumbers {
+            ending: FULL,
+            refused: 0,
+        },
+        TurnEnding::Refused(number) => EndingNumbers {
+            ending: REFUSED,
+            refused: number,
+        },
+    }
+}
+
+// The numbers of a turn's answer.
+fn turned_numbers(t: Turned) -> TurnedNumbers
+    ensures { λ r. ⌜ r ≡ turnedNumbers t ⌝ }
+{
+    let ending = t.ending;
+    let e = ending_numbers(ending);
+    TurnedNumbers {
+        ending: e.ending,
+        refused: e.refused,
+        steps: t.steps,
+        saved: t.saved,
+        listed: t.listed,
+    }
+}
+
+// Writes the start state of a query to the state buffer, or refuses.
+#[no_mangle]
+pub extern "C" fn sotjarn_open(
+    rows: &[u32],
+    pos: &[u32],
+    osp: &[u32],
+    plan: &[u32],
+    state: &mut [u32],
+) -> WrittenNumbers
+    ensures answer { λ r. ⌜ r ≡ writtenNumbers (openOf (tablesOf (now (rows .entry)) (now (pos .entry)) (now (osp .entry))) (now (plan .entry)) (now (state .entry)) .answer) ⌝ }
+    ensures state { λ _. ⌜ now (state .exit) ≡ openOf (tablesOf (now (rows .entry)) (now (pos .entry)) (now (osp .entry))) (now (plan .entry)) (now (state .entry)) .state ⌝ }
+{
+    written_numbers(turns::open(rows, pos, osp, plan, state))
+}
+
+// Runs one turn of a query, or refuses.
+#[no_mangle]
+pub extern "C" fn sotjarn_turn(
+    rows: &[u32],
+    pos: &[u32],
+    osp: &[u32],
+    plan: &[u32],
+    state: &mut [u32],
+    given: usize,
+    quantum: u32,
+    threshold: &[u32],
+    output: &mut [u32],
+) -> TurnedNumbers
+    ensures answer { λ r. ⌜ r ≡ turnedNumbers (turnOf (turnInput (now (rows .entry)) (now (pos .entry)) (now (osp .entry)) (now (plan .entry)) (now (state .entry)) given quantum (now (threshold .entry)) (now (output .entry))) .answer) ⌝ }
+    ensures state { λ _. ⌜ now (state .exit) ≡ turnOf (turnInput (now (rows .entry)) (now (pos .entry)) (now (osp .entry)) (now (plan .entry)) (now (state .entry)) given quantum (now (threshold .entry)) (now (output .entry))) .state ⌝ }
+    ensures output { λ _. ⌜ now (output .exit) ≡ turnOf (turnInput (now (rows .entry)) (now (pos .entry)) (now (osp .entry)) (now (plan .entry)) (now (state .entry)) given quantum (now (threshold .entry)) (now (output .entry))) .output ⌝ }
+{
+    turned_numbers(turns::turn(
+        rows,
+        pos,
+        osp,
+        plan,
+        state,
+        given,
+        quantum,
+        threshold,
+        output,
+    ))
+}
+
+// Merges a list into the kept one, or refuses.
+#[no_mangle]
+pub extern "C" fn sotjarn_merge(
+    plan: &[u32],
+    kept: &mut [u32],
+    given: usize,
+    list: &[u32],
+) -> WrittenNumbers
+    ensures answer { λ r. ⌜ r ≡ writtenNumbers (mergeOf (record { plan = now (plan .entry); kept = now (kept .entry); given = given; list = now (list .entry) }) .answer) ⌝ }
+    ensures kept { λ _. ⌜ now (kept .exit) ≡ mergeOf (record { plan = now (plan .entry); kept = now (kept .entry); given = given; list = now (list .entry) }) .kept ⌝ }
+{
+    written_numbers(merges::merge(plan, kept, given, list))
+}
