@@ -1,15 +1,3 @@
-pub mod LevelFields
-pub mod Showing
-pub mod Moving
-pub mod Naming
-pub mod Agreement
-pub mod Cursors
-pub mod Standing
-pub mod FiveMoves
-pub mod Simulation
-pub mod Making
-pub mod Readiness
-pub mod Looking
 pub mod Runs
 pub mod Rules
 pub mod Right
@@ -18,8 +6,3 @@ pub mod Ends
 pub mod SavedWords
 pub mod Accepted
 pub mod Values
-pub mod Storing
-pub mod ShapeCases
-pub mod Restoring
-pub mod WalkedLevels
-pub mod Loads

@@ -12,8 +12,8 @@ use Rattle.words.specs.Tests.{Test, firstFailing, numberOf}
 use Rattle.tables.specs.Tables.{Tables}
 use Rattle.plans.specs.Plans.{planOf}
 use Rattle.steps.specs.Steps.{startOf}
-use Rattle.steps.specs.declared.Cursor.{Cursor}
-use Rattle.steps.specs.Held.{stateOf}
+use Rattle.cursors.specs.declared.Cursor.{Cursor}
+use Rattle.cursors.specs.Held.{stateOf}
 use Rattle.steps.specs.Saved.{stateWords, leastStateWords}
 use Rattle.turns.specs.Opening.{openTests, openedWith, openedAs, openOf}
 use Rattle.turns.proofs.Numbering.{earlyTests, early-pass, front-fails, rest-decides}

@@ -5,8 +5,8 @@ mod running;
 mod testing;
 mod turning;
 
+use cursors::Cursor;
 pub use opening::open;
-use steps::Cursor;
 pub use turning::turn;
 
 // How a turn ended: done, spent, full, or refused with its number.

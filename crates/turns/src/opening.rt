@@ -21,6 +21,6 @@ pub fn open(rows: &[u32], pos: &[u32], osp: &[u32], plan: &[u32], state: &mut [u
         return Written::Refused(ROOM);
     }
     let mut bound = [Term::UNBOUND; 16];
-    let start = steps::start_branch(rows, pos, osp, plan, 0, &mut bound);
-    Written::Words(steps::save(start, state))
+    let start = moves::start_branch(rows, pos, osp, plan, 0, &mut bound);
+    Written::Words(saved_states::save(start, state))
 }

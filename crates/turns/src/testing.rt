@@ -1,7 +1,7 @@
 // The tests of opening and of a turn, in their order.
+use cursors::Cursor;
 use plans::Last;
-use steps::Cursor;
-use steps::Loaded;
+use saved_states::Loaded;
 use tables::Place;
 ghost use mathlib.Core.Path.{_≡_};
 ghost use mathlib.Core.Bool.{true, _&&_};
@@ -14,7 +14,7 @@ ghost use Rattle.tables.specs.Right.{Right};
 ghost use Rattle.plans.specs.Endings.{endingForm, endingAt};
 ghost use Rattle.plans.specs.Plans.{readPlan, hasForm, planOf, planTests};
 ghost use Rattle.steps.specs.Saved.{stateIn, leastStateWords, shapeRight, placesRight};
-ghost use Rattle.steps.specs.Held.{stateOf, Held};
+ghost use Rattle.cursors.specs.Held.{stateOf, Held};
 ghost use Rattle.lists.specs.Gathering.{leastOutput, thresholdRight};
 ghost use Rattle.turns.specs.Turns.{mostSteps, turnTests};
 ghost use Rattle.turns.specs.Testing.{turnInput, sizeNumber, lateNumber};
@@ -127,7 +127,7 @@ fn load(
     if given > state.len() {
         return refused(STATE);
     }
-    let loaded = steps::load(rows, pos, osp, plan, &state[..given], bound);
+    let loaded = saved_states::load(rows, pos, osp, plan, &state[..given], bound);
     if loaded.refused != ACCEPTED {
         return loaded;
     }

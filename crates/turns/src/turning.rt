@@ -5,14 +5,14 @@ use crate::Turned;
 use crate::running::run;
 use crate::testing::ACCEPTED;
 use crate::testing::prepare;
-use steps::Cursor;
+use cursors::Cursor;
 use words::Term;
 ghost use mathlib.Core.Path.{_≡_};
 ghost use Prim.Native.Nat.{_≤_};
 ghost use lib.ListN.{length};
 ghost use Rattle.words.specs.Sequences.{over};
 ghost use Rattle.steps.specs.Saved.{savedWords, leastStateWords};
-ghost use Rattle.steps.specs.Loading.{Storable};
+ghost use Rattle.saved_states.specs.Loading.{Storable};
 ghost use Rattle.turns.specs.declared.TurnEnding.{TurnEnding};
 ghost use Rattle.turns.specs.Turns.{turnOf};
 ghost use Rattle.turns.specs.Running.{leftAt, answerOf};
@@ -25,8 +25,8 @@ fn save_left(ending: TurnEnding, next: Cursor, state: &mut [u32]) -> usize
 {
     match ending {
         TurnEnding::Done => 0,
-        TurnEnding::Spent => steps::save(next, state),
-        TurnEnding::Full => steps::save(next, state),
+        TurnEnding::Spent => saved_states::save(next, state),
+        TurnEnding::Full => saved_states::save(next, state),
         TurnEnding::Refused(_) => 0,
     }
 }

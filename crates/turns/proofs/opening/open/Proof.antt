@@ -2,8 +2,8 @@
 use borrow.Author.Needs.{needs}
 use mathlib.Core.Path.{sym, _∙_}
 use Rattle.tables.specs.Tables.{tablesOf}
-use Rattle.steps.proofs.Cursors.{form-of}
-use Rattle.steps.proofs.Storing.{held-storable}
+use Rattle.cursors.proofs.Cursors.{form-of}
+use Rattle.saved_states.proofs.Storing.{held-storable}
 use Rattle.turns.proofs.Numbering.{early-right, early-planned}
 use Rattle.turns.proofs.Opened.{open-refused, open-short, open-served, opened-words}
 use Rattle.turns.proofs.opening.open.Statement.{statement}

@@ -1,7 +1,7 @@
 -- `turn` meets its contract: it is refused by its tests, or its steps are those of the definition.
 use borrow.Author.Needs.{needs}
 use mathlib.Core.Path.{sym, _∙_}
-use Rattle.steps.specs.Held.{stateOf}
+use Rattle.cursors.specs.Held.{stateOf}
 use Rattle.turns.specs.Testing.{turnInput}
 use Rattle.turns.proofs.Numbering.{accepted, turn-passes, turn-refuses}
 use Rattle.turns.proofs.Answering.{refuses, serves, runnable}

@@ -1,0 +1,112 @@
+-- `steps::save` meets its contract. The loop's invariant: the first word and the places of the levels before `i` are written.
+use borrow.Author.Needs.{needs}
+use Prim.Native.Nat.{ℕ, _+_, _-_, _%_, _≤_, _<_, zero-le}
+use mathlib.Core.Path.{_≡_, refl, sym, ap, _∙_}
+use native.Mathlib.Omega.{arith}
+use lib.ListN.{length, getD, set, length-set}
+use Rattle.words.specs.Words.{lowNumbers, placeWord}
+use Rattle.words.specs.Sequences.{over}
+use Rattle.cursors.specs.Carried.{placeAt}
+use Rattle.saved_states.proofs.Storing.{wordsAbove, above-none, above-write, saved}
+use Rattle.saved_states.proofs.saving.save.Statement.{statement}
+use Rattle.saved_states.proofs.saving.save.Tie as tie
+
+abbrev Inv-loop : tie.InvT-loop
+Inv-loop state₀ level places i₀ state i =
+    (i ≤ level + 1) × (length state ≡ length state₀) × (state ≡ over (wordsAbove (getD state₀ 0 0) places i) state₀)
+
+abbrev μ-loop : tie.MeasureT-loop
+μ-loop state₀ level places i₀ state i = level + 1 - i
+
+-- the state has room for as many places as there are levels
+room : (l : tie.At-loop Inv-loop μ-loop) → l .before .before .before .before .args .c .level + 1 < length (l .loop .state)
+room l =
+    let s = l .before .before .before .before in
+    omega (arith, length-set (s .args .state .now) 0 (l .before .position .result .0), s .pre .0 .level)
+
+-- a place word holds a place below 2^28 whole
+kept : (n : ℕ) → n < lowNumbers → n % lowNumbers ≡ n
+kept n h = omega arith
+
+cast-position : tie.Need-cast-position Inv-loop μ-loop
+cast-position c = omega arith
+
+add-position : tie.Need-add-position Inv-loop μ-loop
+add-position c = omega arith
+
+position-requires : tie.Need-position-requires Inv-loop μ-loop
+position-requires c κs = search needs
+
+slice-write-state : tie.Need-slice-write-state Inv-loop μ-loop
+slice-write-state c = omega arith
+
+loop-holds : tie.Need-loop-holds Inv-loop μ-loop
+loop-holds c = (zero-le, refl, above-none (c .before .before .before .args .c .places) _ (simp length-set (omega arith)))
+
+mul-place : tie.Need-mul-place Inv-loop μ-loop
+mul-place c = omega arith
+
+array-copy-out-place : tie.Need-array-copy-out-place Inv-loop μ-loop
+array-copy-out-place c = omega (arith, c .before .before .before .before .before .pre .0 .level)
+
+add-i : tie.Need-add-i Inv-loop μ-loop
+add-i c = omega arith
+
+place-requires : tie.Need-place-requires Inv-loop μ-loop
+place-requires c κs = tt
+
+mul-state : tie.Need-mul-state Inv-loop μ-loop
+mul-state c = omega arith
+
+slice-write-state-2 : tie.Need-slice-write-state-2 Inv-loop μ-loop
+slice-write-state-2 c = omega (arith, room (c .before .before .before))
+
+loop-less : tie.Need-loop-less Inv-loop μ-loop
+loop-less c = omega arith
+
+loop-again : tie.Need-loop-again Inv-loop μ-loop
+loop-again c =
+    let l = c .before .before .before in
+    let s = l .before .before .before .before in
+    let state = l .loop .state in
+    let buffer = set (s .args .state .now) 0 (l .before .position .result .0) in
+    let word = c .place2 .ensures ∙ ap placeWord (kept (placeAt (s .args .c .places) (l .loop .i)) (s .pre .0 .places (l .loop .i) (omega arith))) in (
+      omega arith,
+      (simp length-set) ∙ l .loop .inv .1,
+      ap (set state (l .loop .i + 1)) word ∙ above-write _ (s .args .c .places) (l .loop .i) state buffer (omega (arith, room l)) (l .loop .inv .2),
+    )
+
+add-result : tie.Need-add-result Inv-loop μ-loop
+add-result c = omega arith
+
+same-length : tie.Need-same-length Inv-loop μ-loop
+same-length c = c .before .loop .inv .1 ∙ (simp length-set)
+
+returns : tie.Need-returns Inv-loop μ-loop
+returns c =
+    let l = c .before in
+    let s = l .before .before .before .before in
+    saved (s .args .c) (l .before .position .result .0) (l .before .position .ensures) (l .loop .i) (l .loop .state) (s .args .state .now) (omega arith) (omega arith) (l .loop .inv .0) (l .loop .inv .2)
+
+pub save-spec : {M : Type 1} → statement M
+save-spec =
+    tie.close
+    (tie.spec
+    Inv-loop
+    μ-loop
+    cast-position
+    add-position
+    position-requires
+    slice-write-state
+    loop-holds
+    mul-place
+    array-copy-out-place
+    add-i
+    place-requires
+    mul-state
+    slice-write-state-2
+    loop-less
+    loop-again
+    add-result
+    same-length
+    returns)

@@ -1,0 +1,66 @@
+// The shape of a state's words: test 9, which needs the plan alone.
+use plans::PATTERN_WIDTH;
+use words::StateWord;
+ghost use mathlib.Core.Path.{_≡_};
+ghost use mathlib.Core.Bool.{true};
+ghost use Rattle.words.specs.Sequences.{all};
+ghost use Rattle.plans.specs.Plans.{readPlan, hasForm, planOf};
+ghost use Rattle.steps.specs.Saved.{isPlace, depthRight, positionRight, shapeRight};
+
+// Whether each word is a place.
+fn all_places(state: &[u32]) -> bool
+    ensures { λ r. ⌜ r ≡ all isPlace (now (state .entry)) ⌝ }
+{
+    let mut i: usize = 0;
+    while i < state.len() {
+        if StateWord(state[i]).kind() != StateWord::PLACE {
+            return false;
+        }
+        i += 1;
+    }
+    true
+}
+
+// Whether a branch with these terms has levels to a depth.
+fn depth_right(terms: &[u32], depth: u32) -> bool
+    ensures { λ r. ⌜ r ≡ depthRight (now (terms .entry)) depth ⌝ }
+{
+    if depth == 0 {
+        return false;
+    }
+    (words::wide(depth) - 1) * PATTERN_WIDTH < terms.len()
+}
+
+// Whether a state's first word names a branch of the plan and a depth of that branch.
+fn position_right(plan: &[u32], word: u32) -> bool
+    requires { ⌜ hasForm (readPlan (now plan)) ≡ true ⌝ }
+    ensures { λ r. ⌜ r ≡ positionRight (planOf (now (plan .entry))) word ⌝ }
+{
+    let w = StateWord(word);
+    let branch = w.branch();
+    if w.kind() != StateWord::POSITION {
+        return false;
+    }
+    if branch >= plans::branch_count(plan) {
+        return false;
+    }
+    depth_right(plans::terms(plans::branch_part(plan, branch)), w.depth())
+}
+
+// Whether a state's words are a position in the plan and a place for each level to its depth. (9)
+pub fn has_form(plan: &[u32], state: &[u32]) -> bool
+    requires { ⌜ hasForm (readPlan (now plan)) ≡ true ⌝ }
+    ensures { λ r. ⌜ r ≡ shapeRight (planOf (now (plan .entry))) (now (state .entry)) ⌝ }
+{
+    if state.len() == 0 {
+        return false;
+    }
+    let word = state[0];
+    if !position_right(plan, word) {
+        return false;
+    }
+    if state.len() - 1 != words::wide(StateWord(word).depth()) {
+        return false;
+    }
+    all_places(&state[1..])
+}
