@@ -6,7 +6,7 @@ use mathlib.Core.Path.{_≡_, refl, sym, _∙_, ap, ap₂}
 use mathlib.Core.Bool.{Bool, true, false}
 use mathlib.Core.List.{List, [], _∷_, _++_}
 use lib.Dec.{eqb}
-use lib.ListN.{length, drop, getD, set, length-set}
+use lib.ListN.{length, getD, set}
 use lib.Seq.{drop-cons, drop-set-lt, getD-set-same}
 use borrow.Author.Tests.{ltb-true, lt-ltb, eqb-true, eqb-false}
 use Rattle.words.specs.Words.{lowNumbers, positionWord, placeWord}
@@ -24,7 +24,7 @@ use Rattle.steps.proofs.Accepted.{right-fits}
 use Rattle.cursors.specs.declared.Cursor.{Cursor}
 use Rattle.cursors.specs.Carried.{placeAt}
 use Rattle.cursors.specs.Held.{upperOf, stateOf, Held}
-use Rattle.cursors.proofs.Cursors.{upper-length as places-length, upper-next, form-of, level-few, held-right}
+use Rattle.cursors.proofs.Cursors.{upper-length as places-length, form-of, level-few, held-right}
 use Rattle.saved_states.specs.Loading.{Storable}
 
 -- the first word, and the places of the levels above one

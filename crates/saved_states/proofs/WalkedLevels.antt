@@ -1,11 +1,11 @@
 -- Walking a cursor's upper levels from the outermost in, binding on the way: what it finds is test 10 of the upper places,
 -- which the definition takes from the innermost out.
-use Prim.Native.Nat.{ℕ, zero, suc, _+_, _≤_, _<_}
+use Prim.Native.Nat.{ℕ, zero, suc, _+_, _<_}
 use native.Mathlib.Omega.{arith}
 use native.Mathlib.Decide.{decLt}
 use mathlib.Core.Path.{_≡_, refl, sym, _∙_, ap}
 use mathlib.Core.Bool.{Bool, true, false, _&&_}
-use mathlib.Core.List.{List, [], _∷_}
+use mathlib.Core.List.{List, _∷_}
 use lib.ListN.{length}
 use Rattle.words.specs.Bindings.{Bindings, nothingBound}
 use Rattle.words.proofs.Booleans.{and-left, and-right}

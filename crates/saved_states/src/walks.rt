@@ -23,7 +23,7 @@ fn up_to_end(rows: &[u32], pos: &[u32], osp: &[u32], x: Prefix, place: Place) ->
     requires { ⌜ x .count ≤ columnCount ⌝ }
     ensures { λ r. ⌜ r ≡ upToEnd (tablesOf (now (rows .entry)) (now (pos .entry)) (now (osp .entry))) x (place .0) ⌝ }
 {
-    let first = tables::range_start(rows, pos, osp, x).0;
+    let first = ranges::range_start(rows, pos, osp, x).0;
     let at = place.0;
     if at < first {
         return false;
@@ -31,7 +31,7 @@ fn up_to_end(rows: &[u32], pos: &[u32], osp: &[u32], x: Prefix, place: Place) ->
     if at == first {
         return true;
     }
-    tables::in_range(rows, pos, osp, x, Place(at - 1))
+    ranges::in_range(rows, pos, osp, x, Place(at - 1))
 }
 
 // Whether each upper place of a cursor is in its range at a row that passes. The array then holds what they bind.

@@ -1,7 +1,7 @@
 -- A row's fields in the sequence of an order: how many they are, and which column each comes from.
 use Prim.Native.Nat.{ℕ, zero, suc, _<_}
 use native.Mathlib.Omega.{arith}
-use mathlib.Core.Path.{_≡_, refl, _∙_}
+use mathlib.Core.Path.{_≡_, refl, _∙_, ap}
 use mathlib.Core.List.{List, [], _∷_, map}
 use lib.ListN.{length, getD, length-map, List·getD-map}
 use Rattle.tables.specs.declared.Order.{Order}
@@ -30,3 +30,7 @@ field-at o rows row k h =
     let l = fields-length o rows row in
     default (map (fieldOf rows row) (columnsOf o)) 0 (fieldOf rows row 0) k (omega arith)
     ∙ List·getD-map (fieldOf rows row) (columnsOf o) k 0
+
+-- one of three words that is neither the first nor the second is the third
+pub third-part : (words : List ℕ) (at : ℕ) → at < 3 → (at ≡ 0 → ⊥) → (at ≡ 1 → ⊥) → getD words 2 0 ≡ getD words at 0
+third-part words at h n m = ap (λ k. getD words k 0) (let e : 2 ≡ at = omega arith in e)

@@ -2,8 +2,7 @@
 use Rattle.tables.specs.Ranges.{rangeStart, rangeEnd, inRange}
 use Rattle.tables.specs.Sides.{sideOf}
 use Rattle.tables.specs.Tables.{fieldsOf, lengthsRight, kindsRight, ascends, namesRows}
-use Rattle.tables.specs.Walk.{rightUpto, rightOrders}
 
 unfoldable pub computing : Unit {0}
-unfolding rangeStart rangeEnd inRange sideOf fieldsOf lengthsRight kindsRight ascends namesRows rightUpto rightOrders
+unfolding rangeStart rangeEnd inRange sideOf fieldsOf lengthsRight kindsRight ascends namesRows
 computing = tt

@@ -2,5 +2,4 @@ pub mod Tables
 pub mod Ranges
 pub mod Right
 pub mod Sides
-pub mod Walk
 pub mod Computing

@@ -39,7 +39,7 @@ pub const ACCEPTED: u32 = 0;
 pub fn check(rows: &[u32], pos: &[u32], osp: &[u32], plan: &[u32]) -> u32
     ensures { λ r. ⌜ r ≡ numberOf (firstFailing (tableTests (tablesOf (now (rows .entry)) (now (pos .entry)) (now (osp .entry))) ++ planTests (now (plan .entry)))) ⌝ }
 {
-    let number = tables::check(rows, pos, osp);
+    let number = table_tests::check(rows, pos, osp);
     if number != 0 {
         return number;
     }

@@ -1,6 +1,6 @@
 -- `tables::part` meets its contract: by the number, one of the three.
 use borrow.Author.Needs.{needs}
-use Rattle.tables.proofs.Walking.{third-part}
+use Rattle.tables.proofs.Columns.{third-part}
 use Rattle.tables.proofs.part.Statement.{statement}
 use Rattle.tables.proofs.part.Tie as tie
 

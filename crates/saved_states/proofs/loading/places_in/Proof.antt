@@ -1,7 +1,6 @@
--- `steps::places_in` meets its contract. The loop's invariant: the places of the levels before `level` are those of the words.
-use borrow.Author.Needs.{needs}
+-- `saved_states::places_in` meets its contract. The loop's invariant: the places of the levels before `level` are those of the words.
 use Prim.Native.Nat.{_+_, _-_, _≤_}
-use mathlib.Core.Path.{_≡_, refl, sym, ap, _∙_, subst}
+use mathlib.Core.Path.{_≡_, refl, _∙_, subst}
 use native.Mathlib.Omega.{arith}
 use lib.ListN.{length, length-set}
 use Rattle.steps.specs.Saved.{upperIn}

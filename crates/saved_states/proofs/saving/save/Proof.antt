@@ -1,7 +1,7 @@
--- `steps::save` meets its contract. The loop's invariant: the first word and the places of the levels before `i` are written.
+-- `saved_states::save` meets its contract. The loop's invariant: the first word and the places of the levels before `i` are written.
 use borrow.Author.Needs.{needs}
 use Prim.Native.Nat.{ℕ, _+_, _-_, _%_, _≤_, _<_, zero-le}
-use mathlib.Core.Path.{_≡_, refl, sym, ap, _∙_}
+use mathlib.Core.Path.{_≡_, refl, ap, _∙_}
 use native.Mathlib.Omega.{arith}
 use lib.ListN.{length, getD, set, length-set}
 use Rattle.words.specs.Words.{lowNumbers, placeWord}

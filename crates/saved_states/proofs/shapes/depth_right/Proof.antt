@@ -1,12 +1,8 @@
--- `steps::depth_right` meets its contract.
+-- `saved_states::depth_right` meets its contract.
 use borrow.Author.Needs.{needs}
-use Prim.Native.Nat.{_-_, _*_}
-use mathlib.Core.Path.{_≡_, sym, ap, _∙_}
+use Prim.Native.Nat.{_-_}
 use native.Mathlib.Omega.{arith}
-use lib.Dec.{ltb, leb}
-use lib.ListN.{length}
-use borrow.Author.Tests.{le-leb, lt-leb}
-use Rattle.plans.specs.Branches.{patternWidth}
+use borrow.Author.Tests.{le-leb}
 use Rattle.saved_states.proofs.shapes.depth_right.Statement.{statement}
 use Rattle.saved_states.proofs.shapes.depth_right.Tie as tie
 

@@ -1,7 +1,6 @@
--- `steps::position_right` meets its contract.
+-- `saved_states::position_right` meets its contract.
 use borrow.Author.Needs.{needs}
-use mathlib.Core.Path.{_≡_, sym, ap, ap₂, _∙_}
-use mathlib.Core.List.{List}
+use mathlib.Core.Path.{sym, ap, ap₂, _∙_}
 use native.Mathlib.Omega.{arith}
 use Rattle.plans.specs.Branches.{Branch, noBranch}
 use Rattle.plans.specs.Plans.{Plan, planOf, branchAt}

@@ -1,6 +1,6 @@
--- `steps::last_right` meets its contract.
+-- `saved_states::last_right` meets its contract.
 use borrow.Author.Needs.{needs}
-use mathlib.Core.Path.{_≡_, sym, ap, _∙_}
+use mathlib.Core.Path.{sym, ap, _∙_}
 use Rattle.tables.specs.declared.Prefix.{Prefix}
 use Rattle.tables.specs.Tables.{tablesOf}
 use Rattle.levels.proofs.LevelFields.{level-prefix}

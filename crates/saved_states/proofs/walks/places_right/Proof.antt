@@ -1,6 +1,6 @@
--- `steps::places_right` meets its contract.
+-- `saved_states::places_right` meets its contract.
 use borrow.Author.Needs.{needs}
-use mathlib.Core.Path.{_≡_, refl, sym, _∙_}
+use mathlib.Core.Path.{refl, sym, _∙_}
 use Rattle.words.proofs.Booleans.{absurd-true}
 use Rattle.tables.specs.Tables.{Tables, tablesOf}
 use Rattle.saved_states.proofs.WalkedLevels.{upper-fails, upper-passes}

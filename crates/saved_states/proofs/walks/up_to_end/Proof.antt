@@ -1,7 +1,7 @@
--- `steps::up_to_end` meets its contract: past the first place of the range, the place before is in it.
+-- `saved_states::up_to_end` meets its contract: past the first place of the range, the place before is in it.
 use borrow.Author.Needs.{needs}
 use Prim.Native.Nat.{_-_}
-use mathlib.Core.Path.{_≡_, sym, ap, _∙_}
+use mathlib.Core.Path.{sym, _∙_}
 use native.Mathlib.Omega.{arith}
 use Rattle.tables.specs.Tables.{Tables, tablesOf}
 use Rattle.saved_states.proofs.Restoring.{before-start, at-start, past-start}

@@ -1,7 +1,6 @@
--- `steps::upper_right` meets its contract. The loop's invariant: the levels before `level` are right, and the array holds what they bind.
-use borrow.Author.Needs.{needs}
+-- `saved_states::upper_right` meets its contract. The loop's invariant: the levels before `level` are right, and the array holds what they bind.
 use Prim.Native.Nat.{_+_, _-_, _≤_, zero-le}
-use mathlib.Core.Path.{_≡_, refl, sym, ap, _∙_, subst}
+use mathlib.Core.Path.{_≡_, refl, sym, _∙_, subst}
 use native.Mathlib.Omega.{arith}
 use borrow.Author.Tests.{not-true, not-false}
 use Rattle.words.proofs.Booleans.{absurd-true}

@@ -1,0 +1,3 @@
+pub mod RowKinds
+pub mod Walking
+pub mod Refusing
