@@ -1,16 +1,19 @@
 #!/usr/bin/env -S python3 -B
-"""What the turn printer prints for a file of words, by the evaluation.
+"""What the turn printer prints for files of words, by the evaluation, or by the engine's calls from a library.
 
-    tests/second_engine/printed.py FILE            print it
-    tests/second_engine/printed.py --write FILES   write it beside each file: NAME.expected for NAME.words
-    tests/second_engine/printed.py --check FILES   compare it with what stands there; the exit code is 1 if any differs
+    tests/second_engine/printed.py FILE             print it
+    tests/second_engine/printed.py --write FILES    write it beside each file: NAME.expected for NAME.words
+    tests/second_engine/printed.py --check FILES    compare it with what stands there; the exit code is 1 if any differs
 
 The printer opens the query and runs turns until one is done or a call is refused. Rows are printed as they come; a best-of list
 or groups are merged turn by turn and printed at the end.
 """
+import argparse
 import struct
 import sys
+import tempfile
 
+from engine import Engine
 from evaluation import DONE, REFUSED, Evaluation, LEAST_STATE_WORDS
 from inputs import Tables, in_parts, split_record
 from plan_reader import read_plan, width
@@ -41,27 +44,26 @@ def list_lines(plan, words):
     return [row_line(row) for row in in_parts(plan, words)]
 
 
-def lines(data):
-    """What is printed for the bytes of a file."""
+def lines(calls, data):
+    """What is printed for the bytes of a file, where these are the calls."""
     parts = parts_of(data)
     if parts is None:
         return ['refused 1']
     tables, quantum, words = parts
-    right = Evaluation()
-    opened, state = right.open(tables, words, (0,) * LEAST_STATE_WORDS)
+    opened, state = calls.open(tables, words, (0,) * LEAST_STATE_WORDS)
     if opened.refused:
         return [f'refused {opened.refused}']
-    return list(turns(right, tables, quantum, words, state, opened.words))
+    return list(turns(calls, tables, quantum, words, state, opened.words))
 
 
-def turns(right, tables, quantum, words, state, given):
+def turns(calls, tables, quantum, words, state, given):
     """The lines of all turns of an opened query, and of its merged list."""
     plan = read_plan(words)
     output, kept, kept_words = (0,) * (OUTPUT_RECORDS * width(plan)), (0,) * KEPT_WORDS, 0
     ending, number = None, 0
     while ending != DONE:
         number += 1
-        turned, state, output = right.turn(tables, words, state, given, quantum, (), output)
+        turned, state, output = calls.turn(tables, words, state, given, quantum, (), output)
         ending, given = turned.ending, turned.state_words
         if ending == REFUSED:
             yield f'refused {turned.refused}'
@@ -71,7 +73,7 @@ def turns(right, tables, quantum, words, state, given):
         if plan.kind == ROWS:
             yield from list_lines(plan, made)
             continue
-        merged, kept = right.merge(words, kept, kept_words, made)
+        merged, kept = calls.merge(words, kept, kept_words, made)
         if merged.refused:
             yield f'refused {merged.refused}'
             return
@@ -79,44 +81,53 @@ def turns(right, tables, quantum, words, state, given):
     yield from list_lines(plan, kept[:kept_words])
 
 
-def printed(path):
+def printed(calls, path):
     with open(path, 'rb') as file:
-        return ''.join(line + '\n' for line in lines(file.read()))
+        return ''.join(line + '\n' for line in lines(calls, file.read()))
 
 
 def expected_path(path):
     return path.removesuffix('.words') + '.expected'
 
 
-def write(paths):
+def write(calls, paths):
     for path in paths:
         with open(expected_path(path), 'w', encoding='utf-8') as file:
-            file.write(printed(path))
+            file.write(printed(calls, path))
     return 0
 
 
-def check(paths):
-    differ = 0
+def check(calls, paths):
+    differing = []
     for path in paths:
         with open(expected_path(path), encoding='utf-8') as file:
-            if file.read() != printed(path):
-                print(f'{expected_path(path)} differs')
-                differ += 1
-    print(f'{len(paths)} files, {differ} differ')
-    return 1 if differ else 0
+            if file.read() != printed(calls, path):
+                differing.append(path)
+    for path in differing:
+        print(f'{expected_path(path)} differs')
+    print(f'{len(paths)} files, {len(differing)} differ')
+    return 1 if differing else 0
 
 
-def main(arguments):
-    if arguments[:1] == ['--write']:
-        return write(arguments[1:])
-    if arguments[:1] == ['--check']:
-        return check(arguments[1:])
-    if len(arguments) != 1 or arguments[0].startswith('-'):
-        print(__doc__.strip(), file=sys.stdout if arguments in (['--help'], ['-h']) else sys.stderr)
-        return 0 if arguments in (['--help'], ['-h']) else 2
-    sys.stdout.write(printed(arguments[0]))
+def show(calls, paths):
+    for path in paths:
+        sys.stdout.write(printed(calls, path))
     return 0
+
+
+def main():
+    parser = argparse.ArgumentParser(description=__doc__, formatter_class=argparse.RawDescriptionHelpFormatter)
+    parser.add_argument('files', nargs='+', metavar='FILE', help="a file in the turn printer's words")
+    how = parser.add_mutually_exclusive_group()
+    how.add_argument('--write', dest='how', action='store_const', const=write, help='write NAME.expected')
+    how.add_argument('--check', dest='how', action='store_const', const=check, help='compare with NAME.expected')
+    parser.add_argument('--engine', help="library with the engine's calls: shared, or static and linked here")
+    parser.set_defaults(how=show)
+    options = parser.parse_args()
+    with tempfile.TemporaryDirectory() as folder:
+        calls = Engine(options.engine, folder) if options.engine else Evaluation()
+        return options.how(calls, options.files)
 
 
 if __name__ == '__main__':
-    sys.exit(main(sys.argv[1:]))
+    sys.exit(main())
