@@ -1,0 +1,224 @@
+-- A query under way, and one turn more whose list is taken: it is under way again, it is over, or it is stopped and nothing is taken.
+use Prim.Native.Nat.{ℕ, _+_, _-_, _≤_, _<_}
+use native.Mathlib.Omega.{arith}
+use mathlib.Core.Path.{_≡_, refl, sym, _∙_, ap, ap₂, subst, subst⁻¹}
+use mathlib.Core.Bool.{Bool, true, false}
+use mathlib.Core.Option.{Option, none, some}
+use mathlib.Core.List.{List, [], _∷_, _++_, append-assoc, append-nil}
+use lib.ListN.{length, take, drop, length-append, take-append-drop}
+use Rattle.words.specs.Bindings.{Bindings}
+use Rattle.words.specs.Sequences.{all, over}
+use Rattle.words.proofs.Booleans.{absurd-true, and-right}
+use Rattle.words.proofs.Buffers.{take-over, length-over}
+use Rattle.tables.specs.Tables.{Tables}
+use Rattle.plans.specs.Branches.{branchRight, binds}
+use Rattle.plans.specs.Endings.{Ending, rows, endingRight}
+use Rattle.plans.specs.Plans.{Plan, planOf}
+use Rattle.steps.specs.Steps.{State, after}
+use Rattle.steps.specs.Saved.{stateWords, savedWords, leastStateWords}
+use Rattle.lists.specs.Gathering.{gathered, thresholdRight}
+use Rattle.lists.specs.Thresholds.{absent}
+use Rattle.turns.specs.declared.TurnEnding.{TurnEnding}
+use Rattle.turns.specs.declared.TurnEnding.the-variants as ending
+use Rattle.turns.specs.Turns.{TurnInput, TurnResult, turnOf}
+use Rattle.turns.proofs.Refusals as refusals
+use Rattle.turns.proofs.Follows.{follows}
+use Rattle.turns.proofs.OnTheRun.{keeps-lengths}
+use Rattle.turns.proofs.Growing.{Grows, grows}
+use Rattle.turns.proofs.UnderWay.{over-over}
+use Rattle.cuts.specs.Histories.{Event, turns, Held, Served, servedIn, stepsIn, doneIn, isDone, turnInputOf, servedOf, afterServed, afterTurn, afterTaking, happens, history}
+use Rattle.cuts.specs.Premises.{Asked, Premises}
+use Rattle.cuts.specs.Uncut.{AsUncut, runList}
+use Rattle.cuts.proofs.Accepting.{Accepted, accepted-form}
+use Rattle.cuts.proofs.Chains.{steps-more, done-more, Piece}
+use Rattle.cuts.proofs.Turning.{Kept}
+use Rattle.cuts.proofs.Taking.{next-piece}
+use Rattle.cuts.proofs.AnyCut.{history-keeps, as-uncut}
+use Rattle.cuts.proofs.States.{Passed}
+use Rattle.queries.specs.Stepping.{isServed, listOf}
+use Rattle.queries.specs.Playing.{UnderWay}
+use Rattle.queries.proofs.Taking.{is-served}
+
+-- ---- one call more
+module _ (t : Tables) (plan : List ℕ) where
+  pub history-more : (es : List Event) (h : Held) (e : Event) → history t plan h (es ++ (e ∷ [])) ≡ happens t plan (history t plan h es) e
+  unfolding history
+  history-more [] h e = refl
+  history-more (x ∷ es) h e = history-more es (happens t plan h x) e
+
+  pub premises-more : (es : List Event) (h : Held) (e : Event) → Premises t plan h es → Asked t plan (history t plan h es) e
+      → Premises t plan h (es ++ (e ∷ []))
+  unfolding history
+  premises-more [] h e p a = (a, tt)
+  premises-more (x ∷ es) h e p a = (p .0, premises-more es (happens t plan h x) e (p .1) a)
+
+-- ---- more rows make no shorter list
+pub longer-by : (e : Ending) → Grows e [] → (bs cs : List Bindings) → length (gathered e [] bs) ≤ length (gathered e [] (bs ++ cs))
+longer-by e g bs [] = omega (arith, ap (λ l. length (gathered e [] l)) (append-nil bs))
+longer-by e g bs (c ∷ cs) =
+    omega (arith, g .longer bs c, longer-by e g (bs ++ (c ∷ [])) cs, ap (λ l. length (gathered e [] l)) (append-assoc bs (c ∷ []) cs))
+
+-- a served turn leaves what its result says
+served-after : (h : Held) (quantum : ℕ) (r : TurnResult) (e : TurnEnding) → isServed e ≡ true → afterTurn h quantum r e ≡ afterServed h quantum r
+served-after h quantum r ending.Done f = refl
+served-after h quantum r ending.Spent f = refl
+served-after h quantum r ending.Full f = refl
+served-after h quantum r (ending.Refused x) f = absurd-true f refl
+
+-- no words are no state's
+some-words : (o : Option State) → ¬ (savedWords o ≡ []) → (s : State) × (o ≡ some s)
+some-words none f = absurd (f refl)
+some-words (some s) f = (s, refl)
+
+not-true : (b : Bool) → ¬ (b ≡ true) → b ≡ false
+not-true true f = absurd (f refl)
+not-true false f = refl
+
+pub no-elements : {A : Type 0} (xs : List A) → length xs ≡ 0 → xs ≡ []
+no-elements [] e = refl
+no-elements (x ∷ xs) e = absurd (omega arith)
+
+module _ (t : Tables) (plan : List ℕ) (a : Accepted t plan) (first : Held) (k : Kept t (planOf plan) first) (before : List ℕ) where
+  abbrev q : Plan
+  q = planOf plan
+
+  list-grows : Grows (q .ending) []
+  unfolding thresholdRight
+  list-grows =
+      grows (binds (q .branches)) (q .ending) [] (accepted-form t plan a .ending)
+      (and-right (all branchRight (q .branches)) (endingRight (binds (q .branches)) (q .ending)) (a .variables)) refl
+
+  module _ (count : ℕ) (state : List ℕ) (saved : ℕ) (kept : List ℕ) (used : ℕ) (u : UnderWay t plan first before count state saved kept used) where
+    abbrev h : Held
+    h = u .held
+
+    pub held-keeps : Kept t q h
+    held-keeps = subst (Kept t q) (u .reached) (history-keeps t plan a (u .events) first k (u .premises))
+
+    pub held-uncut : AsUncut t q h
+    held-uncut = as-uncut t plan a h held-keeps
+
+    -- every list is taken
+    pub all-taken : servedIn h ≡ h .taken
+    all-taken = ap (λ l. h .taken ++ l) (u .taken) ∙ append-nil (h .taken)
+
+    pub kept-front : take used kept ≡ h .kept
+    kept-front = ap₂ take (u .words) (u .list) ∙ take-over (h .kept) before
+
+    pub kept-whole : h .kept ++ drop used kept ≡ kept
+    kept-whole = ap (λ l. l ++ drop used kept) (sym kept-front) ∙ take-append-drop used kept
+
+    pub kept-length : length kept ≡ length before
+    kept-length = ap length (u .list) ∙ length-over (h .kept) before (omega (arith, u .words, u .room))
+
+    module _ (quantum : ℕ) (output : List ℕ) where
+      abbrev i : TurnInput
+      i = record { tables = t; plan = plan; state = state; given = saved; quantum = quantum; threshold = []; output = output }
+
+      abbrev call : Event
+      call = turns (drop saved state) quantum [] output
+
+      same-input : turnInputOf t plan h (drop saved state) quantum [] output ≡ i
+      same-input =
+          ap₂ (λ s g. record { tables = t; plan = plan; state = s; given = g; quantum = quantum; threshold = []; output = output })
+          (ap (λ l. l ++ drop saved state) (sym (u .state-words)) ∙ take-append-drop saved state) (sym (u .state-count))
+
+      -- the turn is given a state that the uncut run passes through
+      pub given-passed : ¬ (saved ≡ 0) → Passed i
+      given-passed f =
+          let n = stepsIn (servedIn h) in
+          let s = some-words (after t q n .state) (λ e. f (u .state-count ∙ ap length (held-keeps .saved ∙ e))) in
+          record {
+            there = there;
+            steps = n;
+            state = s .0;
+            passes = s .1;
+            words = u .state-words ∙ held-keeps .saved ∙ ap savedWords (s .1);
+          }
+        where
+          there : saved ≤ length state
+          there =
+              let e = ap length (ap (λ l. l ++ drop saved state) (sym (u .state-words)) ∙ take-append-drop saved state) in
+              omega (arith, e, length-append (h .saved) (drop saved state), u .state-count)
+
+      module _ (served : isServed (turnOf i .answer .ending) ≡ true) where
+        abbrev x : Served
+        x = servedOf quantum (turnOf i)
+
+        abbrev turned : Held
+        turned = afterServed h quantum (turnOf i)
+
+        turn-made : happens t plan h call ≡ turned
+        unfolding happens
+        turn-made =
+            ap (λ j. afterTurn h quantum (turnOf j) (turnOf j .answer .ending)) same-input
+            ∙ served-after h quantum (turnOf i) (turnOf i .answer .ending) served
+
+        pub one-waits : turned .waiting ≡ x ∷ []
+        one-waits = ap (λ l. l ++ (x ∷ [])) (u .taken)
+
+        abbrev calls : List Event
+        calls = u .events ++ (call ∷ [])
+
+        calls-reach : history t plan first calls ≡ turned
+        calls-reach = history-more t plan (u .events) first call ∙ ap (λ z. happens t plan z call) (u .reached) ∙ turn-made
+
+        calls-premises : Premises t plan first calls
+        calls-premises = premises-more t plan (u .events) first call (u .premises) (λ _. absent)
+
+        pub turned-keeps : Kept t q turned
+        turned-keeps = subst (Kept t q) calls-reach (history-keeps t plan a calls first k calls-premises)
+
+        piece : Piece t q (stepsIn (h .taken)) x
+        piece = next-piece t plan a turned turned-keeps x [] one-waits
+
+        -- the list of that turn is taken by one call more
+        module _ (e : Event) (asked : Asked t plan turned e) (list : List ℕ) (taken : happens t plan turned e ≡ afterTaking turned x [] list) where
+          abbrev now : Held
+          now = afterTaking turned x [] list
+
+          more-reach : history t plan first (calls ++ (e ∷ [])) ≡ now
+          more-reach = history-more t plan calls first e ∙ ap (λ z. happens t plan z e) calls-reach ∙ taken
+
+          more-premises : Premises t plan first (calls ++ (e ∷ []))
+          more-premises = premises-more t plan calls first e calls-premises (subst⁻¹ (λ z. Asked t plan z e) calls-reach asked)
+
+          now-keeps : Kept t q now
+          now-keeps = subst (Kept t q) more-reach (history-keeps t plan a (calls ++ (e ∷ [])) first k more-premises)
+
+          pub no-shorter : length (h .kept) ≤ length list
+          no-shorter =
+              let n = stepsIn (h .taken) in
+              let new : list ≡ gathered (q .ending) [] (after t q n .delivered ++ piece .rows) =
+              now-keeps .list ∙ ap (λ d. runList (q .ending) (after t q d)) (steps-more (h .taken) x) ∙ ap (gathered (q .ending) []) (piece .more) in
+              omega (arith, ap length new, ap length (held-keeps .list), longer-by (q .ending) list-grows (after t q n .delivered) (piece .rows))
+
+          module _ (new : List ℕ) (words : ℕ) (whole : new ≡ over list kept) (counted : words ≡ length list) (room : words ≤ length kept) where
+            -- done was answered exactly by a turn that was done
+            done-then : ¬ (saved ≡ 0) → doneIn (servedIn now) ≡ isDone (turnOf i .answer .ending)
+            done-then f =
+                let going : doneIn (servedIn h) ≡ false = not-true (doneIn (servedIn h)) (λ d.
+                f (u .state-count ∙ ap length (held-uncut .end .1 (held-uncut .done .0 d)))) in
+                ap doneIn (append-nil (h .taken ++ (x ∷ [])))
+                ∙ done-more (h .taken) x (ap doneIn (sym all-taken) ∙ going)
+
+            pub goes-on : ¬ (saved ≡ 0) → (v : UnderWay t plan first before (count + 1) (turnOf i .state) (turnOf i .answer .saved) new words)
+                × (doneIn (servedIn (v .held)) ≡ isDone (turnOf i .answer .ending))
+            goes-on f =
+                let s = follows i (is-served i served) in (
+                  record {
+                    events = calls ++ (e ∷ []);
+                    premises = more-premises;
+                    held = now;
+                    reached = more-reach;
+                    taken = refl;
+                    turns = length-append (h .taken) (x ∷ []) ∙ ap (λ n. n + 1) (u .turns);
+                    state-words = refl;
+                    state-count = s .state .counted ∙ ap length (sym (s .state .front));
+                    state-room = omega (arith, keeps-lengths i (is-served i served) .state, u .state-room);
+                    list = whole ∙ over-over list (h .kept) before kept no-shorter (u .list);
+                    words = counted;
+                    room = omega (arith, kept-length, room);
+                  },
+                  done-then f,
+                )

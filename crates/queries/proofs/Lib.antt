@@ -1,0 +1,5 @@
+pub mod Taking
+pub mod Refusing
+pub mod Advancing
+pub mod Leaving
+pub mod Starting

@@ -1,0 +1,82 @@
+-- A turn that goes on a query is refused for its output or its quantum alone, and a list for its totals or its room.
+use Prim.Native.Nat.{ℕ, _+_, _≤_, _<_}
+use native.Mathlib.Omega.{arith}
+use mathlib.Core.Path.{_≡_, refl, sym, _∙_, ap, subst}
+use mathlib.Core.Logic.{_⊎_, inl, inr}
+use mathlib.Core.Bool.{Bool, true, false, cond, _&&_}
+use mathlib.Core.Option.{Option, none, some}
+use mathlib.Core.List.{List, [], _∷_, _++_}
+use lib.Dec.{leb}
+use lib.ListN.{length, take}
+use borrow.Author.Tests.{leb-false, le-leb}
+use Rattle.words.specs.Tests.{firstFailing}
+use Rattle.words.proofs.Booleans.{absurd-true, and-left, and-right, and-both}
+use Rattle.words.proofs.Testing.{none-some, some-injective, fails-first, all-passes, first-append, orElse}
+use Rattle.tables.specs.Tables.{Tables, tableTests}
+use Rattle.plans.specs.Endings.{Ending}
+use Rattle.plans.specs.Plans.{planOf, hasForm, readPlan, planTests}
+use Rattle.steps.specs.Saved.{leastStateWords, shapeRight, placesRight}
+use Rattle.lists.specs.Gathering.{leastOutput, thresholdRight}
+use Rattle.turns.specs.declared.TurnEnding.the-variants.{Refused}
+use Rattle.turns.specs.Turns.{TurnInput, givenState, givenPlan, stateTests, turnTests, mostSteps, turnOf}
+use Rattle.turns.proofs.Refusals.{turn-refusals}
+use Rattle.cuts.proofs.Accepting.{Accepted}
+use Rattle.cuts.proofs.States.{Passed, accepted-when-passed}
+use Rattle.queries.specs.Playing.{Cause, output-short, quantum-wrong}
+
+-- where the tests on the state and the threshold pass, 7 or 8 fails first
+seven-or-eight : (a b c d e : Bool) (y : ℕ) → c ≡ true → d ≡ true → e ≡ true
+    → cond a (cond b (cond c (cond d (cond e none (some 11)) (some 10)) (some 9)) (some 8)) (some 7) ≡ some y
+    → ((y ≡ 7) × (a ≡ false)) ⊎ ((y ≡ 8) × (b ≡ false))
+seven-or-eight true true true true true y p q r h = absurd (none-some h)
+seven-or-eight true true true true false y p q r h = absurd-true r refl
+seven-or-eight true true true false e y p q r h = absurd-true q refl
+seven-or-eight true true false d e y p q r h = absurd-true p refl
+seven-or-eight true false c d e y p q r h = inr (sym (some-injective h), refl)
+seven-or-eight false b c d e y p q r h = inl (sym (some-injective h), refl)
+
+-- the second of two tests fails where the first passes
+second-fails : (a b : Bool) → a ≡ true → a && b ≡ false → b ≡ false
+second-fails true b p h = h
+second-fails false b p h = absurd-true p refl
+
+empty-right : (e : Ending) → thresholdRight e [] ≡ true
+unfolding thresholdRight
+empty-right e = refl
+
+-- a turn with no threshold, from a state that the uncut run passes through, with room for a state
+pub turn-stopped : (i : TurnInput) → Accepted (i .tables) (i .plan) → Passed i → leastStateWords ≤ length (i .state) → i .threshold ≡ []
+    → (y : ℕ) → turnOf i .answer .ending ≡ Refused y → Cause (givenPlan i .ending) (i .quantum) (length (i .output)) y
+unfolding firstFailing
+turn-stopped i a p room none-sent y e =
+    elim (seven-or-eight (leb leastStateWords (length (i .state)) && leb (leastOutput (givenPlan i .ending)) (length (i .output)))
+    (leb 1 (i .quantum) && leb (i .quantum) mostSteps)
+    (leb (i .given) (length (i .state)) && shapeRight (givenPlan i) (givenState i))
+    (placesRight (i .tables) (givenPlan i) (givenState i)) (thresholdRight (givenPlan i .ending) (i .threshold)) y
+    (accepted-when-passed i a .1 p .0) (accepted-when-passed i a .1 p .1)
+    (ap (thresholdRight (givenPlan i .ending)) none-sent ∙ empty-right (givenPlan i .ending)) late) [
+      | inl x ↦ short (x .0) (x .1)
+      | inr x ↦ wrong (x .0) (x .1)
+    ]
+  where
+    early : firstFailing (planTests (i .plan)) ≡ none
+    early = all-passes (planTests (i .plan)) (ap hasForm (a .read), (a .variables, tt))
+
+    late : firstFailing (stateTests i) ≡ some y
+    late =
+        sym (ap (λ o. orElse o (firstFailing (stateTests i))) early)
+        ∙ sym (first-append (planTests (i .plan)) (stateTests i))
+        ∙ sym (ap (λ o. orElse o (firstFailing (planTests (i .plan) ++ stateTests i))) (a .tables))
+        ∙ sym (first-append (tableTests (i .tables)) (planTests (i .plan) ++ stateTests i))
+        ∙ fails-first y (turnTests i) (turn-refusals i .number y .0 e)
+
+    short : y ≡ 7 → leb leastStateWords (length (i .state)) && leb (leastOutput (givenPlan i .ending)) (length (i .output)) ≡ false
+        → Cause (givenPlan i .ending) (i .quantum) (length (i .output)) y
+    short f h =
+        let o = second-fails _ _ (le-leb leastStateWords (length (i .state)) room) h in
+        subst (Cause (givenPlan i .ending) (i .quantum) (length (i .output))) (sym f) (output-short (leb-false (leastOutput (givenPlan i .ending)) (length (i .output)) o))
+
+    wrong : y ≡ 8 → leb 1 (i .quantum) && leb (i .quantum) mostSteps ≡ false → Cause (givenPlan i .ending) (i .quantum) (length (i .output)) y
+    wrong f h =
+        subst (Cause (givenPlan i .ending) (i .quantum) (length (i .output))) (sym f)
+        (quantum-wrong (λ b. absurd-true (and-both _ _ (le-leb 1 (i .quantum) (b .0)) (le-leb (i .quantum) mostSteps (b .1))) h))

@@ -1,0 +1,82 @@
+-- The start of a query: what a served opening leaves is under way, with no turn made and no list taken.
+use Prim.Native.Nat.{ℕ, _≤_}
+use native.Mathlib.Omega.{arith}
+use mathlib.Core.Path.{_≡_, refl, sym, _∙_, ap, ap₂, subst⁻¹}
+use mathlib.Core.Logic.{inr}
+use mathlib.Core.List.{List, []}
+use lib.ListN.{length, take}
+use borrow.Author.Tests.{leb-true}
+use Rattle.words.specs.declared.Written.{Written}
+use Rattle.words.specs.declared.Written.the-variants as written
+use Rattle.words.specs.Answers.{wordsIn}
+use Rattle.words.proofs.Buffers.{length-over}
+use Rattle.tables.specs.Tables.{Tables}
+use Rattle.plans.specs.Plans.{planOf}
+use Rattle.steps.specs.Steps.{after}
+use Rattle.steps.specs.Saved.{savedWords, leastStateWords}
+use Rattle.turns.specs.Opening.{openOf}
+use Rattle.turns.proofs.Refusals.{open-refusals}
+use Rattle.turns.proofs.Follows.{starts-run}
+use Rattle.cuts.specs.Histories.{Held, doneIn, history, fresh}
+use Rattle.cuts.proofs.Accepting.{Accepted, opening-accepts}
+use Rattle.cuts.proofs.Turning.{Kept}
+use Rattle.cuts.proofs.AnyCut.{fresh-keeps}
+use Rattle.queries.specs.declared.Played.{Played}
+use Rattle.queries.specs.declared.Played.the-variants.{Finished, Unfinished, Refused}
+use Rattle.queries.specs.Playing.{Leaves, Lent, NotOpened, Opens, Plays, startAt, Started, UnderWay}
+use Rattle.queries.proofs.Leaving.{not-over}
+
+module _ (t : Tables) (plan state : List ℕ) (saved : ℕ) (s : Started t plan state saved) where
+  pub start-accepts : Accepted t plan
+  start-accepts = opening-accepts t plan (s .lent) (s .opens)
+
+  same-start : startAt state saved ≡ fresh (openOf t plan (s .lent))
+  same-start = ap₂ startAt (s .left) (s .counted)
+
+  pub start-keeps : Kept t (planOf plan) (startAt state saved)
+  start-keeps = subst⁻¹ (Kept t (planOf plan)) same-start (fresh-keeps t plan start-accepts (s .lent) (s .opens))
+
+  pub starts : (kept : List ℕ) → UnderWay t plan (startAt state saved) kept 0 state saved kept 0
+  unfolding history
+  starts kept =
+      let r = starts-run t plan (s .lent) (s .opens) in
+      let l = leb-true leastStateWords (length (s .lent)) (open-refusals t plan (s .lent) .serves .0 (s .opens) .1 .1 .1 .1 .1 .1 .0) in
+      let n = length-over (savedWords (after t (planOf plan) 0 .state)) (s .lent) (omega (arith, r .room, r .buffer .counted)) in
+      record {
+        events = [];
+        premises = tt;
+        held = startAt state saved;
+        reached = refl;
+        taken = refl;
+        turns = refl;
+        state-words = refl;
+        state-count = s .counted ∙ r .buffer .counted ∙ ap length (sym (r .buffer .front)) ∙ sym (ap₂ (λ n l. length (take n l)) (s .counted) (s .left));
+        state-room = omega (arith, l, n, ap length (r .buffer .whole), ap length (s .left));
+        list = refl;
+        words = refl;
+        room = omega arith;
+      }
+
+  pub start-alive : (kept : List ℕ) → ¬ (saved ≡ 0)
+  unfolding doneIn starts
+  start-alive kept = not-over t plan start-accepts (startAt state saved) start-keeps kept 0 state saved kept 0 (starts kept) refl
+
+-- ---- from the calls' answers
+module _ (t : Tables) (plan lent : List ℕ) (r : Written) (answer : r ≡ openOf t plan lent .answer) where
+  pub opens : (n : ℕ) → r ≡ written.Words n → Opens t plan lent
+  opens n e x f = let z : _≡_ {A = ℕ} 0 1 = cc in omega arith
+
+  pub started : (state : List ℕ) → state ≡ openOf t plan lent .state → (n : ℕ) → r ≡ written.Words n → Started t plan state n
+  started state left n e = record { lent = lent; opens = opens n e; left = left; counted = ap wordsIn (sym e ∙ answer) }
+
+  pub not-opened : (state output kept : List ℕ) → state ≡ openOf t plan lent .state → (x : ℕ) → r ≡ written.Refused x
+      → NotOpened t plan (record { state = lent; output = output; kept = kept }) (record { state = state; output = output; kept = kept }) x
+  not-opened state output kept left x e =
+      let f = sym answer ∙ e in
+      record { refused = f; unchanged = ap (λ l. record { state = l; output = output; kept = kept }) (left ∙ open-refusals t plan lent .unchanged x f .buffer) }
+
+pub plays : (t : Tables) (plan : List ℕ) (quantum most : ℕ) (before after : Lent) → Opens t plan (before .state) → (r : Played)
+    → Leaves t plan quantum most (length (before .output)) (before .kept) (after .state) (after .kept) r → Plays t plan quantum most before after r
+plays t plan quantum most before after o (Finished n) p = (o, p)
+plays t plan quantum most before after o (Unfinished saved n) p = (o, p)
+plays t plan quantum most before after o (Refused x) p = inr (o, p)

@@ -1,0 +1,155 @@
+-- `go_on` meets its contract: after each turn the query is under way as the uncut run, until it is over or stopped.
+use borrow.Author.Needs.{needs}
+use Prim.Native.Nat.{ℕ, _-_, _≤_}
+use native.Mathlib.Omega.{arith}
+use mathlib.Core.Path.{_≡_, refl, sym, _∙_, subst}
+use lib.ListN.{length}
+use Rattle.tables.specs.Tables.{tablesOf}
+use Rattle.plans.specs.Plans.{planOf}
+use Rattle.queries.specs.declared.Went.{Went}
+use Rattle.queries.specs.Playing.{Cause, Pauses, startAt, UnderWay}
+use Rattle.queries.proofs.Leaving.{Becomes, becomes, pauses, stops}
+use Rattle.queries.proofs.Starting.{start-accepts, start-keeps, starts, start-alive}
+use Rattle.queries.proofs.playing.go_on.Statement.{statement}
+use Rattle.queries.proofs.playing.go_on.Tie as tie
+
+abbrev Inv-loop : tie.InvT-loop
+Inv-loop rows pos osp plan quantum most state₀ opened output₀ kept₀ saved₀ used₀ n₀ state output kept saved used n =
+    (n ≤ most) × (length state ≡ length state₀) × (length output ≡ length output₀) × (length kept ≡ length kept₀)
+    × UnderWay (tablesOf rows pos osp) plan (startAt state₀ opened) kept₀ n state saved kept used × ¬ (saved ≡ 0)
+
+abbrev μ-loop : tie.MeasureT-loop
+μ-loop rows pos osp plan quantum most state₀ opened output₀ kept₀ saved₀ used₀ n₀ state output kept saved used n = most - n
+
+loop-holds : tie.Need-loop-holds Inv-loop μ-loop
+loop-holds c =
+    let s = c .before .before .before .before .before .before .before in
+    let t = tablesOf (s .args .rows .now) (s .args .pos .now) (s .args .osp .now) in
+    let p = s .args .plan .now in
+    let st = s .args .state .now in
+    let k = s .args .kept .now in
+    (omega arith, refl, refl, refl, starts t p st (s .args .opened) (s .pre) k, start-alive t p st (s .args .opened) (s .pre) k)
+
+advance-requires : tie.Need-advance-requires Inv-loop μ-loop
+advance-requires c κs =
+    let v = c .before .before .before .before .loop .inv in
+    omega (arith, v .3, v .4 .room)
+
+enum-known-went : tie.Need-enum-known-went Inv-loop μ-loop
+enum-known-went c = search needs
+
+add-n : tie.Need-add-n Inv-loop μ-loop
+add-n c = omega arith
+
+loop-less : tie.Need-loop-less Inv-loop μ-loop
+loop-less c = omega arith
+
+loop-again : tie.Need-loop-again Inv-loop μ-loop
+loop-again c =
+    let d = c .before .before .before .before .before .before .before .before .before in
+    let l = d .before .before .before .before .before in
+    let s = l .before .before .before .before .before .before .before .before in
+    let t = tablesOf (s .args .rows .now) (s .args .pos .now) (s .args .osp .now) in
+    let p = s .args .plan .now in
+    let st = s .args .state .now in
+    let o = s .args .opened in
+    let v = l .loop .inv in
+    let b = subst (λ w. Becomes t p (start-accepts t p st o (s .pre)) (startAt st o) (start-keeps t p st o (s .pre)) (s .args .kept .now) (l .loop .n) (l .loop .state) (l .loop .saved) (l .loop .kept) (l .loop .used) (v .4) (v .5) (s .args .quantum) (l .loop .output) (d .advance .last .1 .1 .1 .1 .0) (d .advance .last .1 .1 .1 .1 .1 .1 .1 .1 .0) w) (c .before .went .given .1) (becomes t p (start-accepts t p st o (s .pre)) (startAt st o) (start-keeps t p st o (s .pre)) (s .args .kept .now) (l .loop .n) (l .loop .state) (l .loop .saved) (l .loop .kept) (l .loop .used) (v .4) (v .5) (s .args .quantum) (l .loop .output) _ _ (d .advance .result) (d .advance .ensures)) in
+    (omega arith, c .before .before .before .before .before .before .before .before .state .given ∙ v .1, c .before .before .before .before .before .before .output .given ∙ v .2, c .before .before .before .before .kept .given ∙ v .3, b .0, b .1)
+
+enum-known-went-2 : tie.Need-enum-known-went-2 Inv-loop μ-loop
+enum-known-went-2 c = search needs
+
+same-length : tie.Need-same-length Inv-loop μ-loop
+same-length c = c .before .before .before .before .before .before .before .before .state .given ∙ c .before .before .before .before .before .before .before .before .before .before .before .before .before .before .loop .inv .1
+
+same-length-2 : tie.Need-same-length-2 Inv-loop μ-loop
+same-length-2 c = c .before .before .before .before .before .before .output .given ∙ c .before .before .before .before .before .before .before .before .before .before .before .before .before .before .loop .inv .2
+
+same-length-3 : tie.Need-same-length-3 Inv-loop μ-loop
+same-length-3 c = c .before .before .before .before .kept .given ∙ c .before .before .before .before .before .before .before .before .before .before .before .before .before .before .loop .inv .3
+
+returns : tie.Need-returns Inv-loop μ-loop
+returns c =
+    let d = c .before .before .before .before .before .before .before .before .before in
+    let l = d .before .before .before .before .before in
+    let s = l .before .before .before .before .before .before .before .before in
+    let t = tablesOf (s .args .rows .now) (s .args .pos .now) (s .args .osp .now) in
+    let p = s .args .plan .now in
+    let st = s .args .state .now in
+    let o = s .args .opened in
+    let v = l .loop .inv in
+    subst (λ w. Becomes t p (start-accepts t p st o (s .pre)) (startAt st o) (start-keeps t p st o (s .pre)) (s .args .kept .now) (l .loop .n) (l .loop .state) (l .loop .saved) (l .loop .kept) (l .loop .used) (v .4) (v .5) (s .args .quantum) (l .loop .output) (d .advance .last .1 .1 .1 .1 .0) (d .advance .last .1 .1 .1 .1 .1 .1 .1 .1 .0) w) (c .before .went2 .given .1) (becomes t p (start-accepts t p st o (s .pre)) (startAt st o) (start-keeps t p st o (s .pre)) (s .args .kept .now) (l .loop .n) (l .loop .state) (l .loop .saved) (l .loop .kept) (l .loop .used) (v .4) (v .5) (s .args .quantum) (l .loop .output) _ _ (d .advance .result) (d .advance .ensures))
+
+enum-known-went-3 : tie.Need-enum-known-went-3 Inv-loop μ-loop
+enum-known-went-3 c = search needs
+
+same-length-4 : tie.Need-same-length-4 Inv-loop μ-loop
+same-length-4 c = c .before .before .before .before .before .before .before .before .state .given ∙ c .before .before .before .before .before .before .before .before .before .before .before .before .before .before .loop .inv .1
+
+same-length-5 : tie.Need-same-length-5 Inv-loop μ-loop
+same-length-5 c = c .before .before .before .before .before .before .output .given ∙ c .before .before .before .before .before .before .before .before .before .before .before .before .before .before .loop .inv .2
+
+same-length-6 : tie.Need-same-length-6 Inv-loop μ-loop
+same-length-6 c = c .before .before .before .before .kept .given ∙ c .before .before .before .before .before .before .before .before .before .before .before .before .before .before .loop .inv .3
+
+returns-2 : tie.Need-returns-2 Inv-loop μ-loop
+returns-2 c =
+    let d = c .before .before .before .before .before .before .before .before .before in
+    let l = d .before .before .before .before .before in
+    let s = l .before .before .before .before .before .before .before .before in
+    let t = tablesOf (s .args .rows .now) (s .args .pos .now) (s .args .osp .now) in
+    let p = s .args .plan .now in
+    let st = s .args .state .now in
+    let o = s .args .opened in
+    let v = l .loop .inv in
+    let b = subst (λ w. Becomes t p (start-accepts t p st o (s .pre)) (startAt st o) (start-keeps t p st o (s .pre)) (s .args .kept .now) (l .loop .n) (l .loop .state) (l .loop .saved) (l .loop .kept) (l .loop .used) (v .4) (v .5) (s .args .quantum) (l .loop .output) (d .advance .last .1 .1 .1 .1 .0) (d .advance .last .1 .1 .1 .1 .1 .1 .1 .1 .0) w) (c .before .went3 .given .1) (becomes t p (start-accepts t p st o (s .pre)) (startAt st o) (start-keeps t p st o (s .pre)) (s .args .kept .now) (l .loop .n) (l .loop .state) (l .loop .saved) (l .loop .kept) (l .loop .used) (v .4) (v .5) (s .args .quantum) (l .loop .output) _ _ (d .advance .result) (d .advance .ensures)) in
+    stops t p (start-accepts t p st o (s .pre)) (startAt st o) (start-keeps t p st o (s .pre)) (s .args .kept .now) (l .loop .n) (l .loop .state) (l .loop .saved) (l .loop .kept) (l .loop .used) (v .4) (s .args .quantum) (length (s .args .output .now)) _ _ (subst (λ n. Cause (planOf p .ending) (s .args .quantum) n (c .before .went3 .given .0 .0)) (v .2) (b .1)) (b .0)
+
+same-length-7 : tie.Need-same-length-7 Inv-loop μ-loop
+same-length-7 c = c .before .loop .inv .1
+
+same-length-8 : tie.Need-same-length-8 Inv-loop μ-loop
+same-length-8 c = c .before .loop .inv .2
+
+same-length-9 : tie.Need-same-length-9 Inv-loop μ-loop
+same-length-9 c = c .before .loop .inv .3
+
+returns-3 : tie.Need-returns-3 Inv-loop μ-loop
+returns-3 c =
+    let l = c .before in
+    let s = l .before .before .before .before .before .before .before .before in
+    let t = tablesOf (s .args .rows .now) (s .args .pos .now) (s .args .osp .now) in
+    let p = s .args .plan .now in
+    let st = s .args .state .now in
+    let o = s .args .opened in
+    let v = l .loop .inv in
+    let e : l .loop .n ≡ s .args .most = omega (arith, c .loop-test .left, v .0) in
+    subst (λ n. Pauses t p n (s .args .kept .now) (l .loop .state) (l .loop .kept) (l .loop .saved) (l .loop .used)) e (pauses t p (start-accepts t p st o (s .pre)) (startAt st o) (start-keeps t p st o (s .pre)) (s .args .kept .now) (l .loop .n) (l .loop .state) (l .loop .saved) (l .loop .kept) (l .loop .used) (v .4) (v .5))
+
+pub go-on-spec : {M : Type 1} → statement M
+go-on-spec =
+    tie.close
+    (tie.spec
+    Inv-loop
+    μ-loop
+    loop-holds
+    advance-requires
+    enum-known-went
+    add-n
+    loop-less
+    loop-again
+    enum-known-went-2
+    same-length
+    same-length-2
+    same-length-3
+    returns
+    enum-known-went-3
+    same-length-4
+    same-length-5
+    same-length-6
+    returns-2
+    same-length-7
+    same-length-8
+    same-length-9
+    returns-3)

@@ -1,0 +1,120 @@
+-- A query played to its end, or for so many turns: what it answers and leaves is the uncut run's. Assumes nothing: these are definitions.
+use Prim.Native.Nat.{ℕ, _≤_, _<_}
+use mathlib.Core.Path.{_≡_}
+use mathlib.Core.Logic.{_⊎_}
+use mathlib.Core.List.{List, []}
+use mathlib.Core.Option.{none}
+use lib.ListN.{length, take}
+use Rattle.words.specs.declared.Written.the-variants as written
+use Rattle.words.specs.Answers.{wordsIn}
+use Rattle.words.specs.Sequences.{over}
+use Rattle.tables.specs.Tables.{Tables}
+use Rattle.plans.specs.Endings.{Ending}
+use Rattle.plans.specs.Plans.{planOf}
+use Rattle.steps.specs.Steps.{after}
+use Rattle.steps.specs.Saved.{savedWords, leastStateWords}
+use Rattle.lists.specs.Gathering.{leastOutput}
+use Rattle.turns.specs.Opening.{openOf}
+use Rattle.turns.specs.Turns.{mostSteps}
+use Rattle.cuts.specs.Histories.{Event, Held, history}
+use Rattle.cuts.specs.Premises.{Premises}
+use Rattle.cuts.specs.Uncut.{EndsAt, runList}
+use Rattle.queries.specs.declared.Played.{Played}
+use Rattle.queries.specs.declared.Played.the-variants.{Finished, Unfinished, Refused}
+
+-- the rows, best-of list or groups of the uncut run after so many steps
+abbrev pub listAfter : Tables → List ℕ → ℕ → List ℕ
+listAfter t plan steps = runList (planOf plan .ending) (after t (planOf plan) steps)
+
+-- a buffer holds that list over what it held before, and the list has so many words
+pub record Holds (t : Tables) (plan : List ℕ) (steps : ℕ) (before now : List ℕ) (words : ℕ) : Type 0 where
+  pub whole : now ≡ over (listAfter t plan steps) before
+  pub counted : words ≡ length (listAfter t plan steps)
+  pub room : words ≤ length before
+
+-- ---- the answers
+-- finished: the uncut run ends after some steps, and the kept list is its whole list
+pub record Finishes (t : Tables) (plan before kept : List ℕ) (words : ℕ) : Type 0 where
+  pub steps : ℕ
+  pub ends : EndsAt t (planOf plan) steps
+  pub list : Holds t plan steps before kept words
+
+-- not finished: the saved words are a state of the uncut run, at least a step for each turn, and the kept list is its list up to there
+pub record Pauses (t : Tables) (plan : List ℕ) (most : ℕ) (before state kept : List ℕ) (saved words : ℕ) : Type 0 where
+  pub steps : ℕ
+  pub many : most ≤ steps
+  pub going : ¬ (after t (planOf plan) steps .state ≡ none)
+  pub state-words : take saved state ≡ savedWords (after t (planOf plan) steps .state)
+  pub state-count : saved ≡ length (savedWords (after t (planOf plan) steps .state))
+  pub list : Holds t plan steps before kept words
+
+-- why a query that was opened is stopped: an output of so many words or the quantum, by a turn; totals or the kept buffer, where a
+-- list is taken
+pub data Cause (e : Ending) (quantum room : ℕ) : ℕ → Type 0 where
+  output-short : room < leastOutput e → Cause e quantum room 7
+  quantum-wrong : ¬ ((1 ≤ quantum) × (quantum ≤ mostSteps)) → Cause e quantum room 8
+  totals-pass : Cause e quantum room 13
+  kept-short : Cause e quantum room 14
+
+-- stopped: the kept list is the uncut run's up to the lists taken
+pub record Stops (t : Tables) (plan : List ℕ) (quantum room : ℕ) (before kept : List ℕ) (x : ℕ) : Type 0 where
+  pub cause : Cause (planOf plan .ending) quantum room x
+  pub steps : ℕ
+  pub words : ℕ
+  pub list : Holds t plan steps before kept words
+
+-- what is left of a query that was opened
+abbrev pub Leaves : Tables → List ℕ → ℕ → ℕ → ℕ → List ℕ → List ℕ → List ℕ → Played → Type 0
+Leaves t plan quantum most room before state kept (Finished words) = Finishes t plan before kept words
+Leaves t plan quantum most room before state kept (Unfinished saved words) = Pauses t plan most before state kept saved words
+Leaves t plan quantum most room before state kept (Refused x) = Stops t plan quantum room before kept x
+
+-- the buffers lent to a play
+pub record Lent : Type 0 where
+  pub state : List ℕ
+  pub output : List ℕ
+  pub kept : List ℕ
+
+-- the opening is refused by x, and every buffer is as it was
+pub record NotOpened (t : Tables) (plan : List ℕ) (before after : Lent) (x : ℕ) : Type 0 where
+  pub refused : openOf t plan (before .state) .answer ≡ written.Refused x
+  pub unchanged : after ≡ before
+
+-- the opening is served
+abbrev pub Opens : Tables → List ℕ → List ℕ → Type 0
+Opens t plan state = (x : ℕ) → ¬ (openOf t plan state .answer ≡ written.Refused x)
+
+abbrev pub Plays : Tables → List ℕ → ℕ → ℕ → Lent → Lent → Played → Type 0
+Plays t plan quantum most before after (Finished words) = Opens t plan (before .state) × Finishes t plan (before .kept) (after .kept) words
+Plays t plan quantum most before after (Unfinished saved words) =
+    Opens t plan (before .state) × Pauses t plan most (before .kept) (after .state) (after .kept) saved words
+Plays t plan quantum most before after (Refused x) =
+    NotOpened t plan before after x
+    ⊎ (Opens t plan (before .state) × Stops t plan quantum (length (before .output)) (before .kept) (after .kept) x)
+
+-- ---- under way
+-- what the phone holds at the start: the saved words, and no list
+abbrev pub startAt : List ℕ → ℕ → Held
+startAt state saved = record { saved = take saved state; taken = []; waiting = []; kept = [] }
+
+-- the state buffer is as a served opening left it
+pub record Started (t : Tables) (plan state : List ℕ) (saved : ℕ) : Type 0 where
+  pub lent : List ℕ
+  pub opens : Opens t plan lent
+  pub left : state ≡ openOf t plan lent .state
+  pub counted : saved ≡ wordsIn (openOf t plan lent .answer)
+
+-- the buffers hold what a list of calls under demand 3's premises leaves, so many turns served and every list taken
+pub record UnderWay (t : Tables) (plan : List ℕ) (first : Held) (before : List ℕ) (count : ℕ) (state : List ℕ) (saved : ℕ) (kept : List ℕ) (used : ℕ) : Type 0 where
+  pub events : List Event
+  pub premises : Premises t plan first events
+  pub held : Held
+  pub reached : history t plan first events ≡ held
+  pub taken : held .waiting ≡ []
+  pub turns : length (held .taken) ≡ count
+  pub state-words : take saved state ≡ held .saved
+  pub state-count : saved ≡ length (held .saved)
+  pub state-room : leastStateWords ≤ length state
+  pub list : kept ≡ over (held .kept) before
+  pub words : used ≡ length (held .kept)
+  pub room : used ≤ length before

@@ -1,0 +1,29 @@
+// A whole query, played over lent buffers: opened, run turn by turn, and the list of each turn taken.
+mod playing;
+mod stepping;
+
+pub use playing::play;
+pub use stepping::play_turn;
+use turns::Turned;
+use words::Written;
+
+// One turn and its list: what the turn answers, and the words of the kept list, or the number that refused the list.
+pub struct Step {
+    pub turned: Turned,
+    pub taken: Written,
+}
+
+// How a query goes on after a turn: from its saved words, with the words of the kept list; it is over; or it is stopped by a number.
+pub enum Went {
+    On { saved: usize, words: usize },
+    Over(usize),
+    Stopped(u32),
+}
+
+// How a play came out: finished, with the words of the whole list; not finished, with the saved words and the words of the list
+// so far; or refused with a number.
+pub enum Played {
+    Finished(usize),
+    Unfinished { saved: usize, words: usize },
+    Refused(u32),
+}

@@ -1,0 +1,87 @@
+// A query from its opening on: turns of one quantum, each list taken, until it is done or so many turns are made.
+use crate::Played;
+use crate::Went;
+use crate::stepping::advance;
+use words::Written;
+ghost use lib.ListN.{length};
+ghost use Rattle.tables.specs.Tables.{tablesOf};
+ghost use Rattle.queries.specs.Playing.{Plays, Leaves, Started};
+
+// Turns from an opening's state on, at most so many, and the list of each taken.
+fn go_on(
+    rows: &[u32],
+    pos: &[u32],
+    osp: &[u32],
+    plan: &[u32],
+    quantum: u32,
+    most: u64,
+    state: &mut [u32],
+    opened: usize,
+    output: &mut [u32],
+    kept: &mut [u32],
+) -> Played
+    requires { ⌜ Started (tablesOf (now rows) (now pos) (now osp)) (now plan) (now state) opened ⌝ }
+    ensures { λ r. ⌜ Leaves (tablesOf (now (rows .entry)) (now (pos .entry)) (now (osp .entry))) (now (plan .entry)) quantum most (length (now (output .entry))) (now (kept .entry)) (now (state .exit)) (now (kept .exit)) r ⌝ }
+{
+    let mut saved = opened;
+    let mut used: usize = 0;
+    let mut n: u64 = 0;
+    while n < most {
+        let went = advance(
+            rows,
+            pos,
+            osp,
+            plan,
+            state,
+            saved,
+            quantum,
+            output,
+            kept,
+            used,
+        );
+        match went {
+            Went::On { saved: left, words } => {
+                saved = left;
+                used = words;
+                n += 1;
+            }
+            Went::Over(words) => return Played::Finished(words),
+            Went::Stopped(x) => return Played::Refused(x),
+        }
+    }
+    Played::Unfinished {
+        saved: saved,
+        words: used,
+    }
+}
+
+// Opens a query and plays it: at most so many turns of the quantum, each turn's list taken into the kept buffer.
+pub fn play(
+    rows: &[u32],
+    pos: &[u32],
+    osp: &[u32],
+    plan: &[u32],
+    quantum: u32,
+    most: u64,
+    state: &mut [u32],
+    output: &mut [u32],
+    kept: &mut [u32],
+) -> Played
+    ensures { λ r. ⌜ Plays (tablesOf (now (rows .entry)) (now (pos .entry)) (now (osp .entry))) (now (plan .entry)) quantum most (record { state = now (state .entry); output = now (output .entry); kept = now (kept .entry) }) (record { state = now (state .exit); output = now (output .exit); kept = now (kept .exit) }) r ⌝ }
+{
+    match turns::open(rows, pos, osp, plan, state) {
+        Written::Refused(x) => Played::Refused(x),
+        Written::Words(opened) => go_on(
+            rows,
+            pos,
+            osp,
+            plan,
+            quantum,
+            most,
+            state,
+            opened,
+            output,
+            kept,
+        ),
+    }
+}

@@ -1,0 +1,213 @@
+// One turn of a query, and its list taken: merged into the kept one, or joined behind it.
+use crate::Step;
+use crate::Went;
+use plans::Last;
+use turns::TurnEnding;
+use words::Written;
+ghost use mathlib.Core.Path.{_≡_};
+ghost use mathlib.Core.Bool.{Bool, true};
+ghost use Prim.Native.Nat.{_≤_};
+ghost use mathlib.Core.List.{[]};
+ghost use lib.ListN.{length};
+ghost use Rattle.plans.specs.Plans.{readPlan, hasForm, planOf};
+ghost use Rattle.turns.specs.Testing.{turnInput};
+ghost use Rattle.queries.specs.Stepping.{isServed, isRows, toMerge, toJoin, joinOf, playTurnOf, takeTurnOf, wentOf, Advances};
+
+// What a join that has no room is refused by.
+pub const ROOM: u32 = 14;
+
+// Whether a turn with this ending was served.
+fn is_served(ending: TurnEnding) -> bool
+    ensures { λ r. ⌜ r ≡ isServed ending ⌝ }
+{
+    match ending {
+        TurnEnding::Done => true,
+        TurnEnding::Spent => true,
+        TurnEnding::Full => true,
+        TurnEnding::Refused(_) => false,
+    }
+}
+
+// Whether a plan ends in rows.
+fn is_rows(plan: &[u32]) -> bool
+    requires { ⌜ hasForm (readPlan (now plan)) ≡ true ⌝ }
+    ensures { λ r. ⌜ r ≡ isRows (planOf (now (plan .entry)) .ending) ⌝ }
+{
+    match plans::ending_kind(plans::ending_part(plan)) {
+        Last::Rows => true,
+        Last::Top => false,
+        Last::Group => false,
+        Last::Neither => false,
+    }
+}
+
+// Whether a turn's list is one to merge: it was served, and its plan does not end in rows.
+fn to_merge(plan: &[u32], ending: TurnEnding) -> bool
+    requires { ⌜ (isServed ending ≡ true → hasForm (readPlan (now plan)) ≡ true) ⌝ }
+    ensures { λ r. ⌜ r ≡ toMerge (planOf (now (plan .entry)) .ending) ending ⌝ }
+{
+    if is_served(ending) {
+        return !is_rows(plan);
+    }
+    false
+}
+
+// Whether a turn's list is one to join: it was served, and its plan ends in rows.
+fn to_join(plan: &[u32], ending: TurnEnding) -> bool
+    requires { ⌜ (isServed ending ≡ true → hasForm (readPlan (now plan)) ≡ true) ⌝ }
+    ensures { λ r. ⌜ r ≡ toJoin (planOf (now (plan .entry)) .ending) ending ⌝ }
+{
+    if is_served(ending) {
+        return is_rows(plan);
+    }
+    false
+}
+
+// Runs one turn, with no threshold, and merges its list into the kept one, which is the first words of its buffer, so many. The
+// list of a row query stays in the output.
+pub fn play_turn(
+    rows: &[u32],
+    pos: &[u32],
+    osp: &[u32],
+    plan: &[u32],
+    state: &mut [u32],
+    saved: usize,
+    quantum: u32,
+    output: &mut [u32],
+    kept: &mut [u32],
+    used: usize,
+) -> Step
+    ensures { λ r. ⌜ record { answer = r; state = now (state .exit); output = now (output .exit); kept = now (kept .exit) } ≡ playTurnOf (turnInput (now (rows .entry)) (now (pos .entry)) (now (osp .entry)) (now (plan .entry)) (now (state .entry)) saved quantum [] (now (output .entry))) (now (kept .entry)) used ⌝ }
+{
+    let turned = turns::turn(
+        rows,
+        pos,
+        osp,
+        plan,
+        state,
+        saved,
+        quantum,
+        &plan[..0],
+        output,
+    );
+    let ending = turned.ending;
+    let listed = turned.listed;
+    if to_merge(plan, ending) {
+        let taken = merges::merge(plan, kept, used, &output[..listed]);
+        return Step {
+            turned: turned,
+            taken: taken,
+        };
+    }
+    Step {
+        turned: turned,
+        taken: Written::Words(used),
+    }
+}
+
+// Joins a turn's rows behind those kept, or refuses where the buffer has no room for them.
+fn join(kept: &mut [u32], used: usize, list: &[u32]) -> Written
+    requires { ⌜ used ≤ length (now kept) ⌝ }
+    ensures { λ r. ⌜ record { answer = r; kept = now (kept .exit) } ≡ joinOf (now (kept .entry)) used (now (list .entry)) ⌝ }
+{
+    if kept.len() - used < list.len() {
+        return Written::Refused(ROOM);
+    }
+    lists::copy_in(kept, used, list);
+    Written::Words(used + list.len())
+}
+
+// Runs one turn and takes its list: joined for a row query, merged for any other.
+fn take_turn(
+    rows: &[u32],
+    pos: &[u32],
+    osp: &[u32],
+    plan: &[u32],
+    state: &mut [u32],
+    saved: usize,
+    quantum: u32,
+    output: &mut [u32],
+    kept: &mut [u32],
+    used: usize,
+) -> Step
+    requires { ⌜ used ≤ length (now kept) ⌝ }
+    ensures { λ r. ⌜ record { answer = r; state = now (state .exit); output = now (output .exit); kept = now (kept .exit) } ≡ takeTurnOf (turnInput (now (rows .entry)) (now (pos .entry)) (now (osp .entry)) (now (plan .entry)) (now (state .entry)) saved quantum [] (now (output .entry))) (now (kept .entry)) used ⌝ }
+{
+    let step = play_turn(
+        rows,
+        pos,
+        osp,
+        plan,
+        state,
+        saved,
+        quantum,
+        output,
+        kept,
+        used,
+    );
+    let turned = step.turned;
+    let ending = turned.ending;
+    let listed = turned.listed;
+    if to_join(plan, ending) {
+        let taken = join(kept, used, &output[..listed]);
+        return Step {
+            turned: turned,
+            taken: taken,
+        };
+    }
+    step
+}
+
+// How the query goes on after a turn whose list was taken, or not.
+fn outcome(step: Step) -> Went
+    ensures { λ r. ⌜ r ≡ wentOf step ⌝ }
+{
+    let turned = step.turned;
+    let ending = turned.ending;
+    let taken = step.taken;
+    match taken {
+        Written::Refused(x) => Went::Stopped(x),
+        Written::Words(words) => match ending {
+            TurnEnding::Done => Went::Over(words),
+            TurnEnding::Spent => Went::On {
+                saved: turned.saved,
+                words: words,
+            },
+            TurnEnding::Full => Went::On {
+                saved: turned.saved,
+                words: words,
+            },
+            TurnEnding::Refused(x) => Went::Stopped(x),
+        },
+    }
+}
+
+// Runs one turn, takes its list, and tells how the query goes on.
+pub fn advance(
+    rows: &[u32],
+    pos: &[u32],
+    osp: &[u32],
+    plan: &[u32],
+    state: &mut [u32],
+    saved: usize,
+    quantum: u32,
+    output: &mut [u32],
+    kept: &mut [u32],
+    used: usize,
+) -> Went
+    requires { ⌜ used ≤ length (now kept) ⌝ }
+    ensures { λ r. ⌜ Advances (takeTurnOf (turnInput (now (rows .entry)) (now (pos .entry)) (now (osp .entry)) (now (plan .entry)) (now (state .entry)) saved quantum [] (now (output .entry))) (now (kept .entry)) used) (now (state .exit)) (now (kept .exit)) r ⌝ }
+{
+    outcome(take_turn(
+        rows,
+        pos,
+        osp,
+        plan,
+        state,
+        saved,
+        quantum,
+        output,
+        kept,
+        used,
+    ))
+}
