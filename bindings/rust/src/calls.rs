@@ -1,0 +1,185 @@
+//! The three calls over slices: the only place with unsafe code.
+//!
+//! What the header asks of a caller, slices give: a slice's address is never null, even where its length is 0; it is aligned for
+//! u32; so many words may be read from it; a `&mut` slice may be written and overlaps no other; and nobody writes what is borrowed
+//! while the call runs. The library keeps no address and has no state of its own.
+
+use crate::foreign;
+use crate::refusals::Refusal;
+use crate::tables::Tables;
+
+/// The words that a state buffer has at least.
+pub const STATE_WORDS: usize = 9;
+
+/// The most steps that a turn may take.
+pub const MOST_STEPS: u32 = 1_000_000;
+
+/// How a turn ended.
+#[derive(Clone, Copy, Debug, PartialEq, Eq, Hash)]
+pub enum TurnEnding {
+    /// The query has ended; no state is left.
+    Done,
+    /// It took exactly the quantum and is not done.
+    Spent,
+    /// The next step delivers a row or a new group for which the output has no space.
+    Full,
+}
+
+/// What a served turn answers.
+#[derive(Clone, Copy, Debug, PartialEq, Eq, Hash)]
+pub struct Turned {
+    /// The steps taken.
+    pub steps: u32,
+    /// How it ended.
+    pub ending: TurnEnding,
+    /// The words of the new state, written over the front of the state buffer; 0 when done.
+    pub state_words: usize,
+    /// The words of the turn's list, written over the front of the output.
+    pub list_words: usize,
+}
+
+/// The refusal of a number that the library gave.
+fn refusal(code: u32) -> Refusal {
+    Refusal::from_code(code)
+        .unwrap_or_else(|| panic!("libsotjarn.a refused by {code}, which this crate does not know: they are of different versions"))
+}
+
+/// The answer of a call that writes to one buffer.
+fn written(answer: foreign::Written) -> Result<usize, Refusal> {
+    match answer.refused {
+        0 => Ok(answer.words),
+        code => Err(refusal(code)),
+    }
+}
+
+/// The answer of a turn.
+fn turned(answer: foreign::Turned) -> Result<Turned, Refusal> {
+    let ending = match answer.ending {
+        foreign::DONE => TurnEnding::Done,
+        foreign::SPENT => TurnEnding::Spent,
+        foreign::FULL => TurnEnding::Full,
+        foreign::REFUSED => return Err(refusal(answer.refused)),
+        other => panic!("libsotjarn.a gave the ending {other}, which this crate does not know: they are of different versions"),
+    };
+    Ok(Turned {
+        steps: answer.steps,
+        ending,
+        state_words: answer.state_words,
+        list_words: answer.list_words,
+    })
+}
+
+/// Writes the start state of a query over the front of `state`, and gives the words written. Refused by 1 to 7.
+///
+/// ```
+/// use sotjarn::{open, Refusal, Tables};
+///
+/// let rows = [1, 10, 100]; // n1 n10 n100
+/// let tables = Tables { rows: &rows, pos: &[0], osp: &[0] };
+/// let plan = [0x1000_0001, 0x2000_0001, 0xC000_0000, 10, 100, 0x3000_0000, 0x8000_0001, 0xC000_0000];
+/// let mut state = [0; 9];
+/// assert_eq!(open(tables, &plan, &mut state), Ok(2));
+/// assert_eq!(state[..2], [0xE000_0001, 0xF000_0000]); // branch 0, depth 1; place 0
+/// assert_eq!(open(tables, &plan, &mut state[..8]), Err(Refusal::BufferLengths));
+/// ```
+pub fn open(tables: Tables, plan: &[u32], state: &mut [u32]) -> Result<usize, Refusal> {
+    let Tables { rows, pos, osp } = tables;
+    // Sound: each address and length is a slice's, and `state`, the one that is written, is a `&mut` slice (see the module).
+    written(unsafe {
+        foreign::sotjarn_open(
+            rows.as_ptr(),
+            rows.len(),
+            pos.as_ptr(),
+            pos.len(),
+            osp.as_ptr(),
+            osp.len(),
+            plan.as_ptr(),
+            plan.len(),
+            state.as_mut_ptr(),
+            state.len(),
+        )
+    })
+}
+
+/// Runs at most `quantum` steps from the saved state, which is the first `state_words` words of `state`: those that opening or the
+/// turn before wrote. `threshold` is empty, or for a best-of query the last row of a full list merged from earlier turns.
+/// Refused by 1 to 11.
+///
+/// ```
+/// use sotjarn::{open, turn, Refusal, Tables, TurnEnding};
+///
+/// let rows = [1, 10, 100]; // n1 n10 n100
+/// let tables = Tables { rows: &rows, pos: &[0], osp: &[0] };
+/// let plan = [0x1000_0001, 0x2000_0001, 0xC000_0000, 10, 100, 0x3000_0000, 0x8000_0001, 0xC000_0000];
+/// let (mut state, mut output) = ([0; 9], [0; 1]);
+/// let words = open(tables, &plan, &mut state)?;
+/// let turned = turn(tables, &plan, &mut state, words, 10, &[], &mut output)?;
+/// assert_eq!((turned.steps, turned.ending), (2, TurnEnding::Done));
+/// assert_eq!(output[..turned.list_words], [1]);
+/// # Ok::<(), Refusal>(())
+/// ```
+pub fn turn(
+    tables: Tables,
+    plan: &[u32],
+    state: &mut [u32],
+    state_words: usize,
+    quantum: u32,
+    threshold: &[u32],
+    output: &mut [u32],
+) -> Result<Turned, Refusal> {
+    let Tables { rows, pos, osp } = tables;
+    // Sound: each address and length is a slice's; `state` and `output`, the two that are written, are `&mut` slices, so they
+    // overlap neither each other nor the rest (see the module).
+    turned(unsafe {
+        foreign::sotjarn_turn(
+            rows.as_ptr(),
+            rows.len(),
+            pos.as_ptr(),
+            pos.len(),
+            osp.as_ptr(),
+            osp.len(),
+            plan.as_ptr(),
+            plan.len(),
+            state.as_mut_ptr(),
+            state.len(),
+            state_words,
+            quantum,
+            threshold.as_ptr(),
+            threshold.len(),
+            output.as_mut_ptr(),
+            output.len(),
+        )
+    })
+}
+
+/// Merges a turn's whole list into the kept one, which is the first `kept_words` words of `kept`; none at first. The merged list is
+/// written over the front of `kept`, and its words are the answer. For best-of queries and groups; the lists of a row query are
+/// joined end to end instead. Refused by 5, 6 and 12 to 14.
+///
+/// ```
+/// use sotjarn::{merge, Refusal};
+///
+/// // ?0 n10 ?1, the best 1 of ?1 by ?1 falling
+/// let plan = [
+///     0x1000_0001, 0x2000_0001, 0xC000_0000, 10, 0xC000_0001, 0x3000_0000,
+///     0x9000_0001, 0x8000_0001, 0xC000_0001, 0xB000_0001,
+/// ];
+/// let mut kept = [0x4000_0005, 0]; // i5 is kept; the second word is spare
+/// assert_eq!(merge(&plan, &mut kept, 1, &[0x4000_0007]), Ok(1));
+/// assert_eq!(kept, [0x4000_0007, 0]);
+/// assert_eq!(merge(&plan, &mut kept, 1, &[7, 8]), Err(Refusal::MergedLists));
+/// ```
+pub fn merge(plan: &[u32], kept: &mut [u32], kept_words: usize, list: &[u32]) -> Result<usize, Refusal> {
+    // Sound: each address and length is a slice's, and `kept`, the one that is written, is a `&mut` slice (see the module).
+    written(unsafe {
+        foreign::sotjarn_merge(
+            plan.as_ptr(),
+            plan.len(),
+            kept.as_mut_ptr(),
+            kept.len(),
+            kept_words,
+            list.as_ptr(),
+            list.len(),
+        )
+    })
+}

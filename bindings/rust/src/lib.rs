@@ -1,0 +1,69 @@
+//! Sotjarn's three calls for Rust: opening a query, one turn of it, and merging a turn's list into a kept one.
+//!
+//! Sotjarn answers queries over shared tables, a turn of counted steps at a time. A turn may end after any row, and the answer does
+//! not depend on where the cuts fall. The calls are proved; this crate lends them slices. Whatever words come in, a call ends,
+//! touches nothing outside what it was lent, and refuses faulty input by the number of the first test that fails: a [`Refusal`].
+//! A refused call changes no word.
+//!
+//! | you have | use |
+//! |---|---|
+//! | words in buffers of your own | [`open`], [`turn`], [`merge`] |
+//! | a query to write | [`Plan::builder`], [`TableWords`] |
+//! | a query to run | [`Query`] and its [`turns`](Query::turns), [`Kept`] |
+//! | words to read | [`State::read`], [`Plan::read`], [`read_rows`], [`read_groups`] |
+//!
+//! The three-stem wood: stems of stand n100 with a diameter of at least 70, in turns of four steps.
+//!
+//! ```
+//! use sotjarn::Term::{Name, Number};
+//! use sotjarn::{Branch, Comparison, Condition, Kept, List, Plan, Query, TableWords, Value, Variable};
+//!
+//! let mut rows = Vec::new();
+//! for (stem, size) in [(1, 45), (2, 310), (3, 310)] {
+//!     rows.push([Name(stem), Name(10), Name(100)]);
+//!     rows.push([Name(stem), Name(12), Number(size)]);
+//! }
+//! let wood = TableWords::from_rows(rows)?;
+//!
+//! let (stem, size) = (Variable(0), Variable(1));
+//! let branch = Branch::new()
+//!     .pattern(stem, Name(10), Name(100))
+//!     .pattern(stem, Name(12), size)
+//!     .condition(Condition::compare(size, Comparison::AtLeast, Number(70)));
+//! let plan = Plan::builder().branch(branch).rows([stem, size])?;
+//!
+//! let mut kept = Kept::new(&plan);
+//! let mut turns = Vec::new();
+//! for turn in Query::open(wood.tables(), plan.words())?.turns(4, 64 * plan.width()) {
+//!     let turn = turn?;
+//!     kept.take(&turn.list)?;
+//!     turns.push(turn.steps);
+//! }
+//! assert_eq!(turns, [4, 4, 2]);
+//! assert_eq!(
+//!     kept.list()?,
+//!     List::Rows(vec![vec![Value::Name(2), Value::Number(310)], vec![Value::Name(3), Value::Number(310)]])
+//! );
+//! # Ok::<(), Box<dyn std::error::Error>>(())
+//! ```
+
+#![warn(missing_docs)]
+
+mod calls;
+mod foreign;
+mod lists;
+mod plans;
+mod queries;
+mod refusals;
+mod states;
+mod tables;
+mod terms;
+
+pub use calls::{merge, open, turn, TurnEnding, Turned, MOST_STEPS, STATE_WORDS};
+pub use lists::{read_groups, read_rows, Group, Kept, List, Row, Unreadable};
+pub use plans::{Branch, Comparison, Condition, Key, Plan, PlanBuilder, PlanEnding};
+pub use queries::{Query, Turn, Turns};
+pub use refusals::Refusal;
+pub use states::{Place, State};
+pub use tables::{TableWords, Tables};
+pub use terms::{Term, TooLarge, Value, Variable, UNBOUND};

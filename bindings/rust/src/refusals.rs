@@ -1,0 +1,139 @@
+//! Why a call was refused.
+
+use std::error::Error;
+use std::fmt;
+
+/// Why a call was refused: the first of the rules' tests that failed. A refused call has changed no word of any buffer.
+///
+/// ```
+/// use sotjarn::Refusal;
+///
+/// assert_eq!(Refusal::Quantum.code(), 8);
+/// assert_eq!(Refusal::from_code(8), Some(Refusal::Quantum));
+/// assert_eq!(Refusal::from_code(15), None);
+/// assert!(Refusal::Quantum.to_string().contains("1 to 1,000,000"));
+/// ```
+#[derive(Clone, Copy, Debug, PartialEq, Eq, PartialOrd, Ord, Hash)]
+#[repr(u32)]
+pub enum Refusal {
+    /// Length of rows isn't a multiple of 3, a list's length differs from the row count, or more than 65,536 rows.
+    TableLengths = 1,
+    /// A field's kind is wrong in some row.
+    FieldKind = 2,
+    /// Rows don't ascend strictly.
+    RowOrder = 3,
+    /// A list names a row that isn't there, or doesn't ascend strictly.
+    RowNumbers = 4,
+    /// Plan: kind, low bits, length, node count or depth is wrong, or words are left over.
+    PlanForm = 5,
+    /// Plan: a variable above ?15, one that is not bound where it must be, a key that is no column, or a repeat.
+    PlanVariables = 6,
+    /// Output holds less than one row, k rows or one group, by ending; or a state buffer under 9 words.
+    BufferLengths = 7,
+    /// Quantum outside its range.
+    Quantum = 8,
+    /// State empty, of wrong kinds, branch, depth or length.
+    StateForm = 9,
+    /// State that the uncut run doesn't pass through.
+    StateNotPassed = 10,
+    /// Threshold of wrong length, with another ending than top, or with a word of kind 3 other than unbound.
+    Threshold = 11,
+    /// Merge: a list that no turn or merge by this plan can have made; or the plan ends in rows.
+    MergedLists = 12,
+    /// Merge: a total would pass 2^64 − 1.
+    Totals = 13,
+    /// Merge: the kept buffer is too short for the result.
+    KeptLength = 14,
+}
+
+/// All of them, by their numbers from 1 on.
+const ALL: [Refusal; 14] = [
+    Refusal::TableLengths,
+    Refusal::FieldKind,
+    Refusal::RowOrder,
+    Refusal::RowNumbers,
+    Refusal::PlanForm,
+    Refusal::PlanVariables,
+    Refusal::BufferLengths,
+    Refusal::Quantum,
+    Refusal::StateForm,
+    Refusal::StateNotPassed,
+    Refusal::Threshold,
+    Refusal::MergedLists,
+    Refusal::Totals,
+    Refusal::KeptLength,
+];
+
+impl Refusal {
+    /// The number that the rules give it.
+    pub fn code(self) -> u32 {
+        self as u32
+    }
+
+    /// The refusal of a number, if the rules have one.
+    pub fn from_code(code: u32) -> Option<Refusal> {
+        ALL.into_iter().find(|refusal| refusal.code() == code)
+    }
+
+    /// What is wrong.
+    fn fault(self) -> &'static str {
+        match self {
+            Refusal::TableLengths => "the lengths of the tables do not fit together, or there are more than 65,536 rows",
+            Refusal::FieldKind => "a field of some row has the wrong kind",
+            Refusal::RowOrder => "the rows do not ascend strictly",
+            Refusal::RowNumbers => "a list of row numbers names a row that is not there, or its rows do not ascend strictly",
+            Refusal::PlanForm => {
+                "the form of the plan is wrong: a kind, a count, its length or a condition's size, or words are left over"
+            }
+            Refusal::PlanVariables => "a variable of the plan is above ?15, is not bound, or is repeated",
+            Refusal::BufferLengths => "the output or the state buffer is too short",
+            Refusal::Quantum => "the quantum is outside its range",
+            Refusal::StateForm => "the state is empty, or its kinds, branch, depth or length are wrong",
+            Refusal::StateNotPassed => "the query never passes through this state",
+            Refusal::Threshold => "the threshold is not one row of a best-of query",
+            Refusal::MergedLists => "a list is not one that this plan makes, or the plan delivers plain rows",
+            Refusal::Totals => "a total would pass 2^64 - 1",
+            Refusal::KeptLength => "the kept buffer is too short for the merged list",
+        }
+    }
+
+    /// What to do about it.
+    fn remedy(self) -> &'static str {
+        match self {
+            Refusal::TableLengths => "lend three words a row, and in each list one number a row",
+            Refusal::FieldKind => "make every subject and predicate a name, and every object a name, a number or a text",
+            Refusal::RowOrder => "sort the rows as unsigned words by subject, predicate, object, and leave out repeats",
+            Refusal::RowNumbers => {
+                "write the lists anew from these rows: one by predicate, object, subject, one by object, subject, predicate"
+            }
+            Refusal::PlanForm => {
+                "keep to 1 to 4 branches, 1 to 8 patterns, conditions of 31 nodes and 8 deep, 1 to 16 columns, k up to 64, \
+                 1 to 4 keys, 4 group variables, and 256 words in all"
+            }
+            Refusal::PlanVariables => {
+                "use ?0 to ?15; bind a condition's variables in its own branch and the ending's in some branch; \
+                 take keys from the columns; name no column or group variable twice"
+            }
+            Refusal::BufferLengths => {
+                "lend a state buffer of 9 words, and an output for one row, k rows or one group, as the plan ends"
+            }
+            Refusal::Quantum => "give 1 to 1,000,000 steps",
+            Refusal::StateForm => {
+                "give the words that opening or the last turn wrote, as many as it said; after done there are none"
+            }
+            Refusal::StateNotPassed => "send the state with the plan and the tables that it came from, or open the query anew",
+            Refusal::Threshold => "send none, or the last row of a full list merged by the same plan",
+            Refusal::MergedLists => "merge whole lists of turns of the same plan; join the lists of a row query end to end instead",
+            Refusal::Totals => "merge each list once; such totals no survey reaches",
+            Refusal::KeptLength => "lend a longer buffer: the words of both lists are always enough",
+        }
+    }
+}
+
+impl fmt::Display for Refusal {
+    fn fmt(&self, f: &mut fmt::Formatter<'_>) -> fmt::Result {
+        write!(f, "refused by {}: {}; {}", self.code(), self.fault(), self.remedy())
+    }
+}
+
+impl Error for Refusal {}

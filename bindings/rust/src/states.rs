@@ -1,0 +1,60 @@
+//! A reader of saved states.
+
+use crate::lists::Unreadable;
+
+// The kinds of state words, in their top four bits.
+const STATE: u32 = 14;
+const PLACE: u32 = 15;
+
+const NUMBER_BITS: u32 = 28;
+const NUMBER_MASK: u32 = (1 << NUMBER_BITS) - 1;
+const DEPTHS: u32 = 16;
+
+/// A place in one of the tables' three orders; no row number.
+#[derive(Clone, Copy, Debug, PartialEq, Eq, PartialOrd, Ord, Hash)]
+pub struct Place(pub u32);
+
+/// Where a query stands: its branch, its depth, and a place for each level down to there, the last being the next to look at.
+///
+/// ```
+/// use sotjarn::{Place, State};
+///
+/// let state = State::read(&[0xE000_0002, 0xF000_0000, 0xF000_0002])?;
+/// assert_eq!((state.branch, state.depth()), (0, 2));
+/// assert_eq!(state.places, [Place(0), Place(2)]);
+/// assert!(State::read(&[0xE000_0002, 0xF000_0000]).is_err()); // a place is missing
+/// # Ok::<(), sotjarn::Unreadable>(())
+/// ```
+#[derive(Clone, Debug, PartialEq, Eq)]
+pub struct State {
+    /// The branch, from 0.
+    pub branch: u32,
+    /// The places, one for each level.
+    pub places: Vec<Place>,
+}
+
+impl State {
+    /// The state of saved words. What it says of the query is the engine's to test, with every turn; here only the form is read.
+    pub fn read(words: &[u32]) -> Result<State, Unreadable> {
+        let (first, places) = words.split_first().ok_or(Unreadable("a state has at least its first word"))?;
+        if first >> NUMBER_BITS != STATE {
+            return Err(Unreadable("a state begins with a word of kind 14"));
+        }
+        if places.iter().any(|word| word >> NUMBER_BITS != PLACE) {
+            return Err(Unreadable("a state's places are words of kind 15"));
+        }
+        let (branch, depth) = ((first & NUMBER_MASK) / DEPTHS, first % DEPTHS);
+        if places.len() != depth as usize {
+            return Err(Unreadable("a state has as many places as its depth says"));
+        }
+        Ok(State {
+            branch,
+            places: places.iter().map(|word| Place(word & NUMBER_MASK)).collect(),
+        })
+    }
+
+    /// The depth, from 1: how many levels are open.
+    pub fn depth(&self) -> usize {
+        self.places.len()
+    }
+}
