@@ -129,6 +129,7 @@ impl Condition {
     }
 
     /// The negation; of an error it is an error.
+    #[allow(clippy::should_implement_trait)] // a constructor, named as the rules name it
     pub fn not(condition: Condition) -> Condition {
         Condition(Words::default().word(NOT, 0).all(condition.0))
     }

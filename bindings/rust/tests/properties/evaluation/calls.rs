@@ -1,0 +1,210 @@
+//! The three calls: tests in their order, the answer, and the written buffers at exit.
+
+use std::collections::BTreeSet;
+
+use super::lists;
+use super::plan::{self, Ending, Plan};
+use super::run::{self, Run};
+use super::tables::Tables;
+use super::words::*;
+
+#[derive(Clone, Copy, Debug, PartialEq)]
+pub enum How {
+    Done,
+    Spent,
+    Full,
+}
+
+/// What a served turn answers: steps, ending, state words, list words.
+pub type Answer = (u32, How, usize, usize);
+
+#[derive(Clone, Debug)]
+pub struct Open {
+    pub tables: Tables,
+    pub plan: Vec<u32>,
+    pub state: Vec<u32>,
+}
+
+#[derive(Clone, Debug)]
+pub struct Turn {
+    pub tables: Tables,
+    pub plan: Vec<u32>,
+    pub state: Vec<u32>,
+    pub given: usize,
+    pub quantum: u32,
+    pub threshold: Vec<u32>,
+    pub output: Vec<u32>,
+}
+
+#[derive(Clone, Debug)]
+pub struct Merge {
+    pub plan: Vec<u32>,
+    pub kept: Vec<u32>,
+    pub given: usize,
+    pub list: Vec<u32>,
+}
+
+/// Accepted tables and plan, and their uncut run.
+pub struct Query {
+    pub tables: Tables,
+    pub words: Vec<u32>,
+    pub plan: Plan,
+    pub run: Run,
+}
+
+/// Tests 5 and 6.
+pub fn accepted_plan(words: &[u32]) -> Result<Plan, u32> {
+    let plan = plan::read(words).ok_or(5u32)?;
+    plan.variables_right().then_some(plan).ok_or(6)
+}
+
+/// Tests 1 to 6, then the run; `None` if it has `most` steps or more.
+pub fn query(tables: &Tables, words: &[u32], most: usize) -> Result<Option<Query>, u32> {
+    let (orders, plan) = (tables.orders()?, accepted_plan(words)?);
+    let run = run::run(&orders, &plan, most);
+    Ok(run.map(|run| Query {
+        tables: tables.clone(),
+        words: words.to_vec(),
+        plan,
+        run,
+    }))
+}
+
+/// A buffer with words written over its front.
+fn written(buffer: &[u32], words: &[u32]) -> Vec<u32> {
+    words.iter().chain(&buffer[words.len()..]).copied().collect()
+}
+
+/// The answer to an opening whose tables and plan are those of `query`, and the state buffer at exit.
+pub fn open(query: &Query, call: &Open) -> (Result<usize, u32>, Vec<u32>) {
+    if call.state.len() < 9 {
+        return (Err(7), call.state.clone());
+    }
+    let start = query.run.saved(0);
+    (Ok(start.len()), written(&call.state, &start))
+}
+
+/// Test 9: the branch and places of the given words.
+fn state_of(plan: &Plan, call: &Turn) -> Option<Vec<u32>> {
+    let (first, places) = call.state.get(..call.given)?.split_first()?;
+    let (branch, depth) = (count(*first) / 16, count(*first) % 16);
+    let patterns = plan.branches.get(branch as usize)?.patterns.len();
+    let right = kind(*first) == STATE
+        && places.iter().all(|&word| kind(word) == PLACE)
+        && (1..=patterns).contains(&(depth as usize))
+        && places.len() == depth as usize;
+    right.then(|| [branch].into_iter().chain(places.iter().map(|&word| count(word))).collect())
+}
+
+/// Test 11.
+fn threshold_right(plan: &Plan, threshold: &[u32]) -> bool {
+    let row = matches!(plan.ending, Ending::Top(..)) && threshold.len() == plan.width();
+    threshold.is_empty() || row && threshold.iter().all(|&word| delivered(word))
+}
+
+/// Tests 7 to 11: how many steps the run makes to the given state.
+fn turn_start(query: &Query, call: &Turn) -> Result<usize, u32> {
+    if call.state.len() < 9 || call.output.len() < query.plan.least_output() {
+        return Err(7);
+    }
+    if !(1..=1_000_000).contains(&call.quantum) {
+        return Err(8);
+    }
+    let state = state_of(&query.plan, call).ok_or(9u32)?;
+    let number = query.run.number(&state).ok_or(10u32)?;
+    threshold_right(&query.plan, &call.threshold).then_some(number).ok_or(11)
+}
+
+/// What has been delivered in a turn, as far as space goes.
+struct Space<'a> {
+    plan: &'a Plan,
+    capacity: usize,
+    rows: usize,
+    groups: BTreeSet<&'a [u32]>,
+}
+
+impl<'a> Space<'a> {
+    /// The keys of a delivered row.
+    fn keys(&self, row: &'a [u32]) -> &'a [u32] {
+        &row[..row.len() - 1]
+    }
+
+    /// Whether the output has space for a row.
+    fn has_space(&self, row: &'a [u32]) -> bool {
+        match self.plan.ending {
+            Ending::Rows(_) => self.rows < self.capacity,
+            Ending::Top(..) => true,
+            Ending::Group(..) => self.groups.contains(self.keys(row)) || self.groups.len() < self.capacity,
+        }
+    }
+
+    fn take(&mut self, row: &'a [u32]) {
+        self.rows += 1;
+        self.groups.insert(self.keys(row));
+    }
+}
+
+/// The steps of a turn from a state that the run makes `start` steps to, and how it ends.
+fn walked(query: &Query, start: usize, quantum: usize, output: usize) -> (usize, How) {
+    let Query { plan, run, .. } = query;
+    let mut space = Space {
+        plan,
+        capacity: output / plan.width(),
+        rows: 0,
+        groups: BTreeSet::new(),
+    };
+    let mut at = start;
+    loop {
+        if let Some(row) = &run.delivered[at] {
+            space.take(row);
+        }
+        at += 1;
+        if at == run.steps() {
+            return (at - start, How::Done);
+        }
+        if at - start == quantum {
+            return (at - start, How::Spent);
+        }
+        if run.delivered[at].as_ref().is_some_and(|row| !space.has_space(row)) {
+            return (at - start, How::Full);
+        }
+    }
+}
+
+/// The answer to a turn whose tables and plan are those of `query`, and its state and output at exit.
+pub fn turn(query: &Query, call: &Turn) -> (Result<Answer, u32>, Vec<u32>, Vec<u32>) {
+    let start = match turn_start(query, call) {
+        Ok(start) => start,
+        Err(number) => return (Err(number), call.state.clone(), call.output.clone()),
+    };
+    let (steps, how) = walked(query, start, call.quantum as usize, call.output.len());
+    let rows: Vec<&[u32]> = query.run.delivered[start..start + steps]
+        .iter()
+        .flatten()
+        .map(|row| &row[..])
+        .collect();
+    let list = lists::list(&query.plan, &rows, &call.threshold);
+    let saved = if how == How::Done {
+        Vec::new()
+    } else {
+        query.run.saved(start + steps)
+    };
+    let answer = (steps as u32, how, saved.len(), list.len());
+    (Ok(answer), written(&call.state, &saved), written(&call.output, &list))
+}
+
+/// The merged list, or the number of the first test that fails.
+fn merged(call: &Merge) -> Result<Vec<u32>, u32> {
+    let plan = accepted_plan(&call.plan)?;
+    let kept = call.kept.get(..call.given).ok_or(12u32)?;
+    let list = lists::merged(&plan, kept, &call.list)?;
+    (list.len() <= call.kept.len()).then_some(list).ok_or(14)
+}
+
+/// The answer to a merge, and the kept buffer at exit.
+pub fn merge(call: &Merge) -> (Result<usize, u32>, Vec<u32>) {
+    match merged(call) {
+        Ok(list) => (Ok(list.len()), written(&call.kept, &list)),
+        Err(number) => (Err(number), call.kept.clone()),
+    }
+}

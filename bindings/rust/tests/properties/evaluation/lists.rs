@@ -1,0 +1,176 @@
+//! Best-of lists and groups: of delivered rows, and merged.
+
+use std::collections::BTreeMap;
+
+use super::plan::{Ending, Plan};
+use super::words::*;
+
+/// What a key list compares: each key's rank, turned round where it falls.
+fn sort_key(rows: &[u32], keys: &[(bool, u32)], row: &[u32]) -> Vec<(i64, i64)> {
+    let rank_of = |&(falls, key): &(bool, u32)| {
+        let column = rows.iter().position(|&v| v == key).expect("a key is a column");
+        let (kind, value) = rank(row[column]);
+        let sign = if falls { -1 } else { 1 };
+        (sign * i64::from(kind), sign * i64::from(value))
+    };
+    keys.iter().map(rank_of).collect()
+}
+
+/// A group's totals: rows, numbers, sum, and the least and greatest number.
+#[derive(Clone, Debug, Default)]
+struct Totals {
+    rows: u128,
+    numbers: u128,
+    sum: u128,
+    values: Option<(u32, u32)>,
+}
+
+/// Groups by the ranks of their keys, with the keys.
+type Groups = BTreeMap<Vec<(u32, u32)>, (Vec<u32>, Totals)>;
+
+impl Totals {
+    fn of_value(word: u32) -> Totals {
+        match term_kind(word) {
+            NUMBER => Totals {
+                rows: 1,
+                numbers: 1,
+                sum: term_value(word).into(),
+                values: Some((word, word)),
+            },
+            _ => Totals {
+                rows: 1,
+                ..Totals::default()
+            },
+        }
+    }
+
+    fn add(&mut self, other: &Totals) {
+        self.rows += other.rows;
+        self.numbers += other.numbers;
+        self.sum += other.sum;
+        self.values = match (self.values, other.values) {
+            (Some((a, b)), Some((c, d))) => Some((a.min(c), b.max(d))),
+            (one, other) => one.or(other),
+        };
+    }
+
+    /// The totals of the last eight words of a record, unless test 12 refuses them.
+    fn read(words: &[u32]) -> Option<Totals> {
+        let wide = |at: usize| u128::from(words[at]) + (u128::from(words[at + 1]) << 32);
+        let (rows, numbers, sum, least, greatest) = (wide(0), wide(2), wide(4), words[6], words[7]);
+        let values = match numbers {
+            0 if sum == 0 && least == UNBOUND && greatest == UNBOUND => None,
+            0 => return None,
+            _ if term_kind(least) == NUMBER && term_kind(greatest) == NUMBER && least <= greatest => Some((least, greatest)),
+            _ => return None,
+        };
+        (rows > 0 && numbers <= rows).then_some(Totals {
+            rows,
+            numbers,
+            sum,
+            values,
+        })
+    }
+
+    fn words(&self) -> Vec<u32> {
+        let (least, greatest) = self.values.unwrap_or((UNBOUND, UNBOUND));
+        let halves = [self.rows, self.numbers, self.sum]
+            .into_iter()
+            .flat_map(|total| [total as u32, (total >> 32) as u32]);
+        halves.chain([least, greatest]).collect()
+    }
+
+    fn fits(&self) -> bool {
+        [self.rows, self.numbers, self.sum].iter().all(|&total| total >> 64 == 0)
+    }
+}
+
+fn add_group(groups: &mut Groups, keys: &[u32], totals: &Totals) {
+    let ranks = keys.iter().map(|&word| rank(word)).collect();
+    groups
+        .entry(ranks)
+        .or_insert_with(|| (keys.to_vec(), Totals::default()))
+        .1
+        .add(totals);
+}
+
+fn record_words(groups: &Groups) -> Vec<u32> {
+    groups
+        .values()
+        .flat_map(|(keys, totals)| keys.iter().copied().chain(totals.words()))
+        .collect()
+}
+
+/// The list that delivered rows make.
+pub fn list(plan: &Plan, delivered: &[&[u32]], threshold: &[u32]) -> Vec<u32> {
+    match &plan.ending {
+        Ending::Rows(_) => delivered.concat(),
+        Ending::Top(_, rows, keys) => {
+            let key = |row: &&[u32]| sort_key(rows, keys, row);
+            let mut best = delivered.to_vec();
+            best.retain(|row| threshold.is_empty() || key(row) < key(&threshold));
+            best.sort_by_key(key);
+            best.truncate(plan.k());
+            best.concat()
+        }
+        Ending::Group(by, _) => {
+            let mut groups = Groups::new();
+            for row in delivered {
+                add_group(&mut groups, &row[..by.len()], &Totals::of_value(row[by.len()]));
+            }
+            record_words(&groups)
+        }
+    }
+}
+
+/// The groups of a list, unless test 12 refuses it.
+fn read_groups(keys: usize, list: &[u32]) -> Option<Vec<(&[u32], Totals)>> {
+    let records = list.chunks(keys + 8).map(|record| {
+        let (named, totals) = record.split_at_checked(keys)?;
+        let right = totals.len() == 8 && named.iter().all(|&word| delivered(word));
+        Some((named, Totals::read(right.then_some(totals)?)?))
+    });
+    let groups = records.collect::<Option<Vec<_>>>()?;
+    let ranks: Vec<Vec<_>> = groups
+        .iter()
+        .map(|(named, _)| named.iter().map(|&word| rank(word)).collect())
+        .collect();
+    ranks.windows(2).all(|pair| pair[0] < pair[1]).then_some(groups)
+}
+
+/// The rows of a list, unless test 12 refuses it.
+fn read_best<'a>(plan: &Plan, rows: &[u32], keys: &[(bool, u32)], list: &'a [u32]) -> Option<Vec<&'a [u32]>> {
+    let parts: Vec<&[u32]> = list.chunks(rows.len()).collect();
+    let whole = list.len() % rows.len() == 0 && parts.len() <= plan.k() && list.iter().all(|&word| delivered(word));
+    let ordered = || {
+        parts
+            .windows(2)
+            .all(|pair| sort_key(rows, keys, pair[0]) <= sort_key(rows, keys, pair[1]))
+    };
+    (whole && ordered()).then_some(parts)
+}
+
+/// The merged list, or the number of the test that fails, 12 or 13.
+pub fn merged(plan: &Plan, kept: &[u32], list: &[u32]) -> Result<Vec<u32>, u32> {
+    match &plan.ending {
+        Ending::Rows(_) => Err(12),
+        Ending::Top(_, rows, keys) => {
+            let kept = read_best(plan, rows, keys, kept).ok_or(12u32)?;
+            let made = read_best(plan, rows, keys, list).ok_or(12u32)?;
+            Ok(self::list(plan, &[kept, made].concat(), &[]))
+        }
+        Ending::Group(by, _) => {
+            let kept = read_groups(by.len(), kept).ok_or(12u32)?;
+            let made = read_groups(by.len(), list).ok_or(12u32)?;
+            let mut groups = Groups::new();
+            kept.iter()
+                .chain(&made)
+                .for_each(|(keys, totals)| add_group(&mut groups, keys, totals));
+            if groups.values().all(|(_, totals)| totals.fits()) {
+                Ok(record_words(&groups))
+            } else {
+                Err(13)
+            }
+        }
+    }
+}

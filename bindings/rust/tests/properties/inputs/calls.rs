@@ -1,0 +1,120 @@
+//! Random calls of a query: from any of its states, and merges of lists that no run need have made.
+
+use super::plans::some_constant;
+use super::random::Random;
+use super::woods::some_number;
+use crate::evaluation::calls::{Merge, Open, Query, Turn};
+use crate::evaluation::lists;
+use crate::evaluation::plan::Ending;
+use crate::evaluation::words::*;
+
+pub fn open(random: &mut Random, query: &Query) -> Open {
+    let spare = random.pick(&[0, 0, 1, 7]);
+    Open {
+        tables: query.tables.clone(),
+        plan: query.words.clone(),
+        state: random.words(9 + spare),
+    }
+}
+
+/// An output for a part of the rows or groups, and at least for what test 7 asks.
+pub fn output(random: &mut Random, query: &Query) -> Vec<u32> {
+    let parts = match query.plan.ending {
+        Ending::Top(..) => query.plan.k(),
+        _ => random.pick(&[1, 1, 2, 3, 5, 1000]),
+    };
+    let spare = random.pick(&[0, 0, 0, 1, 2, 5]);
+    random.words(parts * query.plan.width() + spare)
+}
+
+fn value(random: &mut Random, query: &Query) -> u32 {
+    match random.small(5) {
+        0 => UNBOUND,
+        1 => term(random.small(3), random.small(3)),
+        field => some_constant(random, &query.tables, field as usize - 2),
+    }
+}
+
+pub fn row(random: &mut Random, query: &Query, columns: usize) -> Vec<u32> {
+    (0..columns).map(|_| value(random, query)).collect()
+}
+
+fn threshold(random: &mut Random, query: &Query) -> Vec<u32> {
+    let rows: Vec<_> = query.run.delivered.iter().flatten().take(50).collect();
+    match query.plan.ending {
+        Ending::Top(..) if rows.is_empty() || random.chance(30) => row(random, query, query.plan.width()),
+        Ending::Top(..) if random.chance(60) => random.pick(&rows).clone(),
+        _ => Vec::new(),
+    }
+}
+
+/// A turn from a state that the run passes through.
+pub fn turn(random: &mut Random, query: &Query) -> Turn {
+    let steps = query.run.steps();
+    let mut state = query.run.saved(random.below(steps));
+    let given = state.len();
+    let spare = random.pick(&[0, 0, 1, 4]);
+    state.extend(random.words(9 + spare - given.min(9)));
+    let some = random.between(1, steps) as u32;
+    let quantum = random.pick(&[1, 2, some, steps as u32, 1_000_000]);
+    Turn {
+        tables: query.tables.clone(),
+        plan: query.words.clone(),
+        state,
+        given,
+        quantum,
+        threshold: threshold(random, query),
+        output: output(random, query),
+    }
+}
+
+fn totals(random: &mut Random) -> Vec<u32> {
+    let halves = |wide: u64| [wide as u32, (wide >> 32) as u32];
+    let rows = random.pick(&[1, 1, 2, 3, u32::MAX.into(), 1 << 32, 1 << 62, 1 << 63, u64::MAX - 1, u64::MAX]);
+    let numbers = random.pick(&[0, 1, rows, rows, rows / 2]);
+    let sum = random.pick(&[0, 1, 45, u32::MAX.into(), 1 << 32, 1 << 63, u64::MAX - 45, u64::MAX]);
+    if numbers == 0 {
+        return [&halves(rows)[..], &[0; 4], &[UNBOUND; 2]].concat();
+    }
+    let (one, other) = (some_number(random), some_number(random));
+    [halves(rows), halves(numbers), halves(sum), [one.min(other), one.max(other)]].concat()
+}
+
+/// A list in order, of rows or records from a few that no run need have made.
+fn list(random: &mut Random, query: &Query, pool: &[Vec<u32>]) -> Vec<u32> {
+    match &query.plan.ending {
+        Ending::Group(..) => {
+            let mut keys = random.some(pool, 0, pool.len());
+            keys.sort_by_key(|keys| keys.iter().map(|&word| rank(word)).collect::<Vec<_>>());
+            keys.dedup();
+            keys.into_iter().flat_map(|keys| [keys, totals(random)].concat()).collect()
+        }
+        _ => {
+            let many = random.below(2 * pool.len() + 1);
+            let rows: Vec<_> = (0..many).map(|_| random.pick(pool)).collect();
+            let lent: Vec<&[u32]> = rows.iter().map(|row| &row[..]).collect();
+            lists::list(&query.plan, &lent, &[])
+        }
+    }
+}
+
+/// A merge of two such lists.
+pub fn merge(random: &mut Random, query: &Query) -> Merge {
+    let columns = match &query.plan.ending {
+        Ending::Group(by, _) => by.len(),
+        _ => query.plan.width(),
+    };
+    let pool: Vec<_> = (0..random.pick(&[1, 3, 3, 6, 40]))
+        .map(|_| row(random, query, columns))
+        .collect();
+    let (mut kept, list) = (list(random, query, &pool), list(random, query, &pool));
+    let given = kept.len();
+    let spare = random.pick(&[0, 1, list.len(), list.len(), list.len() + 3]);
+    kept.extend(random.words(spare));
+    Merge {
+        plan: query.words.clone(),
+        kept,
+        given,
+        list,
+    }
+}

@@ -1,0 +1,233 @@
+//! Damage: calls with something changed, mostly beside a limit. Not all of them are wrong after it.
+
+use super::plans::{some_constant, tree};
+use super::random::Random;
+use crate::evaluation::calls::{Merge, Open, Query, Turn};
+use crate::evaluation::plan::{Condition, Ending, Plan};
+use crate::evaluation::tables::Tables;
+use crate::evaluation::words::*;
+
+/// One word changed, left out or doubled, two exchanged, or one more.
+fn nudge(random: &mut Random, words: &mut Vec<u32>, word: u32) {
+    if words.is_empty() {
+        return words.push(word);
+    }
+    let (at, other) = (random.below(words.len()), random.below(words.len()));
+    match random.small(7) {
+        0 => words.insert(at, word),
+        1 => drop(words.remove(at)),
+        2 => words.push(words[at]),
+        3 => words.swap(at, other),
+        4 => words[at] ^= 1 << random.small(32),
+        5 => words[at] = words[at].wrapping_add(random.pick(&[1, u32::MAX])),
+        _ => words[at] = word,
+    }
+}
+
+fn some_variable(random: &mut Random) -> u32 {
+    let near = random.small(18);
+    variable(random.pick(&[near, near, 15, 16, MOST_VALUE]))
+}
+
+/// A word that may stand in a plan, though perhaps nowhere.
+fn some_word(random: &mut Random, tables: &Tables) -> u32 {
+    let low = random.pick(&[0, 0, 1, 2, 4, 5, 6, 8, 9, 16, 17, 64, 65, MOST_COUNT]);
+    match random.small(3) {
+        0 => some_variable(random),
+        1 => marked(random.small(16), low),
+        _ => some_constant(random, tables, 2),
+    }
+}
+
+/// The plan's parts grown to about their limits.
+pub fn grown(random: &mut Random, query: &Query) -> Plan {
+    let mut plan = query.plan.clone();
+    let at = random.below(plan.branches.len());
+    let branch = &mut plan.branches[at];
+    let bound: Vec<u32> = branch.binds().into_iter().collect();
+    match random.small(6) {
+        0 => {
+            let not = |condition, _| Condition::Not(Box::new(condition));
+            branch.condition = (0..random.between(5, 8)).fold(branch.condition.clone(), not);
+        }
+        1 => {
+            let nodes = random.between(28, 33);
+            branch.condition = tree(random, &query.tables, &bound, nodes, 9);
+        }
+        2 => {
+            let many = random.pick(&[7, 8, 8, 9]);
+            branch.patterns = branch.patterns.iter().cycle().take(many).copied().collect();
+        }
+        3 => {
+            let many = random.pick(&[3, 4, 4, 5]);
+            plan.branches = plan.branches.iter().cycle().take(many).cloned().collect();
+        }
+        4 => {
+            let many = random.pick(&[4, 5, 16, 17]);
+            let patterns = [[0u32, 1, 2], [3, 4, 5], [6, 7, 8], [9, 10, 11], [12, 13, 14], [15, 16, 15]];
+            branch.patterns = patterns.map(|pattern| pattern.map(variable)).to_vec();
+            branch.patterns.truncate(usize::div_ceil(many, 3));
+            branch.patterns.insert(0, [name(MOST_VALUE - 9); 3]);
+            branch.condition = Condition::True;
+            let columns = (0..many as u32).collect();
+            plan.ending = match random.small(2) {
+                0 => Ending::Rows(columns),
+                _ => Ending::Group(columns, 0),
+            };
+        }
+        _ => {
+            if let Ending::Top(k, rows, keys) = &mut plan.ending {
+                *k = random.pick(&[0, 63, 64, 65]);
+                *keys = (0..random.pick(&[0, 4, 4, 5]))
+                    .map(|_| (random.chance(50), random.pick(rows)))
+                    .collect();
+            }
+        }
+    }
+    plan
+}
+
+fn plan_damage(random: &mut Random, query: &Query, words: &mut Vec<u32>) {
+    match random.small(6) {
+        0 => *words = grown(random, query).words(),
+        1 => words.truncate(random.below(words.len() + 1)),
+        2 => {
+            let (word, many) = (some_word(random, &query.tables), random.pick(&[1, 1, 250]));
+            words.extend(vec![word; many]);
+        }
+        3 if words.iter().any(|&word| term_kind(word) == VARIABLE) => {
+            let variables: Vec<usize> = (0..words.len()).filter(|&at| term_kind(words[at]) == VARIABLE).collect();
+            words[random.pick(&variables)] = some_variable(random);
+        }
+        4 if !words.is_empty() => {
+            let at = random.below(words.len());
+            words[at] = marked(
+                kind(words[at]),
+                random.pick(&[0, 1, count(words[at]) + 1, 5, 9, 17, 65]) & MOST_COUNT,
+            );
+        }
+        _ => {
+            let word = some_word(random, &query.tables);
+            nudge(random, words, word);
+        }
+    }
+}
+
+fn table_damage(random: &mut Random, tables: &mut Tables) {
+    let many = tables.rows.len() / 3;
+    match random.small(6) {
+        0 if many > 1 => {
+            let at = 3 * random.below(many - 1);
+            tables.rows.copy_within(at + 3..at + 6, at);
+        }
+        1 if many > 1 => {
+            let at = 3 * random.below(many - 1);
+            tables.rows[at..at + 6].rotate_left(3);
+        }
+        2 => {
+            let word = random.pick(&[UNBOUND, number(3), variable(2), name(5)]);
+            nudge(random, &mut tables.rows, word);
+        }
+        3 => {
+            tables.rows.extend([name(MOST_VALUE), name(MOST_VALUE), UNBOUND - 1]);
+            if random.chance(50) {
+                tables.pos.push(many as u32);
+                tables.osp.push(many as u32);
+            }
+        }
+        _ => {
+            let row = random.pick(&[0, many as u32, many as u32 + 1, u32::MAX]);
+            let list = if random.chance(50) { &mut tables.pos } else { &mut tables.osp };
+            nudge(random, list, row);
+        }
+    }
+}
+
+fn state_damage(random: &mut Random, query: &Query, call: &mut Turn) {
+    let given = call.given.min(call.state.len());
+    if given == 0 || random.chance(25) {
+        call.given = random.pick(&[
+            0,
+            1,
+            given.saturating_sub(1),
+            given + 1,
+            call.state.len(),
+            call.state.len() + 1,
+            usize::MAX,
+        ]);
+        return;
+    }
+    let at = random.below(given);
+    match random.small(6) {
+        0 => {
+            call.state[at] = marked(
+                random.pick(&[STATE, PLACE, PLACE, 1]),
+                random.pick(&[0, 1, 2, 3, 16, 17, 33, 65, MOST_COUNT]),
+            )
+        }
+        1 | 2 => call.state[at] = call.state[at].wrapping_add(random.pick(&[1, 1, 2, u32::MAX, u32::MAX - 1])),
+        3 => call.state[0] = call.state[0].wrapping_add(16 * random.pick(&[1, 1, 2, 3, 4])),
+        4 if given < call.state.len() => {
+            call.state[0] = call.state[0].wrapping_add(1);
+            call.state[given] = marked(PLACE, random.small(query.tables.pos.len() as u32 + 2));
+            call.given = given + 1;
+        }
+        _ => {
+            let other = query.run.saved(random.below(query.run.steps()));
+            call.state[at] = other[at.min(other.len() - 1)];
+        }
+    }
+}
+
+pub fn open(random: &mut Random, query: &Query, call: &mut Open) {
+    match random.small(5) {
+        0 | 1 => table_damage(random, &mut call.tables),
+        2 | 3 => plan_damage(random, query, &mut call.plan),
+        _ => call.state.truncate(random.pick(&[0, 1, 8, 8])),
+    }
+}
+
+pub fn turn(random: &mut Random, query: &Query, call: &mut Turn) {
+    match random.small(12) {
+        0 => table_damage(random, &mut call.tables),
+        1 | 2 => plan_damage(random, query, &mut call.plan),
+        3 => call.state.truncate(random.pick(&[0, 1, 8, 8])),
+        4 => call.quantum = random.pick(&[0, 1_000_001, u32::MAX]),
+        5 => call.output.truncate(random.pick(&[0, query.plan.least_output() - 1])),
+        6 | 7 => {
+            let word = random.pick(&[variable(1), u32::MAX, UNBOUND, number(1)]);
+            nudge(random, &mut call.threshold, word);
+        }
+        _ => state_damage(random, query, call),
+    }
+}
+
+pub fn merge(random: &mut Random, query: &Query, call: &mut Merge) {
+    let word = random.pick(&[
+        0,
+        1,
+        2,
+        UNBOUND,
+        UNBOUND + 1,
+        u32::MAX,
+        number(5),
+        number(MOST_VALUE),
+        name(3),
+    ]);
+    let given = call.given.min(call.kept.len());
+    match random.small(8) {
+        0 => plan_damage(random, query, &mut call.plan),
+        1 => call.given = random.pick(&[0, 1, given.saturating_sub(1), given + 1, call.kept.len() + 1, usize::MAX]),
+        2 => call.list = call.list.repeat(random.pick(&[2, 2, 12])),
+        3 => call.kept.truncate(given),
+        4 | 5 if !call.list.is_empty() => {
+            let at = random.below(call.list.len());
+            call.list[at] = word;
+        }
+        6 if given > 0 => {
+            let at = random.below(given);
+            call.kept[at] = word;
+        }
+        _ => nudge(random, &mut call.list, word),
+    }
+}

@@ -1,0 +1,7 @@
+//! Random inputs: woods and plans, calls of them, and damage.
+
+pub mod calls;
+pub mod damage;
+pub mod plans;
+pub mod random;
+pub mod woods;

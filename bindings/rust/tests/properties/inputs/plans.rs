@@ -1,0 +1,136 @@
+//! Random plans over tables.
+
+use super::random::Random;
+use super::woods::{some_number, wood};
+use crate::evaluation::calls::{self, Query};
+use crate::evaluation::plan::{Branch, Condition, Ending, Plan};
+use crate::evaluation::tables::Tables;
+use crate::evaluation::words::*;
+
+/// A term of any kind but a variable, often one of the tables'.
+pub fn some_constant(random: &mut Random, tables: &Tables, field: usize) -> u32 {
+    let rows = tables.rows.len() / 3;
+    match random.small(12) {
+        0..=8 if rows > 0 => tables.rows[3 * random.below(rows) + field],
+        9 => some_number(random),
+        10 => term(TEXT, random.small(4)),
+        _ => name(random.small(12)),
+    }
+}
+
+fn pattern(random: &mut Random, tables: &Tables, variables: &[u32]) -> [u32; 3] {
+    [(0, 80), (1, 30), (2, 65)].map(|(field, percent)| match random.chance(percent) {
+        true => variable(random.pick(variables)),
+        false => some_constant(random, tables, field),
+    })
+}
+
+fn leaf(random: &mut Random, tables: &Tables, variables: &[u32]) -> Condition {
+    if random.chance(8) {
+        return Condition::True;
+    }
+    let mut side = |percent| match !variables.is_empty() && random.chance(percent) {
+        true => variable(random.pick(variables)),
+        false => some_constant(random, tables, 2),
+    };
+    let (left, right) = (side(85), side(25));
+    Condition::Compare(random.small(6), left, right)
+}
+
+/// A tree of at most so many nodes and so deep.
+pub fn tree(random: &mut Random, tables: &Tables, variables: &[u32], nodes: usize, deep: usize) -> Condition {
+    if nodes == 1 || deep == 1 {
+        return leaf(random, tables, variables);
+    }
+    if nodes == 2 || random.chance(20) {
+        return Condition::Not(Box::new(tree(random, tables, variables, nodes - 1, deep - 1)));
+    }
+    let half = (nodes - 1) / 2;
+    let on_left = if random.chance(50) {
+        half
+    } else {
+        random.between(1, nodes - 2)
+    };
+    let left = Box::new(tree(random, tables, variables, on_left, deep - 1));
+    let right = Box::new(tree(random, tables, variables, nodes - 1 - on_left, deep - 1));
+    match random.chance(50) {
+        true => Condition::And(left, right),
+        false => Condition::Or(left, right),
+    }
+}
+
+fn branch(random: &mut Random, tables: &Tables, variables: &[u32]) -> Branch {
+    let many = random.pick(&[1, 1, 2, 2, 2, 2, 3, 3, 4, 5, 8]);
+    let patterns: Vec<_> = (0..many).map(|_| pattern(random, tables, variables)).collect();
+    let made = Branch {
+        patterns,
+        condition: Condition::True,
+    };
+    let bound: Vec<u32> = made.binds().into_iter().collect();
+    let nodes = random.pick(&[1, 1, 1, 1, 2, 3, 3, 5, 8, 31]);
+    match random.chance(35) {
+        true => made,
+        false => Branch {
+            condition: tree(random, tables, &bound, nodes, 8),
+            ..made
+        },
+    }
+}
+
+/// An ending of one of the three kinds; the variables are those that some branch binds.
+pub fn ending(random: &mut Random, variables: &[u32]) -> Ending {
+    let most = random.pick(&[1, 2, 2, 3, 16]);
+    let columns = random.some(variables, 1, most);
+    match random.small(3) {
+        0 => Ending::Rows(columns),
+        1 => {
+            let k = random.pick(&[0, 1, 1, 2, 2, 3, 5, 10, 64]);
+            let keys = (0..random.pick(&[1, 1, 2, 3, 4]))
+                .map(|_| (random.chance(50), random.pick(&columns)))
+                .collect();
+            Ending::Top(k, columns, keys)
+        }
+        _ => {
+            let most = random.pick(&[0, 1, 1, 2, 4]);
+            Ending::Group(random.some(variables, 0, most), random.pick(variables))
+        }
+    }
+}
+
+/// A plan that tests 5 and 6 pass, unless it is too long.
+pub fn plan(random: &mut Random, tables: &Tables) -> Plan {
+    let first = random.pick(&[0, 0, 0, 10]);
+    let variables: Vec<u32> = (first..first + random.pick(&[1, 2, 3, 3, 4, 5, 6])).collect();
+    loop {
+        let many = random.pick(&[1, 1, 1, 1, 2, 2, 3, 4]);
+        let branches: Vec<Branch> = (0..many).map(|_| branch(random, tables, &variables)).collect();
+        let mut bound: Vec<u32> = branches.iter().flat_map(Branch::binds).collect();
+        bound.sort();
+        bound.dedup();
+        if !bound.is_empty() {
+            return Plan {
+                ending: ending(random, &bound),
+                branches,
+            };
+        }
+    }
+}
+
+/// A wood and a plan of fewer steps than `most`, mostly with about so many deliveries.
+pub fn query(random: &mut Random, rows: &[usize], most: usize, deliveries: usize) -> Query {
+    loop {
+        let most_rows = random.pick(rows);
+        let tables = wood(random, most_rows);
+        let words = plan(random, &tables).words();
+        if let Ok(Some(query)) = calls::query(&tables, &words, most) {
+            if query.run.delivered.iter().flatten().count() >= deliveries || random.chance(5) {
+                return query;
+            }
+        }
+    }
+}
+
+pub fn short_query(random: &mut Random) -> Query {
+    let (few, deliveries) = (random.below(13), random.pick(&[0, 1, 4, 20]));
+    query(random, &[0, few, few, 25, 60, 150], 3_000, deliveries)
+}

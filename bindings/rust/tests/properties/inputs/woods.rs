@@ -1,0 +1,38 @@
+//! Random tables.
+
+use super::random::Random;
+use crate::evaluation::tables::Tables;
+use crate::evaluation::words::*;
+
+/// A number, mostly small, now and then at an end of its range.
+pub fn some_number(random: &mut Random) -> u32 {
+    let value = random.small(7);
+    number(random.pick(&[value, value, value, 45, 310, MOST_VALUE - 1, MOST_VALUE]))
+}
+
+/// Tables of at most so many rows. Names are few, so that patterns join; predicates may be names of subjects too.
+pub fn wood(random: &mut Random, rows: usize) -> Tables {
+    let few = random.pick(&[3, 6, rows as u32 / 2 + 3]);
+    let (names, predicates) = (2 + random.small(few), 1 + random.small(4));
+    let first_predicate = random.pick(&[0, 10, 10, MOST_VALUE - 3]);
+    let row = |random: &mut Random| {
+        let (subject, other) = (name(random.small(names)), name(random.small(names)));
+        let predicate = name(first_predicate + random.small(predicates));
+        let object = match random.small(10) {
+            0..=3 => other,
+            4 => predicate,
+            5..=7 => some_number(random),
+            8 => number(random.small(1 << 20)),
+            _ => term(TEXT, random.small(4)),
+        };
+        [subject, predicate, object]
+    };
+    Tables::of((0..rows).map(|_| row(random)).collect())
+}
+
+/// A wood of stems as the three-stem wood has them: a stand (n10) and a diameter (n12) each.
+pub fn stems(random: &mut Random, many: u32) -> Tables {
+    let stand = |random: &mut Random, stem| [name(1_000_000 + stem), name(10), name(100 + random.small(20))];
+    let size = |random: &mut Random, stem| [name(1_000_000 + stem), name(12), number(20 + random.small(600))];
+    Tables::of((0..many).flat_map(|stem| [stand(random, stem), size(random, stem)]).collect())
+}

@@ -1,0 +1,12 @@
+//! Every call compared with the evaluation, on many inputs, long and short, valid and damaged: the answer, and each word of each
+//! buffer, with guard words around it. Then what the crate adds to the calls: builder, readers, kept list and turns.
+//!
+//! SOTJARN_CASES sets how many woods and plans each test makes, SOTJARN_SEED where their seeds start.
+
+mod checking;
+mod client;
+mod evaluation;
+mod guarded;
+mod inputs;
+mod long;
+mod short;

@@ -1,0 +1,184 @@
+//! The worked cases of the three-stem wood, through the crate alone.
+
+use sotjarn::Term::{Name, Number};
+use sotjarn::{open, turn, Branch, Comparison, Condition, Group, Kept, Key, List, Place, Plan, PlanBuilder, Query, Refusal, State};
+use sotjarn::{TableWords, Tables, TurnEnding, Value, Variable};
+
+const STEM: Variable = Variable(0);
+const SIZE: Variable = Variable(1);
+
+fn wood() -> TableWords {
+    let stem = |(stem, size)| [[Name(stem), Name(10), Name(100)], [Name(stem), Name(12), Number(size)]];
+    TableWords::from_rows([(1, 45), (2, 310), (3, 310)].into_iter().flat_map(stem)).expect("every value fits")
+}
+
+fn branch(condition: Condition) -> Branch {
+    Branch::new()
+        .pattern(STEM, Name(10), Name(100))
+        .pattern(STEM, Name(12), SIZE)
+        .condition(condition)
+}
+
+fn at_least_70() -> Condition {
+    Condition::compare(SIZE, Comparison::AtLeast, Number(70))
+}
+
+fn one(condition: Condition) -> PlanBuilder {
+    Plan::builder().branch(branch(condition))
+}
+
+fn plan_a() -> Plan {
+    one(at_least_70()).rows([STEM, SIZE]).expect("every value fits")
+}
+
+/// Each turn's steps and ending, and the list kept of them all.
+fn run(tables: Tables, plan: &Plan, quantum: u32, output: usize) -> (Vec<(u32, TurnEnding)>, List) {
+    let mut query = Query::open(tables, plan.words()).expect("the opening is accepted");
+    let (mut kept, mut turns) = (Kept::new(plan), Vec::new());
+    for turn in query.turns(quantum, output) {
+        let turn = turn.expect("the turn is served");
+        kept.take(&turn.list).expect("the list is taken");
+        turns.push((turn.steps, turn.ending));
+    }
+    (turns, kept.list().expect("a list of the plan"))
+}
+
+fn row(stem: u32, size: u32) -> Vec<Value> {
+    vec![Value::Name(stem), Value::Number(size)]
+}
+
+#[test]
+fn the_tables_are_those_of_the_rules() {
+    let wood = wood();
+    assert_eq!(
+        (&wood.pos[..], &wood.osp[..]),
+        (&[0, 2, 4, 1, 3, 5][..], &[0, 2, 4, 1, 3, 5][..])
+    );
+}
+
+#[test]
+fn plan_a_in_full() {
+    let (turns, list) = run(wood().tables(), &plan_a(), 10, 128);
+    assert_eq!(turns, [(10, TurnEnding::Done)]);
+    assert_eq!(list, List::Rows(vec![row(2, 310), row(3, 310)]));
+}
+
+#[test]
+fn turns_of_four_steps() {
+    let (turns, list) = run(wood().tables(), &plan_a(), 4, 128);
+    assert_eq!(turns, [(4, TurnEnding::Spent), (4, TurnEnding::Spent), (2, TurnEnding::Done)]);
+    assert_eq!(list, List::Rows(vec![row(2, 310), row(3, 310)]));
+}
+
+#[test]
+fn nine_steps_are_spent_at_place_3() {
+    let (wood, plan) = (wood(), plan_a());
+    let mut query = Query::open(wood.tables(), plan.words()).expect("the opening is accepted");
+    let turned = query.turn(9, &[], &mut [0; 4]).expect("the turn is served");
+    assert_eq!((turned.steps, turned.ending), (9, TurnEnding::Spent));
+    assert_eq!(
+        State::read(query.state()),
+        Ok(State {
+            branch: 0,
+            places: vec![Place(3)]
+        })
+    );
+}
+
+#[test]
+fn an_output_of_one_row_is_full_after_seven_steps() {
+    let (turns, list) = run(wood().tables(), &plan_a(), 10, 2);
+    assert_eq!(turns, [(7, TurnEnding::Full), (3, TurnEnding::Done)]);
+    assert_eq!(list, List::Rows(vec![row(2, 310), row(3, 310)]));
+}
+
+#[test]
+fn states_of_the_run_are_accepted_and_others_refused() {
+    let (wood, plan) = (wood(), plan_a());
+    let accepted = |places: &[u32]| {
+        let words = [0xE000_0000 + places.len() as u32]
+            .into_iter()
+            .chain(places.iter().map(|place| 0xF000_0000 + place));
+        Query::load(wood.tables(), plan.words(), &words.collect::<Vec<_>>())
+            .turn(1, &[], &mut [0; 4])
+            .map(|turned| turned.steps)
+    };
+    assert_eq!(accepted(&[0, 2]), Ok(1));
+    assert_eq!(accepted(&[3]), Ok(1));
+    assert_eq!(accepted(&[0, 3]), Err(Refusal::StateNotPassed));
+    assert_eq!(accepted(&[4]), Err(Refusal::StateNotPassed));
+}
+
+#[test]
+fn two_equal_branches_deliver_twice() {
+    let plan = one(at_least_70())
+        .branch(branch(at_least_70()))
+        .rows([STEM, SIZE])
+        .expect("every value fits");
+    let (turns, list) = run(wood().tables(), &plan, 100, 128);
+    assert_eq!(turns, [(20, TurnEnding::Done)]);
+    assert_eq!(list, List::Rows(vec![row(2, 310), row(3, 310), row(2, 310), row(3, 310)]));
+}
+
+#[test]
+fn the_first_of_equal_rows_is_kept() {
+    let plan = one(at_least_70())
+        .top(1, [STEM, SIZE], [Key::Falling(SIZE)])
+        .expect("every value fits");
+    for quantum in 1..=10 {
+        assert_eq!(run(wood().tables(), &plan, quantum, 2).1, List::Rows(vec![row(2, 310)]));
+    }
+}
+
+#[test]
+fn a_group_of_no_variable() {
+    let plan = one(Condition::always()).group([], SIZE).expect("every value fits");
+    let group = Group {
+        keys: vec![],
+        rows: 3,
+        numbers: 3,
+        sum: 665,
+        least: Some(45),
+        greatest: Some(310),
+    };
+    for quantum in 1..=10 {
+        assert_eq!(run(wood().tables(), &plan, quantum, 8).1, List::Groups(vec![group.clone()]));
+    }
+}
+
+#[test]
+fn no_rows_are_done_after_one_step() {
+    let (turns, list) = run(TableWords::default().tables(), &plan_a(), 10, 2);
+    assert_eq!((turns, list), (vec![(1, TurnEnding::Done)], List::Rows(vec![])));
+}
+
+#[test]
+fn errors_are_neither_true_nor_false() {
+    let error = || Condition::compare(Name(1), Comparison::Less, Number(5));
+    let truth = Condition::compare(Number(1), Comparison::Equal, Number(1));
+    let rows = |condition| match run(
+        wood().tables(),
+        &one(condition).rows([STEM]).expect("every value fits"),
+        10,
+        9,
+    )
+    .1
+    {
+        List::Rows(rows) => rows.len(),
+        List::Groups(_) => unreachable!("the plan ends in rows"),
+    };
+    assert_eq!(rows(Condition::not(error())), 0);
+    assert_eq!(rows(Condition::or(truth, error())), 3);
+}
+
+#[test]
+fn a_list_ending_3_3_is_refused_by_4() {
+    let (mut wood, plan) = (wood(), plan_a());
+    wood.pos = vec![0, 2, 4, 1, 3, 3];
+    assert_eq!(open(wood.tables(), plan.words(), &mut [0; 9]), Err(Refusal::RowNumbers));
+    assert_eq!(
+        turn(wood.tables(), plan.words(), &mut [0; 9], 2, 1, &[], &mut [0; 2]),
+        Err(Refusal::RowNumbers)
+    );
+    assert_eq!(Refusal::RowNumbers.code(), 4);
+}
