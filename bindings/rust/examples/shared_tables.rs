@@ -1,0 +1,210 @@
+//! One thread serves turns over shared tables; several clients send their plans and saved states, and merge what comes back.
+//!
+//! The service keeps nothing of a query between turns: the state goes back to the client with each turn's list. How many steps a
+//! turn gets changes from turn to turn; the totals do not.
+//!
+//!     cargo run --example shared_tables
+
+use std::error::Error;
+use std::sync::mpsc::{channel, Receiver, Sender};
+use std::sync::Arc;
+use std::thread;
+
+use sotjarn::Term::{Name, Number};
+use sotjarn::{Branch, Comparison, Condition, Kept, Key, List, Plan, Query, Refusal, TableWords, Turn, TurnEnding, Variable};
+
+const STEM: Variable = Variable(0);
+const STAND: Variable = Variable(1);
+const SIZE: Variable = Variable(2);
+
+/// The words of a turn's output on the service.
+const OUTPUT_WORDS: usize = 256;
+
+/// What a client sends: its plan, its saved state (none at first), and a threshold or none.
+struct Request {
+    plan: Vec<u32>,
+    state: Vec<u32>,
+    threshold: Vec<u32>,
+    reply: Sender<Result<Reply, Refusal>>,
+}
+
+/// What the service sends back: the turn, and the state for the next one.
+struct Reply {
+    turn: Turn,
+    state: Vec<u32>,
+}
+
+/// What a client has at the end of its query.
+struct Finished {
+    turns: u32,
+    steps: u64,
+    list: List,
+}
+
+/// Quanta that follow no pattern: a small generator (xorshift).
+struct Quanta(u32);
+
+impl Quanta {
+    fn next(&mut self) -> u32 {
+        self.0 ^= self.0 << 13;
+        self.0 ^= self.0 >> 17;
+        self.0 ^= self.0 << 5;
+        1 + self.0 % 5_000
+    }
+}
+
+/// One turn for a client.
+fn serve_turn(wood: &TableWords, request: &Request, quantum: u32) -> Result<Reply, Refusal> {
+    let mut query = match request.state.is_empty() {
+        true => Query::open(wood.tables(), &request.plan)?,
+        false => Query::load(wood.tables(), &request.plan, &request.state),
+    };
+    let mut output = [0; OUTPUT_WORDS];
+    let turned = query.turn(quantum, &request.threshold, &mut output)?;
+    let list = output[..turned.list_words].to_vec();
+    Ok(Reply {
+        turn: Turn {
+            steps: turned.steps,
+            ending: turned.ending,
+            list,
+        },
+        state: query.state().to_vec(),
+    })
+}
+
+/// The service: takes requests as they come, until every client has gone.
+fn serve(wood: Arc<TableWords>, requests: Receiver<Request>) -> u64 {
+    let mut quanta = Quanta(2_463_534_242);
+    let mut served = 0;
+    for request in requests {
+        let answer = serve_turn(&wood, &request, quanta.next());
+        served += u64::from(answer.is_ok());
+        // A client that has gone away needs no answer.
+        let _ = request.reply.send(answer);
+    }
+    served
+}
+
+/// A client: sends its query until it is done, and takes each list as it comes.
+fn ask(plan: &Plan, service: Sender<Request>) -> Result<Finished, Box<dyn Error + Send + Sync>> {
+    let (reply, replies) = channel();
+    let (mut kept, mut state) = (Kept::new(plan), Vec::new());
+    let (mut turns, mut steps) = (0, 0);
+    loop {
+        let (plan, threshold) = (plan.words().to_vec(), kept.threshold().to_vec());
+        service
+            .send(Request {
+                plan,
+                state,
+                threshold,
+                reply: reply.clone(),
+            })
+            .map_err(|_| "the service has gone")?;
+        let answer = replies.recv()??;
+        kept.take(&answer.turn.list)?;
+        turns += 1;
+        steps += u64::from(answer.turn.steps);
+        state = answer.state;
+        if answer.turn.ending == TurnEnding::Done {
+            return Ok(Finished {
+                turns,
+                steps,
+                list: kept.list()?,
+            });
+        }
+    }
+}
+
+/// A wood of so many stems, each with its stand (n10) and its diameter (n12).
+fn wood(stems: u32) -> TableWords {
+    let stem = |stem: u32| {
+        let (stand, size) = (
+            100 + stem.wrapping_mul(2_654_435_761) % 7,
+            20 + stem.wrapping_mul(40_507) % 600,
+        );
+        [[Name(stem), Name(10), Name(stand)], [Name(stem), Name(12), Number(size)]]
+    };
+    TableWords::from_rows((0..stems).flat_map(stem)).expect("every value fits in 30 bits")
+}
+
+/// Stems with stand and diameter, from a diameter on.
+fn stems(least: u32) -> Branch {
+    let condition = Condition::compare(SIZE, Comparison::AtLeast, Number(least));
+    Branch::new()
+        .pattern(STEM, Name(10), STAND)
+        .pattern(STEM, Name(12), SIZE)
+        .condition(condition)
+}
+
+fn print(owner: &str, finished: &Finished) {
+    println!("{owner}: {} steps", finished.steps);
+    match &finished.list {
+        List::Rows(rows) => {
+            for row in rows {
+                println!(
+                    "  {}",
+                    row.iter().map(|value| value.to_string()).collect::<Vec<_>>().join(" ")
+                );
+            }
+        }
+        List::Groups(groups) => {
+            for group in groups {
+                let keys: Vec<String> = group.keys.iter().map(|value| value.to_string()).collect();
+                let (least, greatest) = (group.least.unwrap_or_default(), group.greatest.unwrap_or_default());
+                println!(
+                    "  {:5} {} stems, sum {}, {least} to {greatest}",
+                    keys.join(" "),
+                    group.rows,
+                    group.sum
+                );
+            }
+        }
+    }
+}
+
+fn main() -> Result<(), Box<dyn Error + Send + Sync>> {
+    let wood = Arc::new(wood(5_000));
+    let owners = [
+        ("totals by stand", Plan::builder().branch(stems(70)).group([STAND], SIZE)?),
+        ("the whole wood", Plan::builder().branch(stems(0)).group([], SIZE)?),
+        (
+            "the five largest",
+            Plan::builder().branch(stems(0)).top(5, [STEM, SIZE], [Key::Falling(SIZE)])?,
+        ),
+        (
+            "stems of 618 and more",
+            Plan::builder().branch(stems(618)).rows([STEM, STAND, SIZE])?,
+        ),
+    ];
+
+    let (service, requests) = channel();
+    let shared = Arc::clone(&wood);
+    let server = thread::spawn(move || serve(shared, requests));
+    let clients: Vec<_> = owners
+        .iter()
+        .cloned()
+        .map(|(_, plan)| {
+            let service = service.clone();
+            thread::spawn(move || ask(&plan, service))
+        })
+        .collect();
+    drop(service);
+
+    let mut turns = 0;
+    for ((owner, plan), client) in owners.iter().zip(clients) {
+        let finished = client.join().expect("the client ends")?;
+        print(owner, &finished);
+        turns += u64::from(finished.turns);
+
+        // The same query in one turn gives the same list.
+        let mut uncut = Query::open(wood.tables(), plan.words())?;
+        let whole = uncut.turns(sotjarn::MOST_STEPS, 1 << 16).next().expect("a first turn")?;
+        assert_eq!(
+            (u64::from(whole.steps), plan.read(&whole.list)?),
+            (finished.steps, finished.list)
+        );
+    }
+    assert_eq!(server.join().expect("the service ends"), turns);
+    println!("every list is that of the uncut run");
+    Ok(())
+}
