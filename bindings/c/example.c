@@ -1,0 +1,248 @@
+/* The three-stem wood from C: a row query in turns of four steps, a best-of list with a threshold, totals merged turn by turn, and a
+ * refused call. Each buffer comes from malloc with exactly the words it needs, so that a memory checker sees every word beside it.
+ * Compiles as C99 and as C++. Prints what it does; exits with 1 where something is not as the rules say. */
+#include "sotjarn.h"
+
+#include <inttypes.h>
+#include <stdio.h>
+#include <stdlib.h>
+#include <string.h>
+
+/* Terms and plan words. */
+#define NAME(value) ((uint32_t)(value))
+#define NUMBER(value) (UINT32_C(1) << 30 | (uint32_t)(value))
+#define VARIABLE(number) (UINT32_C(3) << 30 | (uint32_t)(number))
+#define PLAN_WORD(kind, count) ((uint32_t)(kind) << 28 | (uint32_t)(count))
+
+enum { HEAD = 1, BRANCH = 2, TRUTH = 3, COMPARISON = 7, ROWS = 8, TOP = 9, FALLING = 11, GROUP = 12 };
+enum { AT_LEAST = 5 };
+
+/* The branch that the plans share: ?0 n10 n100, ?0 n12 ?1. */
+#define PATTERNS \
+    PLAN_WORD(HEAD, 1), PLAN_WORD(BRANCH, 2), VARIABLE(0), NAME(10), NAME(100), VARIABLE(0), NAME(12), VARIABLE(1)
+
+static const uint32_t plan_rows[] = {PATTERNS, PLAN_WORD(COMPARISON, AT_LEAST), VARIABLE(1), NUMBER(70),
+                                     PLAN_WORD(ROWS, 2), VARIABLE(0), VARIABLE(1)};
+static const uint32_t plan_top[] = {PATTERNS, PLAN_WORD(TRUTH, 0),
+                                    PLAN_WORD(TOP, 1), PLAN_WORD(ROWS, 2), VARIABLE(0), VARIABLE(1), PLAN_WORD(FALLING, 1)};
+static const uint32_t plan_group[] = {PATTERNS, PLAN_WORD(TRUTH, 0), PLAN_WORD(GROUP, 0), VARIABLE(1)};
+
+static const uint32_t wood_rows[] = {
+    NAME(1), NAME(10), NAME(100), NAME(1), NAME(12), NUMBER(45),
+    NAME(2), NAME(10), NAME(100), NAME(2), NAME(12), NUMBER(310),
+    NAME(3), NAME(10), NAME(100), NAME(3), NAME(12), NUMBER(310)};
+static const uint32_t wood_list[] = {0, 2, 4, 1, 3, 5};
+
+/* An address for a buffer without words: none may be null. */
+static const uint32_t no_words[1] = {0};
+
+/* A buffer of its own: an address and a length in words. */
+struct buffer {
+    uint32_t *words;
+    size_t len;
+};
+
+/* The tables and the plan, which go with every turn of a query. */
+struct query {
+    struct buffer rows, pos, osp, plan;
+};
+
+static void expect(int right, const char *what)
+{
+    if (!right) {
+        fprintf(stderr, "not as the rules say: %s\n", what);
+        exit(1);
+    }
+}
+
+static struct buffer make_buffer(size_t len)
+{
+    struct buffer made;
+    made.words = (uint32_t *)malloc((len == 0 ? 1 : len) * sizeof(uint32_t));
+    made.len = len;
+    expect(made.words != NULL, "there is memory");
+    return made;
+}
+
+static struct buffer copied(const uint32_t *words, size_t len)
+{
+    struct buffer made = make_buffer(len);
+    memcpy(made.words, words, len * sizeof(uint32_t));
+    return made;
+}
+
+static struct query make_query(const uint32_t *plan, size_t plan_len)
+{
+    struct query made;
+    made.rows = copied(wood_rows, sizeof wood_rows / sizeof *wood_rows);
+    made.pos = copied(wood_list, sizeof wood_list / sizeof *wood_list);
+    made.osp = copied(wood_list, sizeof wood_list / sizeof *wood_list);
+    made.plan = copied(plan, plan_len);
+    return made;
+}
+
+static void free_query(struct query *query)
+{
+    free(query->rows.words);
+    free(query->pos.words);
+    free(query->osp.words);
+    free(query->plan.words);
+}
+
+static struct sotjarn_written open_query(const struct query *q, struct buffer state)
+{
+    return sotjarn_open(q->rows.words, q->rows.len, q->pos.words, q->pos.len, q->osp.words, q->osp.len,
+                        q->plan.words, q->plan.len, state.words, state.len);
+}
+
+static struct sotjarn_turned run_turn(const struct query *q, struct buffer state, size_t state_words, uint32_t quantum,
+                                      const uint32_t *threshold, size_t threshold_len, struct buffer output)
+{
+    return sotjarn_turn(q->rows.words, q->rows.len, q->pos.words, q->pos.len, q->osp.words, q->osp.len,
+                        q->plan.words, q->plan.len, state.words, state.len, state_words, quantum,
+                        threshold, threshold_len, output.words, output.len);
+}
+
+static const char *ending_name(uint32_t ending)
+{
+    static const char *const names[] = {"done", "spent", "full", "refused"};
+    return names[ending];
+}
+
+/* A term as n5, i5 or t5; - is unbound. */
+static void print_term(uint32_t word)
+{
+    if (word == VARIABLE(0))
+        printf(" -");
+    else
+        printf(" %c%" PRIu32, "nit?"[word >> 30], word & UINT32_C(0x3FFFFFFF));
+}
+
+static void print_rows(const uint32_t *list, size_t words, size_t width)
+{
+    for (size_t at = 0; at < words; at += width) {
+        printf("row");
+        for (size_t column = 0; column < width; column++)
+            print_term(list[at + column]);
+        printf("\n");
+    }
+}
+
+/* Two words as one number, the low word first. */
+static uint64_t wide(const uint32_t *words)
+{
+    return (uint64_t)words[1] << 32 | words[0];
+}
+
+/* Rows, in turns of four steps: the lists are joined end to end. */
+static void rows_in_turns(void)
+{
+    struct query query = make_query(plan_rows, sizeof plan_rows / sizeof *plan_rows);
+    struct buffer state = make_buffer(SOTJARN_STATE_WORDS), output = make_buffer(2 * 64);
+    struct sotjarn_written opened = open_query(&query, state);
+    size_t state_words = opened.words, delivered = 0;
+    uint32_t steps = 0, turns = 0;
+    struct sotjarn_turned turned;
+    expect(opened.refused == 0, "the opening is accepted");
+    do {
+        turned = run_turn(&query, state, state_words, 4, no_words, 0, output);
+        expect(turned.ending != SOTJARN_REFUSED, "the turn is served");
+        printf("turn %" PRIu32 " steps %" PRIu32 " %s\n", ++turns, turned.steps, ending_name(turned.ending));
+        print_rows(output.words, turned.list_words, 2);
+        state_words = turned.state_words;
+        delivered += turned.list_words / 2;
+        steps += turned.steps;
+    } while (turned.ending != SOTJARN_DONE);
+    expect(turns == 3 && steps == 10 && delivered == 2 && state_words == 0, "3 turns, 10 steps, 2 rows");
+    free(state.words);
+    free(output.words);
+    free_query(&query);
+}
+
+/* Runs a query to its end in turns, merging each list into the kept one as it comes, and gives the words kept. Once the kept list is
+ * full, its last `row_words` words go with the next turn as threshold; 0 for groups, which have none. */
+static size_t merge_in_turns(const struct query *query, uint32_t quantum, struct buffer kept, size_t row_words)
+{
+    struct buffer state = make_buffer(SOTJARN_STATE_WORDS), output = make_buffer(kept.len);
+    struct sotjarn_written opened = open_query(query, state), merged;
+    size_t state_words = opened.words, kept_words = 0;
+    struct sotjarn_turned turned;
+    expect(opened.refused == 0, "the opening is accepted");
+    do {
+        int full = row_words > 0 && kept_words == kept.len;
+        const uint32_t *threshold = full ? kept.words + kept_words - row_words : no_words;
+        turned = run_turn(query, state, state_words, quantum, threshold, full ? row_words : 0, output);
+        expect(turned.ending != SOTJARN_REFUSED, "the turn is served");
+        merged = sotjarn_merge(query->plan.words, query->plan.len, kept.words, kept.len, kept_words, output.words, turned.list_words);
+        expect(merged.refused == 0, "the merge is accepted");
+        state_words = turned.state_words;
+        kept_words = merged.words;
+    } while (turned.ending != SOTJARN_DONE);
+    free(state.words);
+    free(output.words);
+    return kept_words;
+}
+
+/* The largest stem. */
+static void best_of(void)
+{
+    struct query query = make_query(plan_top, sizeof plan_top / sizeof *plan_top);
+    struct buffer kept = make_buffer(2);
+    size_t words = merge_in_turns(&query, 1, kept, 2);
+    expect(words == 2 && kept.words[0] == NAME(2) && kept.words[1] == NUMBER(310), "the first of the largest stems");
+    printf("largest:\n");
+    print_rows(kept.words, words, 2);
+    free(kept.words);
+    free_query(&query);
+}
+
+/* The totals of all stems. */
+static void totals(void)
+{
+    struct query query = make_query(plan_group, sizeof plan_group / sizeof *plan_group);
+    struct buffer kept = make_buffer(8);
+    size_t words = merge_in_turns(&query, 3, kept, 0);
+    expect(words == 8 && wide(kept.words) == 3 && wide(kept.words + 4) == 665, "one group of 3 rows, and their sum");
+    printf("group %" PRIu64 " %" PRIu64 " %" PRIu64, wide(kept.words), wide(kept.words + 2), wide(kept.words + 4));
+    print_term(kept.words[6]);
+    print_term(kept.words[7]);
+    printf("\n");
+    free(kept.words);
+    free_query(&query);
+}
+
+/* Calls that are refused by number and change nothing: short buffers, tables out of order, a quantum of 0, merged rows. */
+static void refusals(void)
+{
+    struct query query = make_query(plan_rows, sizeof plan_rows / sizeof *plan_rows);
+    struct buffer state = make_buffer(SOTJARN_STATE_WORDS), output = make_buffer(2), short_state = make_buffer(8);
+    struct sotjarn_turned turned;
+    struct sotjarn_written merged;
+    memset(short_state.words, 0, short_state.len * sizeof(uint32_t));
+    expect(open_query(&query, short_state).refused == 7, "a state buffer of 8 words is refused by 7");
+    expect(open_query(&query, state).words == 2, "a start state has two words");
+    output.words[0] = output.words[1] = 12345;
+    turned = run_turn(&query, state, 2, 0, no_words, 0, output);
+    printf("quantum 0: %s by %" PRIu32 "\n", ending_name(turned.ending), turned.refused);
+    expect(turned.refused == 8 && turned.steps == 0 && turned.list_words == 0, "a quantum of 0 is refused by 8");
+    expect(output.words[0] == 12345 && output.words[1] == 12345, "a refused turn writes nothing");
+    merged = sotjarn_merge(query.plan.words, query.plan.len, output.words, output.len, 0, no_words, 0);
+    expect(merged.refused == 12, "the lists of a row query are not merged");
+    query.pos.words[5] = 3;
+    turned = run_turn(&query, state, 2, 10, no_words, 0, output);
+    printf("a list ending 3 3: %s by %" PRIu32 "\n", ending_name(turned.ending), turned.refused);
+    expect(turned.refused == 4, "a list ending 3 3 is refused by 4");
+    free(state.words);
+    free(output.words);
+    free(short_state.words);
+    free_query(&query);
+}
+
+int main(void)
+{
+    rows_in_turns();
+    best_of();
+    totals();
+    refusals();
+    return 0;
+}
