@@ -3,7 +3,8 @@
 //! Sotjarn answers queries over shared tables, a turn of counted steps at a time. A turn may end after any row, and the answer does
 //! not depend on where the cuts fall. The calls are proved; this crate lends them slices. Whatever words come in, a call ends,
 //! touches nothing outside what it was lent, and refuses faulty input by the number of the first test that fails: a [`Refusal`].
-//! A refused call changes no word.
+//! A refused call changes no word. The crate and the library belong together: a number that the crate does not know, from a library
+//! of another version, is a panic.
 //!
 //! | you have | use |
 //! |---|---|

@@ -114,7 +114,7 @@ pub fn read_rows(list: &[u32], columns: usize) -> Result<Vec<Row>, Unreadable> {
 /// # Ok::<(), sotjarn::Unreadable>(())
 /// ```
 pub fn read_groups(list: &[u32], keys: usize) -> Result<Vec<Group>, Unreadable> {
-    parts(list, keys + TOTALS_WORDS)?.map(group).collect()
+    parts(list, keys.saturating_add(TOTALS_WORDS))?.map(group).collect()
 }
 
 impl Plan {

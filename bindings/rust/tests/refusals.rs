@@ -1,0 +1,104 @@
+//! Each refusal by a small change to calls over the three-stem wood, and what it says.
+
+use std::collections::BTreeSet;
+
+use sotjarn::Term::{Name, Number};
+use sotjarn::{merge, open, turn, Branch, Plan, PlanBuilder, Refusal, TableWords, Variable};
+
+const STEM: Variable = Variable(0);
+const SIZE: Variable = Variable(1);
+
+/// What the calls are lent.
+struct Lent {
+    wood: TableWords,
+    plan: Vec<u32>,
+    state: Vec<u32>,
+    state_words: usize,
+    quantum: u32,
+    threshold: Vec<u32>,
+    output: Vec<u32>,
+}
+
+fn stems() -> PlanBuilder {
+    Plan::builder().branch(Branch::new().pattern(STEM, Name(10), Name(100)).pattern(STEM, Name(12), SIZE))
+}
+
+fn lent() -> Lent {
+    let stem = |(stem, size)| [[Name(stem), Name(10), Name(100)], [Name(stem), Name(12), Number(size)]];
+    let wood = TableWords::from_rows([(1, 45), (2, 310), (3, 310)].into_iter().flat_map(stem)).expect("every value fits");
+    let plan = stems().rows([STEM, SIZE]).expect("every value fits").words().to_vec();
+    let mut state = vec![0; 9];
+    let state_words = open(wood.tables(), &plan, &mut state).expect("the opening is accepted");
+    Lent {
+        wood,
+        plan,
+        state,
+        state_words,
+        quantum: 10,
+        threshold: vec![],
+        output: vec![0; 2],
+    }
+}
+
+/// What refuses a turn after a change.
+fn refused(change: impl Fn(&mut Lent)) -> Option<u32> {
+    let mut lent = lent();
+    change(&mut lent);
+    let Lent {
+        wood,
+        plan,
+        state,
+        state_words,
+        quantum,
+        threshold,
+        output,
+    } = &mut lent;
+    turn(wood.tables(), plan, state, *state_words, *quantum, threshold, output)
+        .err()
+        .map(Refusal::code)
+}
+
+/// What refuses a merge of lists of one group, of so many rows, none of them a number.
+fn merge_refused(kept_rows: [u32; 2], list_rows: [u32; 2], kept_len: usize, kept_words: usize) -> Option<u32> {
+    let plan = stems().group([], SIZE).expect("every value fits");
+    let record = |[low, high]: [u32; 2]| [low, high, 0, 0, 0, 0, sotjarn::UNBOUND, sotjarn::UNBOUND];
+    let mut kept = record(kept_rows);
+    merge(plan.words(), &mut kept[..kept_len], kept_words, &record(list_rows))
+        .err()
+        .map(Refusal::code)
+}
+
+#[test]
+fn each_refusal_has_its_call() {
+    assert_eq!(refused(|_| ()), None);
+    assert_eq!(refused(|lent| lent.wood.rows.truncate(17)), Some(1));
+    assert_eq!(refused(|lent| lent.wood.rows[0] |= 1 << 30), Some(2));
+    assert_eq!(refused(|lent| lent.wood.rows[..6].rotate_left(3)), Some(3));
+    assert_eq!(refused(|lent| lent.wood.pos[5] = 3), Some(4));
+    assert_eq!(refused(|lent| lent.plan.push(0)), Some(5));
+    assert_eq!(refused(|lent| *lent.plan.last_mut().expect("a plan has words") += 1), Some(6));
+    assert_eq!(refused(|lent| lent.output.truncate(1)), Some(7));
+    assert_eq!(refused(|lent| lent.quantum = 0), Some(8));
+    assert_eq!(refused(|lent| lent.state_words = 0), Some(9));
+    assert_eq!(refused(|lent| lent.state[1] += 4), Some(10));
+    assert_eq!(refused(|lent| lent.threshold = vec![1, 2]), Some(11));
+    assert_eq!(merge_refused([1, 0], [1, 0], 8, 8), None);
+    assert_eq!(merge_refused([0, 0], [1, 0], 8, 8), Some(12));
+    assert_eq!(merge_refused([u32::MAX; 2], [1, 0], 8, 8), Some(13));
+    assert_eq!(merge_refused([1, 0], [1, 0], 7, 0), Some(14));
+}
+
+#[test]
+fn each_refusal_says_its_number_and_something_of_its_own() {
+    let said: BTreeSet<String> = (1..=14)
+        .filter_map(Refusal::from_code)
+        .map(|refusal| refusal.to_string())
+        .collect();
+    assert_eq!(said.len(), 14);
+    for code in 1..=14 {
+        let refusal = Refusal::from_code(code).expect("the rules have it");
+        assert_eq!(refusal.code(), code);
+        assert!(refusal.to_string().starts_with(&format!("refused by {code}: ")));
+    }
+    assert_eq!((Refusal::from_code(0), Refusal::from_code(15)), (None, None));
+}
