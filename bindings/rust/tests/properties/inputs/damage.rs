@@ -3,7 +3,7 @@
 use super::plans::{some_constant, tree};
 use super::random::Random;
 use crate::evaluation::calls::{Merge, Open, Query, Turn};
-use crate::evaluation::plan::{Condition, Ending, Plan};
+use crate::evaluation::plan::{Branch, Condition, Ending, Plan};
 use crate::evaluation::tables::Tables;
 use crate::evaluation::words::*;
 
@@ -39,6 +39,28 @@ fn some_word(random: &mut Random, tables: &Tables) -> u32 {
     }
 }
 
+/// A branch that binds many variables, and an ending that names them.
+fn many_variables(random: &mut Random, plan: &mut Plan, at: usize) {
+    let many: usize = random.pick(&[4, 5, 16, 17]);
+    let patterns = [[0u32, 1, 2], [3, 4, 5], [6, 7, 8], [9, 10, 11], [12, 13, 14], [15, 16, 15]];
+    let mut patterns: Vec<_> = patterns
+        .iter()
+        .map(|pattern| pattern.map(variable))
+        .take(many.div_ceil(3))
+        .collect();
+    // A pattern that matches nothing keeps the run short.
+    patterns.insert(0, [name(MOST_VALUE - 9); 3]);
+    plan.branches[at] = Branch {
+        patterns,
+        condition: Condition::True,
+    };
+    let columns = (0..many as u32).collect();
+    plan.ending = match random.chance(50) {
+        true => Ending::Rows(columns),
+        false => Ending::Group(columns, 0),
+    };
+}
+
 /// The plan's parts grown to about their limits.
 pub fn grown(random: &mut Random, query: &Query) -> Plan {
     let mut plan = query.plan.clone();
@@ -62,19 +84,7 @@ pub fn grown(random: &mut Random, query: &Query) -> Plan {
             let many = random.pick(&[3, 4, 4, 5]);
             plan.branches = plan.branches.iter().cycle().take(many).cloned().collect();
         }
-        4 => {
-            let many = random.pick(&[4, 5, 16, 17]);
-            let patterns = [[0u32, 1, 2], [3, 4, 5], [6, 7, 8], [9, 10, 11], [12, 13, 14], [15, 16, 15]];
-            branch.patterns = patterns.map(|pattern| pattern.map(variable)).to_vec();
-            branch.patterns.truncate(usize::div_ceil(many, 3));
-            branch.patterns.insert(0, [name(MOST_VALUE - 9); 3]);
-            branch.condition = Condition::True;
-            let columns = (0..many as u32).collect();
-            plan.ending = match random.small(2) {
-                0 => Ending::Rows(columns),
-                _ => Ending::Group(columns, 0),
-            };
-        }
+        4 => many_variables(random, &mut plan, at),
         _ => {
             if let Ending::Top(k, rows, keys) = &mut plan.ending {
                 *k = random.pick(&[0, 63, 64, 65]);
