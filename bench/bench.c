@@ -1,0 +1,436 @@
+/* Times the proved engine, the same step machine in C and SQLite on one wood, in turns, and prints the best time of each in
+ * nanoseconds, a line a measure: name, steps, engine, C, SQLite ('-': it has nothing like it). The engine's and the C machine's steps and
+ * lists are compared word by word; SQLite's rows by their number, and but for ties in a best-of list by the sum of their fields. */
+#include "sotjarn.h"
+#include "step_machine.h"
+
+#include <sqlite3.h>
+#include <stdio.h>
+#include <stdlib.h>
+#include <string.h>
+#include <time.h>
+
+enum { STEMS = 32768, COUNT = 2 * STEMS, GROUPS = 10000, BEST = 64, OUTPUT = 400000 };
+
+#define N(v) ((uint32_t)(v))
+#define I(v) (1u << 30 | (uint32_t)(v))
+#define V(v) (3u << 30 | (uint32_t)(v))
+#define W(kind, low) ((uint32_t)(kind) << 28 | (uint32_t)(low))
+
+static uint32_t rows[3 * COUNT], pos[COUNT], osp[COUNT];
+static sqlite3 *db;
+static double seconds = 2; /* for each measure */
+
+static void fail(const char *what)
+{
+    fprintf(stderr, "bench: %s\n", what);
+    exit(1);
+}
+
+static double now(void)
+{
+    struct timespec t;
+    clock_gettime(CLOCK_PROCESS_CPUTIME_ID, &t);
+    return (double)t.tv_sec * 1e9 + (double)t.tv_nsec;
+}
+
+/* ---- the wood: 32,768 stems with a stand and a diameter, drawn from a seed */
+
+static uint32_t seed = 1;
+
+static uint32_t draw(void)
+{
+    seed = 1664525u * seed + 1013904223u;
+    return seed / 65536;
+}
+
+static int order; /* the first column of the order that is sorted by */
+
+static int by_order(const void *a, const void *b)
+{
+    const uint32_t *x = rows + 3 * *(const uint32_t *)a, *y = rows + 3 * *(const uint32_t *)b;
+    for (int i = 0; i < 3; i++) {
+        int c = (order + i) % 3;
+        if (x[c] != y[c])
+            return x[c] < y[c] ? -1 : 1;
+    }
+    return 0;
+}
+
+static void grow(void)
+{
+    for (uint32_t j = 0; j < STEMS; j++) {
+        uint32_t stand = draw() % 20, diameter = draw() % 600;
+        uint32_t two[6] = {N(1000000 + j), N(10), N(100 + stand), N(1000000 + j), N(12), I(20 + diameter)};
+        memcpy(rows + 6 * j, two, sizeof two);
+    }
+    for (uint32_t i = 0; i < COUNT; i++)
+        pos[i] = osp[i] = i;
+    order = 1;
+    qsort(pos, COUNT, sizeof *pos, by_order);
+    order = 2;
+    qsort(osp, COUNT, sizeof *osp, by_order);
+}
+
+/* ---- SQLite: one table in memory, three covering indexes */
+
+static void sql(const char *text)
+{
+    if (sqlite3_exec(db, text, 0, 0, 0) != SQLITE_OK)
+        fail(sqlite3_errmsg(db));
+}
+
+static sqlite3_stmt *prepare(const char *text)
+{
+    sqlite3_stmt *s;
+    if (sqlite3_prepare_v2(db, text, -1, &s, 0) != SQLITE_OK)
+        fail(sqlite3_errmsg(db));
+    return s;
+}
+
+static void fill(void)
+{
+    if (sqlite3_open(":memory:", &db) != SQLITE_OK)
+        fail("no database");
+    sql("create table t(s integer, p integer, o integer); begin");
+    sqlite3_stmt *s = prepare("insert into t values (?, ?, ?)");
+    for (uint32_t i = 0; i < COUNT; i++) {
+        for (int c = 0; c < 3; c++)
+            sqlite3_bind_int64(s, c + 1, rows[3 * i + c]);
+        sqlite3_step(s);
+        sqlite3_reset(s);
+    }
+    sqlite3_finalize(s);
+    sql("commit; create index spo on t(s, p, o); create index pos on t(p, o, s); create index osp on t(o, s, p); analyze");
+}
+
+/* runs a text from its preparing on, for at most so many rows; answers how many there were, and adds up all fields */
+static uint64_t run_sql(const char *text, uint64_t most, uint64_t *sum)
+{
+    sqlite3_stmt *s = prepare(text);
+    uint64_t found = 0;
+    int columns = sqlite3_column_count(s);
+    while (found < most && sqlite3_step(s) == SQLITE_ROW) {
+        for (int i = 0; i < columns; i++)
+            *sum += (uint64_t)sqlite3_column_int64(s, i);
+        found++;
+    }
+    sqlite3_finalize(s);
+    return found;
+}
+
+/* ---- queries */
+
+struct query {
+    const char *name, *sql;
+    uint32_t plan[32];
+    size_t words;
+};
+
+#define PAIR W(1, 1), W(2, 2), V(0), N(10), V(1), V(0), N(12), V(2)
+
+static struct query one_stand = {
+    "one stand, diameter from 310",
+    "select a.s, b.o from t a join t b on b.s = a.s where a.p = 10 and a.o = 105 and b.p = 12 and b.o >= 1073742134",
+    {W(1, 1), W(2, 2), V(0), N(10), N(105), V(0), N(12), V(1), W(7, 5), V(1), I(310), W(8, 2), V(0), V(1)}, 14};
+
+static struct query whole = {
+    "whole two-pattern join",
+    "select a.s, a.o, b.o from t a join t b on b.s = a.s where a.p = 10 and b.p = 12",
+    {PAIR, W(3, 0), W(8, 3), V(0), V(1), V(2)}, 13};
+
+static struct query top = {
+    "top 10 by diameter",
+    "select a.s, a.o, b.o from t a join t b on b.s = a.s where a.p = 10 and b.p = 12 order by +b.o desc limit 10",
+    {PAIR, W(3, 0), W(9, 10), W(8, 3), V(0), V(1), V(2), W(11, 2)}, 15};
+
+static const char *top_early =
+    "select a.s, a.o, b.o from t a join t b on b.s = a.s where a.p = 10 and b.p = 12 order by b.o desc limit 10";
+
+static struct query groups = {
+    "groups by stand",
+    "select a.o, count(*), count(b.o), sum(b.o), min(b.o), max(b.o) from t a join t b on b.s = a.s where a.p = 10 and b.p = 12 "
+    "group by a.o",
+    {PAIR, W(3, 0), W(12, 1), V(1), V(2)}, 12};
+
+/* pairs of stems of one diameter, by the stand of the second: more than five million steps */
+static struct query pairs = {
+    "1,000,000 steps",
+    "",
+    {W(1, 1), W(2, 3), V(0), N(12), V(1), V(2), N(12), V(1), V(2), N(10), V(3), W(3, 0), W(12, 1), V(3), V(1)}, 15};
+
+/* ---- measures: each is one piece of work by one of three, and answers its time */
+
+enum who { ENGINE, PEER, SQLITE };
+
+#define TABLES rows, 3 * COUNT, pos, COUNT, osp, COUNT
+
+struct result {
+    struct sotjarn_turned turned;
+    uint32_t output[OUTPUT];
+};
+
+static struct result results[2];
+static uint64_t found, sum; /* by SQLite */
+
+static struct sotjarn_written open_by(enum who w, const struct query *q, uint32_t *state)
+{
+    return (w == ENGINE ? sotjarn_open : c_open)(TABLES, q->plan, q->words, state, 9);
+}
+
+/* the check alone: the engine refuses a plan of one word 0 after it has checked the tables */
+static double time_check(enum who w, const struct query *q, uint32_t quantum)
+{
+    uint32_t zero[9] = {0}, refused;
+    double t = now();
+    (void)q, (void)quantum;
+    if (w == SQLITE) {
+        found = run_sql("pragma integrity_check", 1, &sum);
+        return now() - t;
+    }
+    refused = w == ENGINE ? sotjarn_open(TABLES, zero, 1, zero, 9).refused : c_check(TABLES) + 5;
+    t = now() - t;
+    if (refused != 5)
+        fail("the tables are not accepted");
+    return t;
+}
+
+static double time_open(enum who w, const struct query *q, uint32_t quantum)
+{
+    uint32_t state[9];
+    struct sotjarn_written r;
+    double t = now();
+    (void)quantum;
+    if (w == SQLITE) {
+        sqlite3_finalize(prepare(q->sql));
+        return now() - t;
+    }
+    r = open_by(w, q, state);
+    t = now() - t;
+    if (r.refused)
+        fail("an opening is refused");
+    return t;
+}
+
+static double time_turn(enum who w, const struct query *q, uint32_t quantum)
+{
+    uint32_t state[9];
+    struct result *r = &results[w == PEER];
+    size_t words;
+    double t;
+    if (w == SQLITE) {
+        size_t width = q->plan[q->words - 4] == W(8, 3) ? 3 : 2; /* of a row query */
+        uint64_t most = quantum == 1000000 ? (uint64_t)-1 : results[0].turned.list_words / width;
+        t = now();
+        sum = 0;
+        found = run_sql(q->sql, most ? most : 1, &sum);
+        return now() - t;
+    }
+    words = open_by(w, q, state).words;
+    t = now();
+    r->turned = (w == ENGINE ? sotjarn_turn : c_turn)(TABLES, q->plan, q->words, state, 9, words, quantum, state, 0, r->output, OUTPUT);
+    t = now() - t;
+    if (r->turned.ending == SOTJARN_REFUSED)
+        fail("a turn is refused");
+    return t;
+}
+
+/* the same number of pairs, gathered by SQLite */
+static double time_pairs(enum who w, const struct query *q, uint32_t quantum)
+{
+    char text[400];
+    uint64_t delivered = 0;
+    double t;
+    if (w != SQLITE)
+        return time_turn(w, q, quantum);
+    for (size_t i = 0; i < results[0].turned.list_words; i += 9)
+        delivered += results[0].output[i + 1];
+    snprintf(text, sizeof text,
+             "select x, count(*), count(d), sum(d), min(d), max(d) from (select c.o x, a.o d from t a cross join t b on b.o = a.o cross "
+             "join t c on c.s = b.s where a.p = 12 and b.p = 12 and c.p = 10 limit %llu) group by x",
+             (unsigned long long)delivered);
+    t = now();
+    sum = 0;
+    found = run_sql(text, (uint64_t)-1, &sum);
+    return now() - t;
+}
+
+/* ---- merging: a kept list and a turn's list */
+
+static uint32_t best_a[3 * BEST], best_b[3 * BEST], groups_a[9 * GROUPS], groups_b[9 * GROUPS], kept[2][18 * GROUPS];
+
+static struct query best_merge = {"", "", {PAIR, W(3, 0), W(9, BEST), W(8, 3), V(0), V(1), V(2), W(11, 2)}, 15};
+
+static void make_lists(void)
+{
+    for (uint32_t i = 0; i < BEST; i++) {
+        uint32_t a[3] = {N(1000000 + 2 * i), N(100), I(600 - 3 * i)}, b[3] = {N(1000001 + 2 * i), N(101), I(599 - 3 * i)};
+        memcpy(best_a + 3 * i, a, sizeof a);
+        memcpy(best_b + 3 * i, b, sizeof b);
+    }
+    for (uint32_t i = 0; i < GROUPS; i++) { /* every second key is in both */
+        uint32_t a[9] = {N(100 + 2 * i), 7, 0, 5, 0, 900, 0, I(20), I(400)};
+        uint32_t b[9] = {N(100 + 2 * i + i % 2), 3, 0, 2, 0, 800, 0, I(30), I(500)};
+        memcpy(groups_a + 9 * i, a, sizeof a);
+        memcpy(groups_b + 9 * i, b, sizeof b);
+    }
+}
+
+static void load_list(const char *name, const char *columns, const uint32_t *list, int width, int count)
+{
+    char text[300];
+    snprintf(text, sizeof text, "create table %s(%s)", name, columns);
+    sql(text);
+    snprintf(text, sizeof text, "insert into %s values (?, ?, ?, ?%s)", name, width == 9 ? ", ?, ?" : "");
+    sqlite3_stmt *s = prepare(text);
+    for (int i = 0; i < count; i++) {
+        const uint32_t *w = list + width * i;
+        uint32_t three[4] = {(uint32_t)i, w[0], w[1], w[2]}, six[6] = {w[0], w[1], w[3], w[5], w[7], w[8]};
+        for (int c = 0; c < (width == 9 ? 6 : 4); c++)
+            sqlite3_bind_int64(s, c + 1, width == 9 ? six[c] : three[c]);
+        sqlite3_step(s);
+        sqlite3_reset(s);
+    }
+    sqlite3_finalize(s);
+}
+
+static void fill_lists(void)
+{
+    sql("begin");
+    load_list("best_a", "n integer primary key, s, x, d", best_a, 3, BEST);
+    load_list("best_b", "n integer primary key, s, x, d", best_b, 3, BEST);
+    load_list("groups_a", "k integer primary key, r, n, t, lo, hi", groups_a, 9, GROUPS);
+    load_list("groups_b", "k integer primary key, r, n, t, lo, hi", groups_b, 9, GROUPS);
+    sql("commit");
+}
+
+static double time_merge_best(enum who w, const struct query *q, uint32_t quantum)
+{
+    enum { REPEATS = 200 };
+    struct sotjarn_written r = {0, 0};
+    double t = now();
+    (void)quantum;
+    if (w == SQLITE) {
+        found = run_sql("select s, x, d from (select 0 l, n, s, x, d from best_a union all select 1, n, s, x, d from best_b) "
+                        "order by d desc, l, n limit 64", (uint64_t)-1, &sum);
+        return now() - t;
+    }
+    for (int i = 0; i < REPEATS; i++) {
+        memcpy(kept[w], best_a, sizeof best_a);
+        r = (w == ENGINE ? sotjarn_merge : c_merge)(q->plan, q->words, kept[w], 18 * GROUPS, 3 * BEST, best_b, 3 * BEST);
+    }
+    t = (now() - t) / REPEATS;
+    if (r.refused || r.words != 3 * BEST)
+        fail("a merge of best-of lists is refused");
+    return t;
+}
+
+static double time_merge_groups(enum who w, const struct query *q, uint32_t quantum)
+{
+    struct sotjarn_written r;
+    double t;
+    (void)quantum;
+    if (w == SQLITE) {
+        sql("begin");
+        t = now();
+        sql("insert into groups_a select * from groups_b where true on conflict(k) do update set r = r + excluded.r, n = n + "
+            "excluded.n, t = t + excluded.t, lo = min(lo, excluded.lo), hi = max(hi, excluded.hi)");
+        t = now() - t;
+        sql("rollback");
+        return t;
+    }
+    memcpy(kept[w], groups_a, sizeof groups_a);
+    t = now();
+    r = (w == ENGINE ? sotjarn_merge : c_merge)(q->plan, q->words, kept[w], 18 * GROUPS, 9 * GROUPS, groups_b, 9 * GROUPS);
+    t = now() - t;
+    if (r.refused || r.words != 9 * (GROUPS + GROUPS / 2))
+        fail("a merge of groups is refused");
+    return t;
+}
+
+/* ---- one measure, in turns; the best of each */
+
+typedef double (*timer)(enum who, const struct query *, uint32_t);
+
+static void same(const struct result *a, const struct result *b)
+{
+    if (a->turned.steps != b->turned.steps || a->turned.ending != b->turned.ending || a->turned.list_words != b->turned.list_words ||
+        memcmp(a->output, b->output, a->turned.list_words * sizeof *a->output))
+        fail("the engine and the C machine differ");
+}
+
+/* the sum of the fields of a turn's list, as SQLite has them: there a number has its kind, in sums too */
+static uint64_t fields(const struct result *r, size_t g)
+{
+    uint64_t all = 0;
+    for (size_t i = 0; i < r->turned.list_words; i++)
+        all += g && i % (g + 8) >= g && i % (g + 8) < g + 6 && (i % (g + 8) - g) % 2 ? (uint64_t)r->output[i] << 32 : r->output[i];
+    for (size_t i = 0; g && i < r->turned.list_words; i += g + 8)
+        all += (uint64_t)r->output[i + g + 2] << 30;
+    return all;
+}
+
+static void measure(const char *name, timer f, const struct query *q, uint32_t quantum)
+{
+    double best[3] = {1e18, 1e18, 1e18}, start = now();
+    for (int round = 0; round < 12 || (now() - start < seconds * 1e9 && round < 2000); round++)
+        for (int i = 0; i < 6; i++) { /* each twice, so that the second finds its own words in the caches */
+            double t = f((enum who)(i / 2), q, quantum);
+            if (t < best[i / 2])
+                best[i / 2] = t;
+        }
+    printf("%s\t%u\t%.0f\t%.0f\t%.0f\n", name, f == time_turn || f == time_pairs ? results[0].turned.steps : 0, best[0], best[1], best[2]);
+    fflush(stdout);
+}
+
+static void measure_turn(const char *name, const struct query *q, uint32_t quantum, uint64_t expected)
+{
+    timer f = q == &pairs ? time_pairs : time_turn;
+    measure(name, f, q, quantum);
+    same(&results[0], &results[1]);
+    if (found != expected)
+        fail("SQLite finds another number of rows");
+    if (q != &top && quantum != 1 && sum != fields(&results[0], q == &groups || q == &pairs ? 1 : 0))
+        fail("SQLite finds other rows");
+}
+
+/* SQLite's time where the index order lets it stop after ten rows; the others have nothing like it */
+static void measure_early(void)
+{
+    double best = 1e18;
+    for (int i = 0; i < 50; i++) {
+        double t = now();
+        found = run_sql(top_early, 10, &sum);
+        t = now() - t;
+        if (t < best)
+            best = t;
+    }
+    printf("top 10, SQLite by its index\t0\t-\t-\t%.0f\n", best);
+}
+
+int main(int count, char **words)
+{
+    if (count > 1)
+        seconds = atof(words[1]);
+    grow();
+    fill();
+    make_lists();
+    fill_lists();
+    measure("check of 65,536 rows", time_check, 0, 0);
+    measure("opening", time_open, &whole, 0);
+    measure_turn(one_stand.name, &one_stand, 1000000, 831);
+    measure_turn(whole.name, &whole, 1000000, STEMS);
+    measure_turn(top.name, &top, 1000000, 10);
+    measure_early();
+    measure_turn(groups.name, &groups, 1000000, 20);
+    measure_turn("turn of 1 step", &whole, 1, 1);
+    measure_turn("turn of 1,000 steps", &whole, 1000, 333);
+    measure_turn("turn of 1,000,000 steps", &pairs, 1000000, 20);
+    measure("merge of two lists of the best 64", time_merge_best, &best_merge, 0);
+    if (memcmp(kept[0], kept[1], 3 * BEST * sizeof **kept))
+        fail("the engine and the C machine merge best-of lists differently");
+    measure("merge of 10,000 groups into 10,000", time_merge_groups, &groups, 0);
+    if (memcmp(kept[0], kept[1], 9 * (GROUPS + GROUPS / 2) * sizeof **kept))
+        fail("the engine and the C machine merge groups differently");
+    return 0;
+}
