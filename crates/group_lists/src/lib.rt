@@ -8,6 +8,8 @@ mod weave;
 pub use group_tests::is_groups;
 pub use group_totals::TOTALS;
 pub use groups::put_group;
+pub use longs::long;
+pub use longs::read64;
 pub use weave::merge_groups;
 
 // A group in a list: the first word of its record, or where that would stand.

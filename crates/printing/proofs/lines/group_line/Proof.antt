@@ -1,0 +1,48 @@
+-- `group_line` meets its contract: the word, the record's fields and the end of the line.
+use borrow.Author.Needs.{needs}
+use native.Mathlib.Omega.{arith}
+use Rattle.lists.specs.Groups.{groupIn}
+use Rattle.printing.specs.Texts.{groupWord}
+use Rattle.printing.proofs.Placements.{whole-line}
+use Rattle.printing.proofs.Lengths.{group-fields-most}
+use Rattle.printing.proofs.LineTexts.{group-text}
+use Rattle.printing.specs.Lines.{groupFields}
+use Rattle.printing.proofs.lines.group_line.Statement.{statement}
+use Rattle.printing.proofs.lines.group_line.Tie as tie
+
+slice-aggregate-put-bytes : tie.Need-slice-aggregate-put-bytes
+slice-aggregate-put-bytes c = search needs
+
+put-bytes-requires : tie.Need-put-bytes-requires
+put-bytes-requires c κs = search needs
+
+put-fields-requires : tie.Need-put-fields-requires
+put-fields-requires c κs = let e = group-fields-most (c .before .before .before .before .before .before .before .before .args .keys) (c .before .before .before .before .before .before .before .before .args .group .now) (omega (arith, c .before .before .before .before .before .before .before .before .pre)) (omega (arith, c .before .before .before .before .before .before .before .before .pre)) (λ i. c .before .before .before .before .before .before .shared-slice-known .given i .fits) in (omega arith, omega (arith, c .before .before .before .before .before .before .before .before .pre))
+
+put-byte-requires : tie.Need-put-byte-requires
+put-byte-requires c κs = let e = group-fields-most (c .before .before .before .before .before .before .before .before .before .before .before .before .args .keys) (c .before .before .before .before .before .before .before .before .before .before .before .before .args .group .now) (omega (arith, c .before .before .before .before .before .before .before .before .before .before .before .before .pre)) (omega (arith, c .before .before .before .before .before .before .before .before .before .before .before .before .pre)) (λ i. c .before .before .before .before .before .before .before .before .before .before .shared-slice-known .given i .fits) in omega (arith, c .before .before .before .before .before .before .before .before .before .before .before .before .pre)
+
+same-length : tie.Need-same-length
+same-length c = search needs
+
+returns : tie.Need-returns
+returns c =
+    let a = c .before .before .before .before .before .before .before .before .before .before .before .before .before .before .before .args in
+    let one = c .before .before .before .before .before .before .before .before .before .before .put-bytes in
+    let two = c .before .before .before .before .before .before .put-fields in
+    let three = c .before .before .put-byte in
+    let e = group-fields-most (c .before .before .before .before .before .before .before .before .before .before .before .before .before .before .before .args .keys) (c .before .before .before .before .before .before .before .before .before .before .before .before .before .before .before .args .group .now) (omega (arith, c .before .before .before .before .before .before .before .before .before .before .before .before .before .before .before .pre)) (omega (arith, c .before .before .before .before .before .before .before .before .before .before .before .before .before .before .before .pre)) (λ i. c .before .before .before .before .before .before .before .before .before .before .before .before .before .shared-slice-known .given i .fits) in
+    rw (group-text (groupIn (a .keys) (a .group .now)))
+    (whole-line groupWord (groupFields (groupIn (a .keys) (a .group .now))) (one .result) (two .result) (three .result) (a .line .now) (one .last .0) (two .last .0) (three .last .0)
+    (omega (arith, c .before .before .before .before .before .before .before .before .before .before .before .before .before .before .before .pre)) (one .ensures) (two .ensures) (three .ensures))
+
+pub group-line-spec : {M : Type 1} → statement M
+group-line-spec =
+    tie.close
+    (tie.spec
+    slice-aggregate-put-bytes
+    put-bytes-requires
+    put-fields-requires
+    put-byte-requires
+    same-length
+    returns)

@@ -1,0 +1,51 @@
+-- `refused_line` meets its contract: the word, its number and the end of the line.
+use borrow.Author.Needs.{needs}
+use native.Mathlib.Omega.{arith}
+use Rattle.printing.specs.Texts.{numberField, refusedWord}
+use Rattle.printing.proofs.Placements.{whole-line}
+use Rattle.printing.proofs.Decimals.{length-word}
+use Rattle.printing.proofs.LineTexts.{refused-text}
+use Rattle.printing.proofs.lines.refused_line.Statement.{statement}
+use Rattle.printing.proofs.lines.refused_line.Tie as tie
+
+slice-aggregate-put-bytes : tie.Need-slice-aggregate-put-bytes
+slice-aggregate-put-bytes c = search needs
+
+put-bytes-requires : tie.Need-put-bytes-requires
+put-bytes-requires c κs = search needs
+
+long-requires : tie.Need-long-requires
+long-requires c κs = search needs
+
+put-number-requires : tie.Need-put-number-requires
+put-number-requires c κs = let e = length-word (c .long .result) (omega arith) in omega arith
+
+put-byte-requires : tie.Need-put-byte-requires
+put-byte-requires c κs = let e = length-word (c .before .before .before .before .long .result) (omega arith) in omega arith
+
+same-length : tie.Need-same-length
+same-length c = search needs
+
+returns : tie.Need-returns
+returns c =
+    let a = c .before .before .before .before .before .before .before .before .before .before .before .before .before .before .before .args in
+    let x = c .before .before .before .before .before .before .before .long .result in
+    let one = c .before .before .before .before .before .before .before .before .before .before .before .put-bytes in
+    let two = c .before .before .before .before .before .before .put-number in
+    let three = c .before .before .put-byte in
+    let e = length-word x (omega (arith, c .before .before .before .before .before .before .before .long .ensures)) in
+    rw (refused-text (a .number) x (c .before .before .before .before .before .before .before .long .ensures .0))
+    (whole-line refusedWord (numberField x) (one .result) (two .result) (three .result) (a .line .now) (one .last .0) (two .last .0)
+    (three .last .0) (omega (arith, c .before .before .before .before .before .before .before .before .before .before .before .before .before .before .before .pre)) (one .ensures) (two .ensures) (three .ensures))
+
+pub refused-line-spec : {M : Type 1} → statement M
+refused-line-spec =
+    tie.close
+    (tie.spec
+    slice-aggregate-put-bytes
+    put-bytes-requires
+    long-requires
+    put-number-requires
+    put-byte-requires
+    same-length
+    returns)

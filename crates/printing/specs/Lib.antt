@@ -1,0 +1,5 @@
+pub mod Texts
+pub mod Lines
+pub mod Files
+pub mod Placing
+pub mod Computing
