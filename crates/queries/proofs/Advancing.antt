@@ -183,7 +183,7 @@ module _ (t : Tables) (plan : List ℕ) (a : Accepted t plan) (first : Held) (k 
           more-premises : Premises t plan first (calls ++ (e ∷ []))
           more-premises = premises-more t plan calls first e calls-premises (subst⁻¹ (λ z. Asked t plan z e) calls-reach asked)
 
-          now-keeps : Kept t q now
+          pub now-keeps : Kept t q now
           now-keeps = subst (Kept t q) more-reach (history-keeps t plan a (calls ++ (e ∷ [])) first k more-premises)
 
           pub no-shorter : length (h .kept) ≤ length list

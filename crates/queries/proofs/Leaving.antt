@@ -22,19 +22,21 @@ use Rattle.steps.specs.Saved.{savedWords}
 use Rattle.turns.specs.declared.TurnEnding.{TurnEnding}
 use Rattle.turns.specs.declared.TurnEnding.the-variants as ending
 use Rattle.turns.specs.Turns.{TurnInput, turnOf}
-use Rattle.merges.specs.Merging.{MergeInput, MergeResult, mergeOf}
+use Rattle.lists.specs.Gathering.{merged, takenInto}
+use Rattle.merges.specs.Merging.{MergeInput, MergeResult, mergedWords, mergeOf}
 use Rattle.merges.proofs.Refusals as refusals
 use Rattle.merges.proofs.Writes.{merge-writes}
 use Rattle.cuts.specs.Histories.{merges, joins, Held, Served, servedIn, stepsIn, doneIn, isDone, servedOf, mergeInputOf, afterServed, afterTaking, afterMerge, afterMerging, afterJoin, afterJoining, happens}
-use Rattle.cuts.specs.Uncut.{WithinQuantum, AsUncut}
+use Rattle.cuts.specs.Uncut.{WithinQuantum, AsUncut, runList}
 use Rattle.cuts.proofs.Accepting.{Accepted}
 use Rattle.cuts.proofs.Turning.{Kept}
+use Rattle.cuts.proofs.Taking.{taking-keeps}
 use Rattle.cuts.proofs.MergeRefusals.{Merged, merge-refused}
 use Rattle.queries.specs.declared.Went.{Went}
 use Rattle.queries.specs.declared.Went.the-variants.{On, Over, Stopped}
 use Rattle.queries.specs.Stepping.{isServed, isRows, joinOf, Stepped, listOf, mergedBy, takenBy, takeTurnOf, wentAs, leftAsIs, Advances}
 use Rattle.queries.specs.Playing.{Holds, Finishes, Pauses, Cause, totals-pass, kept-short, Stops, UnderWay}
-use Rattle.queries.proofs.Refusing.{turn-stopped}
+use Rattle.queries.proofs.Refusing.{turn-stopped, merge-short}
 use Rattle.queries.proofs.Advancing as advancing
 
 -- each turn took a step at least
@@ -42,6 +44,12 @@ at-least : (xs : List Served) → WithinQuantum xs → length xs ≤ stepsIn xs
 unfolding stepsIn
 at-least [] w = omega arith
 at-least (x ∷ xs) w = omega (arith, w .0 .0, at-least xs (w .1))
+
+-- a best-of or group query's list is taken by merging it
+others-taken : (e : Ending) → Merged e → (kept list : List ℕ) → merged e kept list ≡ takenInto e kept list
+others-taken (rows vs) m kept list = absurd m
+others-taken (top n vs keys) m kept list = refl
+others-taken (group vs n) m kept list = refl
 
 module _ (t : Tables) (plan : List ℕ) (a : Accepted t plan) (first : Held) (k : Kept t (planOf plan) first) (before : List ℕ) where
   abbrev q : Plan
@@ -85,7 +93,7 @@ module _ (t : Tables) (plan : List ℕ) (a : Accepted t plan) (first : Held) (k 
           list = holds;
         }
 
-    pub stops : (quantum room : ℕ) (left : List ℕ) (y : ℕ) → Cause (q .ending) quantum room y → left ≡ kept → Stops t plan quantum room before left y
+    pub stops : (quantum room : ℕ) (left : List ℕ) (y : ℕ) → Cause t plan quantum room before y → left ≡ kept → Stops t plan quantum room before left y
     stops quantum room left y c e =
         record { cause = c; steps = stepsIn (h .taken); words = used; list = subst⁻¹ (λ l. Holds t plan (stepsIn (h .taken)) before l used) e holds }
 
@@ -113,11 +121,14 @@ module _ (t : Tables) (plan : List ℕ) (a : Accepted t plan) (first : Held) (k 
     TakenAs left (written.Words n) =
         (v : UnderWay t plan first before (count + 1) (turnOf i .state) (turnOf i .answer .saved) left n)
         × (doneIn (servedIn (v .held)) ≡ isDone (turnOf i .answer .ending))
-    TakenAs left (written.Refused y) = (left ≡ kept) × Cause (q .ending) quantum (length output) y
+    TakenAs left (written.Refused y) = (left ≡ kept) × Cause t plan quantum (length output) before y
 
     module _ (served : isServed (turnOf i .answer .ending) ≡ true) where
       one-waits : turned .waiting ≡ x ∷ []
       one-waits = advancing.one-waits t plan a first k before count state saved kept used u quantum output served
+
+      kept-length : length kept ≡ length before
+      kept-length = advancing.kept-length t plan a first k before count state saved kept used u
 
       turned-keeps : Kept t q turned
       turned-keeps = advancing.turned-keeps t plan a first k before count state saved kept used u quantum output served
@@ -132,7 +143,13 @@ module _ (t : Tables) (plan : List ℕ) (a : Accepted t plan) (first : Held) (k 
         joined-is = ap₂ (λ b d. cond (b && isRows d) (joinOf kept used (x .list)) (mergedBy i (turnOf i) kept used)) served e
 
         by-join : (b : Bool) → leb (used + length (x .list)) (length kept) ≡ b → TakenAs (joinOf kept used (x .list) .kept) (joinOf kept used (x .list) .answer)
-        by-join false f = rw f (refl, kept-short)
+        by-join false f =
+            let l = ap length (advancing.now-keeps t plan a first k before count state saved kept used u quantum output served joins tt (u .held .kept ++ x .list) joins-made .list) in
+            rw f (
+              refl,
+              kept-short (stepsIn (u .held .taken ++ (x ∷ [])))
+                  (omega (arith, l, length-append (u .held .kept) (x .list), u .words, kept-length, leb-false (used + length (x .list)) (length kept) f)),
+            )
         by-join true f =
             let front = advancing.kept-front t plan a first k before count state saved kept used u in
             rw f
@@ -164,12 +181,22 @@ module _ (t : Tables) (plan : List ℕ) (a : Accepted t plan) (first : Held) (k 
             ∙ ap (λ d. afterMerge turned x [] (mergeOf d) (mergeOf d .answer)) same-input
             ∙ ap (afterMerge turned x [] (mergeOf j)) e
 
+        -- the merged list is that of the uncut run after the turn
+        merged-list : mergedWords j ≡ runList (q .ending) (after t q (stepsIn (u .held .taken ++ (x ∷ []))))
+        merged-list =
+            ap (λ l. merged (q .ending) l (x .list)) (advancing.kept-front t plan a first k before count state saved kept used u)
+            ∙ others-taken (q .ending) others (u .held .kept) (x .list)
+            ∙ taking-keeps t plan a turned turned-keeps x [] one-waits (takenInto (q .ending) (u .held .kept) (x .list)) refl .list
+
+        short : mergeOf j .answer ≡ written.Refused 14 → Cause t plan quantum (length output) before 14
+        short e = kept-short (stepsIn (u .held .taken ++ (x ∷ []))) (omega (arith, ap length merged-list, kept-length, merge-short j e))
+
         by-answer : (w : Written) → mergeOf j .answer ≡ w → TakenAs (mergeOf j .kept) w
         by-answer (written.Refused y) e = (
           refusals.merge-refusals j .unchanged y e .buffer,
           elim (merge-refused t plan a turned turned-keeps others x [] one-waits (drop used kept) y (ap (λ d. mergeOf d .answer) same-input ∙ e)) [
-            | inl f ↦ subst⁻¹ (Cause (q .ending) quantum (length output)) f totals-pass
-            | inr f ↦ subst⁻¹ (Cause (q .ending) quantum (length output)) f kept-short
+            | inl f ↦ subst⁻¹ (Cause t plan quantum (length output) before) f totals-pass
+            | inr f ↦ subst⁻¹ (Cause t plan quantum (length output) before) f (short (e ∙ ap written.Refused f))
           ],
         )
         by-answer (written.Words n) e =
@@ -192,7 +219,7 @@ module _ (t : Tables) (plan : List ℕ) (a : Accepted t plan) (first : Held) (k 
     abbrev pub Becomes : List ℕ → List ℕ → Went → Type 0
     Becomes now left (On s n) = UnderWay t plan first before (count + 1) now s left n × ¬ (s ≡ 0)
     Becomes now left (Over n) = Finishes t plan before left n
-    Becomes now left (Stopped y) = (left ≡ kept) × Cause (q .ending) quantum (length output) y
+    Becomes now left (Stopped y) = (left ≡ kept) × Cause t plan quantum (length output) before y
 
     by-taking : (e : TurnEnding) → turnOf i .answer .ending ≡ e → isServed e ≡ true → (w : Written) → TakenAs (m .kept) w
         → Becomes (turnOf i .state) (m .kept) (wentAs e (turnOf i .answer .saved) w)
@@ -218,7 +245,7 @@ module _ (t : Tables) (plan : List ℕ) (a : Accepted t plan) (first : Held) (k 
     by-ending ending.Full f = served-becomes ending.Full f refl
     by-ending (ending.Refused y) f =
         subst⁻¹ (λ (r : MergeResult). Becomes (turnOf i .state) (r .kept) (wentAs (ending.Refused y) (turnOf i .answer .saved) (r .answer))) (not-taken (ending.Refused y) f refl)
-        (refl, turn-stopped i a (advancing.given-passed t plan a first k before count state saved kept used u quantum output alive) (u .state-room) refl y f)
+        (refl, turn-stopped i a (advancing.given-passed t plan a first k before count state saved kept used u quantum output alive) (u .state-room) refl before y f)
 
     pub becomes : (now left : List ℕ) (w : Went) → Advances (takeTurnOf i kept used) now left w → Becomes now left w
     unfolding takeTurnOf

@@ -9,17 +9,20 @@ use mathlib.Core.List.{List, [], _∷_, _++_}
 use lib.Dec.{leb}
 use lib.ListN.{length, take}
 use borrow.Author.Tests.{leb-false, le-leb}
+use Rattle.words.specs.declared.Written.the-variants as written
 use Rattle.words.specs.Tests.{firstFailing}
 use Rattle.words.proofs.Booleans.{absurd-true, and-left, and-right, and-both}
 use Rattle.words.proofs.Testing.{none-some, some-injective, fails-first, all-passes, first-append, orElse}
 use Rattle.tables.specs.Tables.{Tables, tableTests}
 use Rattle.plans.specs.Endings.{Ending}
-use Rattle.plans.specs.Plans.{planOf, hasForm, readPlan, planTests}
+use Rattle.plans.specs.Plans.{planOf, hasForm, readPlan, variablesRight, planTests}
 use Rattle.steps.specs.Saved.{leastStateWords, shapeRight, placesRight}
-use Rattle.lists.specs.Gathering.{leastOutput, thresholdRight}
+use Rattle.lists.specs.Gathering.{leastOutput, thresholdRight, listRight, totalsFit}
 use Rattle.turns.specs.declared.TurnEnding.the-variants.{Refused}
 use Rattle.turns.specs.Turns.{TurnInput, givenState, givenPlan, stateTests, turnTests, mostSteps, turnOf}
 use Rattle.turns.proofs.Refusals.{turn-refusals}
+use Rattle.merges.specs.Merging.{MergeInput, givenKept, givenEnding, mergedWords, mergeTests, mergeOf}
+use Rattle.merges.proofs.Refusals.{merge-refusals}
 use Rattle.cuts.proofs.Accepting.{Accepted}
 use Rattle.cuts.proofs.States.{Passed, accepted-when-passed}
 use Rattle.queries.specs.Playing.{Cause, output-short, quantum-wrong}
@@ -46,9 +49,9 @@ empty-right e = refl
 
 -- a turn with no threshold, from a state that the uncut run passes through, with room for a state
 pub turn-stopped : (i : TurnInput) → Accepted (i .tables) (i .plan) → Passed i → leastStateWords ≤ length (i .state) → i .threshold ≡ []
-    → (y : ℕ) → turnOf i .answer .ending ≡ Refused y → Cause (givenPlan i .ending) (i .quantum) (length (i .output)) y
+    → (before : List ℕ) (y : ℕ) → turnOf i .answer .ending ≡ Refused y → Cause (i .tables) (i .plan) (i .quantum) (length (i .output)) before y
 unfolding firstFailing
-turn-stopped i a p room none-sent y e =
+turn-stopped i a p room none-sent before y e =
     elim (seven-or-eight (leb leastStateWords (length (i .state)) && leb (leastOutput (givenPlan i .ending)) (length (i .output)))
     (leb 1 (i .quantum) && leb (i .quantum) mostSteps)
     (leb (i .given) (length (i .state)) && shapeRight (givenPlan i) (givenState i))
@@ -71,12 +74,31 @@ turn-stopped i a p room none-sent y e =
         ∙ fails-first y (turnTests i) (turn-refusals i .number y .0 e)
 
     short : y ≡ 7 → leb leastStateWords (length (i .state)) && leb (leastOutput (givenPlan i .ending)) (length (i .output)) ≡ false
-        → Cause (givenPlan i .ending) (i .quantum) (length (i .output)) y
+        → Cause (i .tables) (i .plan) (i .quantum) (length (i .output)) before y
     short f h =
         let o = second-fails _ _ (le-leb leastStateWords (length (i .state)) room) h in
-        subst (Cause (givenPlan i .ending) (i .quantum) (length (i .output))) (sym f) (output-short (leb-false (leastOutput (givenPlan i .ending)) (length (i .output)) o))
+        subst (Cause (i .tables) (i .plan) (i .quantum) (length (i .output)) before) (sym f) (output-short (leb-false (leastOutput (givenPlan i .ending)) (length (i .output)) o))
 
-    wrong : y ≡ 8 → leb 1 (i .quantum) && leb (i .quantum) mostSteps ≡ false → Cause (givenPlan i .ending) (i .quantum) (length (i .output)) y
+    wrong : y ≡ 8 → leb 1 (i .quantum) && leb (i .quantum) mostSteps ≡ false → Cause (i .tables) (i .plan) (i .quantum) (length (i .output)) before y
     wrong f h =
-        subst (Cause (givenPlan i .ending) (i .quantum) (length (i .output))) (sym f)
+        subst (Cause (i .tables) (i .plan) (i .quantum) (length (i .output)) before) (sym f)
         (quantum-wrong (λ b. absurd-true (and-both _ _ (le-leb 1 (i .quantum) (b .0)) (le-leb (i .quantum) mostSteps (b .1))) h))
+
+-- ---- a merge
+last-fails : (a b c d e : Bool) → _≡_ {A = Option ℕ} (cond a (cond b (cond c (cond d (cond e none (some 14)) (some 13)) (some 12)) (some 6)) (some 5)) (some 14) → e ≡ false
+last-fails a b c d false h = refl
+last-fails true true true true true h = absurd (none-some h)
+last-fails true true true false true h = absurd (let z : _≡_ {A = ℕ} 13 14 = some-injective h in omega arith)
+last-fails true true false d true h = absurd (let z : _≡_ {A = ℕ} 12 14 = some-injective h in omega arith)
+last-fails true false c d true h = absurd (let z : _≡_ {A = ℕ} 6 14 = some-injective h in omega arith)
+last-fails false b c d true h = absurd (let z : _≡_ {A = ℕ} 5 14 = some-injective h in omega arith)
+
+-- a merge that is refused by 14 has no room for its result
+pub merge-short : (i : MergeInput) → mergeOf i .answer ≡ written.Refused 14 → length (i .kept) < length (mergedWords i)
+unfolding firstFailing
+merge-short i e =
+    leb-false (length (mergedWords i)) (length (i .kept))
+    (last-fails (hasForm (readPlan (i .plan))) (variablesRight (planOf (i .plan)))
+    (leb (i .given) (length (i .kept)) && (listRight (givenEnding i) (givenKept i) && listRight (givenEnding i) (i .list)))
+    (totalsFit (givenEnding i) (givenKept i) (i .list)) (leb (length (mergedWords i)) (length (i .kept)))
+    (fails-first 14 (mergeTests i) (merge-refusals i .number 14 .0 e)))

@@ -9,7 +9,6 @@ use Rattle.words.specs.declared.Written.the-variants as written
 use Rattle.words.specs.Answers.{wordsIn}
 use Rattle.words.specs.Sequences.{over}
 use Rattle.tables.specs.Tables.{Tables}
-use Rattle.plans.specs.Endings.{Ending}
 use Rattle.plans.specs.Plans.{planOf}
 use Rattle.steps.specs.Steps.{after}
 use Rattle.steps.specs.Saved.{savedWords, leastStateWords}
@@ -48,17 +47,17 @@ pub record Pauses (t : Tables) (plan : List ℕ) (most : ℕ) (before state kept
   pub state-count : saved ≡ length (savedWords (after t (planOf plan) steps .state))
   pub list : Holds t plan steps before kept words
 
--- why a query that was opened is stopped: an output of so many words or the quantum, by a turn; totals or the kept buffer, where a
--- list is taken
-pub data Cause (e : Ending) (quantum room : ℕ) : ℕ → Type 0 where
-  output-short : room < leastOutput e → Cause e quantum room 7
-  quantum-wrong : ¬ ((1 ≤ quantum) × (quantum ≤ mostSteps)) → Cause e quantum room 8
-  totals-pass : Cause e quantum room 13
-  kept-short : Cause e quantum room 14
+-- why a query that was opened is stopped: by a turn, for an output of so many words or for the quantum; where a list is taken, for its
+-- totals, or for a kept buffer in which some list of the uncut run has no room
+pub data Cause (t : Tables) (plan : List ℕ) (quantum room : ℕ) (before : List ℕ) : ℕ → Type 0 where
+  output-short : room < leastOutput (planOf plan .ending) → Cause t plan quantum room before 7
+  quantum-wrong : ¬ ((1 ≤ quantum) × (quantum ≤ mostSteps)) → Cause t plan quantum room before 8
+  totals-pass : Cause t plan quantum room before 13
+  kept-short : (steps : ℕ) → length before < length (listAfter t plan steps) → Cause t plan quantum room before 14
 
 -- stopped: the kept list is the uncut run's up to the lists taken
 pub record Stops (t : Tables) (plan : List ℕ) (quantum room : ℕ) (before kept : List ℕ) (x : ℕ) : Type 0 where
-  pub cause : Cause (planOf plan .ending) quantum room x
+  pub cause : Cause t plan quantum room before x
   pub steps : ℕ
   pub words : ℕ
   pub list : Holds t plan steps before kept words

@@ -5,7 +5,6 @@ use native.Mathlib.Omega.{arith}
 use mathlib.Core.Path.{_≡_, refl, sym, _∙_, subst}
 use lib.ListN.{length}
 use Rattle.tables.specs.Tables.{tablesOf}
-use Rattle.plans.specs.Plans.{planOf}
 use Rattle.queries.specs.declared.Went.{Went}
 use Rattle.queries.specs.Playing.{Cause, Pauses, startAt, UnderWay}
 use Rattle.queries.proofs.Leaving.{Becomes, becomes, pauses, stops}
@@ -104,7 +103,7 @@ returns-2 c =
     let o = s .args .opened in
     let v = l .loop .inv in
     let b = subst (λ w. Becomes t p (start-accepts t p st o (s .pre)) (startAt st o) (start-keeps t p st o (s .pre)) (s .args .kept .now) (l .loop .n) (l .loop .state) (l .loop .saved) (l .loop .kept) (l .loop .used) (v .4) (v .5) (s .args .quantum) (l .loop .output) (d .advance .last .1 .1 .1 .1 .0) (d .advance .last .1 .1 .1 .1 .1 .1 .1 .1 .0) w) (c .before .went3 .given .1) (becomes t p (start-accepts t p st o (s .pre)) (startAt st o) (start-keeps t p st o (s .pre)) (s .args .kept .now) (l .loop .n) (l .loop .state) (l .loop .saved) (l .loop .kept) (l .loop .used) (v .4) (v .5) (s .args .quantum) (l .loop .output) _ _ (d .advance .result) (d .advance .ensures)) in
-    stops t p (start-accepts t p st o (s .pre)) (startAt st o) (start-keeps t p st o (s .pre)) (s .args .kept .now) (l .loop .n) (l .loop .state) (l .loop .saved) (l .loop .kept) (l .loop .used) (v .4) (s .args .quantum) (length (s .args .output .now)) _ _ (subst (λ n. Cause (planOf p .ending) (s .args .quantum) n (c .before .went3 .given .0 .0)) (v .2) (b .1)) (b .0)
+    stops t p (start-accepts t p st o (s .pre)) (startAt st o) (start-keeps t p st o (s .pre)) (s .args .kept .now) (l .loop .n) (l .loop .state) (l .loop .saved) (l .loop .kept) (l .loop .used) (v .4) (s .args .quantum) (length (s .args .output .now)) _ _ (subst (λ n. Cause t p (s .args .quantum) n (s .args .kept .now) (c .before .went3 .given .0 .0)) (v .2) (b .1)) (b .0)
 
 same-length-7 : tie.Need-same-length-7 Inv-loop μ-loop
 same-length-7 c = c .before .loop .inv .1
