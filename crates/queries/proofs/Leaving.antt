@@ -1,6 +1,7 @@
 -- What a turn makes of a query under way, by what it answers: under way again, finished, or stopped; and what that says of the uncut run.
 use Prim.Native.Nat.{ℕ, _+_, _≤_}
 use native.Mathlib.Omega.{arith}
+use native.Mathlib.Decide.{decLt}
 use mathlib.Core.Path.{_≡_, refl, sym, _∙_, ap, ap₂, subst, subst⁻¹}
 use mathlib.Core.Logic.{_⊎_, inl, inr}
 use mathlib.Core.Bool.{Bool, true, false, cond, not, _&&_}
@@ -13,7 +14,7 @@ use Rattle.words.specs.declared.Written.{Written}
 use Rattle.words.specs.declared.Written.the-variants as written
 use Rattle.words.specs.Answers.{wordsIn}
 use Rattle.words.specs.Sequences.{over}
-use Rattle.words.proofs.Booleans.{absurd-true, yes, no, decided}
+use Rattle.words.proofs.Booleans.{absurd-true}
 use Rattle.tables.specs.Tables.{Tables}
 use Rattle.plans.specs.Endings.{Ending, rows, top, group}
 use Rattle.plans.specs.Plans.{Plan, planOf}
@@ -36,7 +37,8 @@ use Rattle.queries.specs.declared.Went.{Went}
 use Rattle.queries.specs.declared.Went.the-variants.{On, Over, Stopped}
 use Rattle.queries.specs.Stepping.{isServed, isRows, joinOf, Stepped, listOf, mergedBy, takenBy, takeTurnOf, wentAs, leftAsIs, Advances}
 use Rattle.queries.specs.Playing.{Holds, Finishes, Pauses, Cause, totals-pass, kept-short, Stops, UnderWay}
-use Rattle.queries.proofs.Refusing.{turn-stopped, merge-short}
+use Rattle.queries.proofs.Refusing.{turn-stopped, Sized, served-sized, not-sized, merge-short}
+use Rattle.queries.proofs.Taking.{is-served}
 use Rattle.queries.proofs.Advancing as advancing
 
 -- each turn took a step at least
@@ -93,9 +95,24 @@ module _ (t : Tables) (plan : List ℕ) (a : Accepted t plan) (first : Held) (k 
           list = holds;
         }
 
-    pub stops : (quantum room : ℕ) (left : List ℕ) (y : ℕ) → Cause t plan quantum room before y → left ≡ kept → Stops t plan quantum room before left y
-    stops quantum room left y c e =
-        record { cause = c; steps = stepsIn (h .taken); words = used; list = subst⁻¹ (λ l. Holds t plan (stepsIn (h .taken)) before l used) e holds }
+    -- no turn made is no step
+    no-steps : count ≡ 0 → stepsIn (h .taken) ≡ 0
+    unfolding stepsIn
+    no-steps e = ap stepsIn (advancing.no-elements (h .taken) (u .turns ∙ e))
+
+    pub stops : (quantum room : ℕ) → (¬ (count ≡ 0) → Sized (q .ending) quantum room) → (left : List ℕ) (y : ℕ)
+        → Cause t plan quantum room before y → left ≡ kept → Stops t plan quantum room before left y
+    stops quantum room sized left y c e =
+        record {
+          cause = c;
+          steps = stepsIn (h .taken);
+          at-first = λ l. elim (decLt 0 count) [
+            | yes p ↦ absurd (not-sized t plan quantum room before y c l (sized (λ z. omega arith)))
+            | no p ↦ no-steps (omega arith)
+          ];
+          words = used;
+          list = subst⁻¹ (λ l. Holds t plan (stepsIn (h .taken)) before l used) e holds;
+        }
 
     -- where done was not answered, the saved words are a state's
     pub not-over : doneIn (servedIn h) ≡ false → ¬ (saved ≡ 0)
@@ -217,7 +234,7 @@ module _ (t : Tables) (plan : List ℕ) (a : Accepted t plan) (first : Held) (k 
 
     -- what the turn comes to, by how the query goes on
     abbrev pub Becomes : List ℕ → List ℕ → Went → Type 0
-    Becomes now left (On s n) = UnderWay t plan first before (count + 1) now s left n × ¬ (s ≡ 0)
+    Becomes now left (On s n) = UnderWay t plan first before (count + 1) now s left n × ¬ (s ≡ 0) × Sized (q .ending) quantum (length output)
     Becomes now left (Over n) = Finishes t plan before left n
     Becomes now left (Stopped y) = (left ≡ kept) × Cause t plan quantum (length output) before y
 
@@ -225,8 +242,10 @@ module _ (t : Tables) (plan : List ℕ) (a : Accepted t plan) (first : Held) (k 
         → Becomes (turnOf i .state) (m .kept) (wentAs e (turnOf i .answer .saved) w)
     by-taking e f s (written.Refused y) p = p
     by-taking ending.Done f s (written.Words n) p = finishes (count + 1) _ _ _ n (p .0) (p .1 ∙ ap isDone f)
-    by-taking ending.Spent f s (written.Words n) p = (p .0, not-over (count + 1) _ _ _ n (p .0) (p .1 ∙ ap isDone f))
-    by-taking ending.Full f s (written.Words n) p = (p .0, not-over (count + 1) _ _ _ n (p .0) (p .1 ∙ ap isDone f))
+    by-taking ending.Spent f s (written.Words n) p =
+        (p .0, not-over (count + 1) _ _ _ n (p .0) (p .1 ∙ ap isDone f), served-sized i (is-served i (ap isServed f ∙ s)))
+    by-taking ending.Full f s (written.Words n) p =
+        (p .0, not-over (count + 1) _ _ _ n (p .0) (p .1 ∙ ap isDone f), served-sized i (is-served i (ap isServed f ∙ s)))
     by-taking (ending.Refused y) f s (written.Words n) p = absurd-true s refl
 
     module _ (e : TurnEnding) (f : turnOf i .answer .ending ≡ e) where

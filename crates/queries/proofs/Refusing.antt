@@ -8,7 +8,7 @@ use mathlib.Core.Option.{Option, none, some}
 use mathlib.Core.List.{List, [], _∷_, _++_}
 use lib.Dec.{leb}
 use lib.ListN.{length, take}
-use borrow.Author.Tests.{leb-false, le-leb}
+use borrow.Author.Tests.{leb-true, leb-false, le-leb}
 use Rattle.words.specs.declared.Written.the-variants as written
 use Rattle.words.specs.Tests.{firstFailing}
 use Rattle.words.proofs.Booleans.{absurd-true, and-left, and-right, and-both}
@@ -20,12 +20,12 @@ use Rattle.steps.specs.Saved.{leastStateWords, shapeRight, placesRight}
 use Rattle.lists.specs.Gathering.{leastOutput, thresholdRight, listRight, totalsFit}
 use Rattle.turns.specs.declared.TurnEnding.the-variants.{Refused}
 use Rattle.turns.specs.Turns.{TurnInput, givenState, givenPlan, stateTests, turnTests, mostSteps, turnOf}
-use Rattle.turns.proofs.Refusals.{turn-refusals}
+use Rattle.turns.proofs.Refusals.{Served, turn-refusals}
 use Rattle.merges.specs.Merging.{MergeInput, givenKept, givenEnding, mergedWords, mergeTests, mergeOf}
 use Rattle.merges.proofs.Refusals.{merge-refusals}
 use Rattle.cuts.proofs.Accepting.{Accepted}
 use Rattle.cuts.proofs.States.{Passed, accepted-when-passed}
-use Rattle.queries.specs.Playing.{Cause, output-short, quantum-wrong}
+use Rattle.queries.specs.Playing.{Cause, output-short, quantum-wrong, totals-pass, kept-short}
 
 -- where the tests on the state and the threshold pass, 7 or 8 fails first
 seven-or-eight : (a b c d e : Bool) (y : ℕ) → c ≡ true → d ≡ true → e ≡ true
@@ -83,6 +83,29 @@ turn-stopped i a p room none-sent before y e =
     wrong f h =
         subst (Cause (i .tables) (i .plan) (i .quantum) (length (i .output)) before) (sym f)
         (quantum-wrong (λ b. absurd-true (and-both _ _ (le-leb 1 (i .quantum) (b .0)) (le-leb (i .quantum) mostSteps (b .1))) h))
+
+-- ---- a turn that was served has an output and a quantum that every turn has
+pub record Sized (e : Ending) (quantum room : ℕ) : Type 0 where
+  pub output : leastOutput e ≤ room
+  pub least : 1 ≤ quantum
+  pub most : quantum ≤ mostSteps
+
+pub served-sized : (i : TurnInput) → Served i → Sized (givenPlan i .ending) (i .quantum) (length (i .output))
+served-sized i s =
+    let p = turn-refusals i .serves .0 s .1 .1 .1 .1 .1 .1 in
+    record {
+      output = leb-true (leastOutput (givenPlan i .ending)) (length (i .output)) (and-right (leb leastStateWords (length (i .state))) _ (p .0));
+      least = leb-true 1 (i .quantum) (and-left (leb 1 (i .quantum)) (leb (i .quantum) mostSteps) (p .1 .0));
+      most = leb-true (i .quantum) mostSteps (and-right (leb 1 (i .quantum)) (leb (i .quantum) mostSteps) (p .1 .0));
+    }
+
+-- and is not stopped for them
+pub not-sized : (t : Tables) (plan : List ℕ) (quantum room : ℕ) (before : List ℕ) (y : ℕ) → Cause t plan quantum room before y → y ≤ 8
+    → Sized (planOf plan .ending) quantum room → ⊥
+not-sized t plan quantum room before y (output-short l) m z = omega (arith, l, z .output)
+not-sized t plan quantum room before y (quantum-wrong f) m z = f (z .least, z .most)
+not-sized t plan quantum room before y totals-pass m z = omega arith
+not-sized t plan quantum room before y (kept-short n l) m z = omega arith
 
 -- ---- a merge
 last-fails : (a b c d e : Bool) → _≡_ {A = Option ℕ} (cond a (cond b (cond c (cond d (cond e none (some 14)) (some 13)) (some 12)) (some 6)) (some 5)) (some 14) → e ≡ false

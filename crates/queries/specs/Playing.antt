@@ -55,10 +55,11 @@ pub data Cause (t : Tables) (plan : List ℕ) (quantum room : ℕ) (before : Lis
   totals-pass : Cause t plan quantum room before 13
   kept-short : (steps : ℕ) → length before < length (listAfter t plan steps) → Cause t plan quantum room before 14
 
--- stopped: the kept list is the uncut run's up to the lists taken
+-- stopped: the kept list is the uncut run's up to the lists taken. For its output or its quantum it is stopped before the first step
 pub record Stops (t : Tables) (plan : List ℕ) (quantum room : ℕ) (before kept : List ℕ) (x : ℕ) : Type 0 where
   pub cause : Cause t plan quantum room before x
   pub steps : ℕ
+  pub at-first : x ≤ 8 → steps ≡ 0
   pub words : ℕ
   pub list : Holds t plan steps before kept words
 

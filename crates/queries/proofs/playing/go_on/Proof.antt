@@ -5,8 +5,10 @@ use native.Mathlib.Omega.{arith}
 use mathlib.Core.Path.{_≡_, refl, sym, _∙_, subst}
 use lib.ListN.{length}
 use Rattle.tables.specs.Tables.{tablesOf}
+use Rattle.plans.specs.Plans.{planOf}
 use Rattle.queries.specs.declared.Went.{Went}
 use Rattle.queries.specs.Playing.{Cause, Pauses, startAt, UnderWay}
+use Rattle.queries.proofs.Refusing.{Sized}
 use Rattle.queries.proofs.Leaving.{Becomes, becomes, pauses, stops}
 use Rattle.queries.proofs.Starting.{start-accepts, start-keeps, starts, start-alive}
 use Rattle.queries.proofs.playing.go_on.Statement.{statement}
@@ -16,6 +18,7 @@ abbrev Inv-loop : tie.InvT-loop
 Inv-loop rows pos osp plan quantum most state₀ opened output₀ kept₀ saved₀ used₀ n₀ state output kept saved used n =
     (n ≤ most) × (length state ≡ length state₀) × (length output ≡ length output₀) × (length kept ≡ length kept₀)
     × UnderWay (tablesOf rows pos osp) plan (startAt state₀ opened) kept₀ n state saved kept used × ¬ (saved ≡ 0)
+    × (¬ (n ≡ 0) → Sized (planOf plan .ending) quantum (length output₀))
 
 abbrev μ-loop : tie.MeasureT-loop
 μ-loop rows pos osp plan quantum most state₀ opened output₀ kept₀ saved₀ used₀ n₀ state output kept saved used n = most - n
@@ -27,7 +30,7 @@ loop-holds c =
     let p = s .args .plan .now in
     let st = s .args .state .now in
     let k = s .args .kept .now in
-    (omega arith, refl, refl, refl, starts t p st (s .args .opened) (s .pre) k, start-alive t p st (s .args .opened) (s .pre) k)
+    (omega arith, refl, refl, refl, starts t p st (s .args .opened) (s .pre) k, start-alive t p st (s .args .opened) (s .pre) k, λ f. absurd (f refl))
 
 advance-requires : tie.Need-advance-requires Inv-loop μ-loop
 advance-requires c κs =
@@ -54,7 +57,7 @@ loop-again c =
     let o = s .args .opened in
     let v = l .loop .inv in
     let b = subst (λ w. Becomes t p (start-accepts t p st o (s .pre)) (startAt st o) (start-keeps t p st o (s .pre)) (s .args .kept .now) (l .loop .n) (l .loop .state) (l .loop .saved) (l .loop .kept) (l .loop .used) (v .4) (v .5) (s .args .quantum) (l .loop .output) (d .advance .last .1 .1 .1 .1 .0) (d .advance .last .1 .1 .1 .1 .1 .1 .1 .1 .0) w) (c .before .went .given .1) (becomes t p (start-accepts t p st o (s .pre)) (startAt st o) (start-keeps t p st o (s .pre)) (s .args .kept .now) (l .loop .n) (l .loop .state) (l .loop .saved) (l .loop .kept) (l .loop .used) (v .4) (v .5) (s .args .quantum) (l .loop .output) _ _ (d .advance .result) (d .advance .ensures)) in
-    (omega arith, c .before .before .before .before .before .before .before .before .state .given ∙ v .1, c .before .before .before .before .before .before .output .given ∙ v .2, c .before .before .before .before .kept .given ∙ v .3, b .0, b .1)
+    (omega arith, c .before .before .before .before .before .before .before .before .state .given ∙ v .1, c .before .before .before .before .before .before .output .given ∙ v .2, c .before .before .before .before .kept .given ∙ v .3, b .0, b .1, λ _. subst (λ n. Sized (planOf p .ending) (s .args .quantum) n) (v .2) (b .2))
 
 enum-known-went-2 : tie.Need-enum-known-went-2 Inv-loop μ-loop
 enum-known-went-2 c = search needs
@@ -103,7 +106,7 @@ returns-2 c =
     let o = s .args .opened in
     let v = l .loop .inv in
     let b = subst (λ w. Becomes t p (start-accepts t p st o (s .pre)) (startAt st o) (start-keeps t p st o (s .pre)) (s .args .kept .now) (l .loop .n) (l .loop .state) (l .loop .saved) (l .loop .kept) (l .loop .used) (v .4) (v .5) (s .args .quantum) (l .loop .output) (d .advance .last .1 .1 .1 .1 .0) (d .advance .last .1 .1 .1 .1 .1 .1 .1 .1 .0) w) (c .before .went3 .given .1) (becomes t p (start-accepts t p st o (s .pre)) (startAt st o) (start-keeps t p st o (s .pre)) (s .args .kept .now) (l .loop .n) (l .loop .state) (l .loop .saved) (l .loop .kept) (l .loop .used) (v .4) (v .5) (s .args .quantum) (l .loop .output) _ _ (d .advance .result) (d .advance .ensures)) in
-    stops t p (start-accepts t p st o (s .pre)) (startAt st o) (start-keeps t p st o (s .pre)) (s .args .kept .now) (l .loop .n) (l .loop .state) (l .loop .saved) (l .loop .kept) (l .loop .used) (v .4) (s .args .quantum) (length (s .args .output .now)) _ _ (subst (λ n. Cause t p (s .args .quantum) n (s .args .kept .now) (c .before .went3 .given .0 .0)) (v .2) (b .1)) (b .0)
+    stops t p (start-accepts t p st o (s .pre)) (startAt st o) (start-keeps t p st o (s .pre)) (s .args .kept .now) (l .loop .n) (l .loop .state) (l .loop .saved) (l .loop .kept) (l .loop .used) (v .4) (s .args .quantum) (length (s .args .output .now)) (v .6) _ _ (subst (λ n. Cause t p (s .args .quantum) n (s .args .kept .now) (c .before .went3 .given .0 .0)) (v .2) (b .1)) (b .0)
 
 same-length-7 : tie.Need-same-length-7 Inv-loop μ-loop
 same-length-7 c = c .before .loop .inv .1
