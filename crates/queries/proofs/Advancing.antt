@@ -1,5 +1,5 @@
 -- A query under way, and one turn more whose list is taken: it is under way again, it is over, or it is stopped and nothing is taken.
-use Prim.Native.Nat.{ℕ, _+_, _-_, _≤_, _<_}
+use Prim.Native.Nat.{ℕ, _+_, _≤_}
 use native.Mathlib.Omega.{arith}
 use mathlib.Core.Path.{_≡_, refl, sym, _∙_, ap, ap₂, subst, subst⁻¹}
 use mathlib.Core.Bool.{Bool, true, false}
@@ -15,13 +15,12 @@ use Rattle.plans.specs.Branches.{branchRight, binds}
 use Rattle.plans.specs.Endings.{Ending, rows, endingRight}
 use Rattle.plans.specs.Plans.{Plan, planOf}
 use Rattle.steps.specs.Steps.{State, after}
-use Rattle.steps.specs.Saved.{stateWords, savedWords, leastStateWords}
+use Rattle.steps.specs.Saved.{savedWords}
 use Rattle.lists.specs.Gathering.{gathered, thresholdRight}
 use Rattle.lists.specs.Thresholds.{absent}
 use Rattle.turns.specs.declared.TurnEnding.{TurnEnding}
 use Rattle.turns.specs.declared.TurnEnding.the-variants as ending
 use Rattle.turns.specs.Turns.{TurnInput, TurnResult, turnOf}
-use Rattle.turns.proofs.Refusals as refusals
 use Rattle.turns.proofs.Follows.{follows}
 use Rattle.turns.proofs.OnTheRun.{keeps-lengths}
 use Rattle.turns.proofs.Growing.{Grows, grows}
@@ -35,7 +34,7 @@ use Rattle.cuts.proofs.Turning.{Kept}
 use Rattle.cuts.proofs.Taking.{next-piece}
 use Rattle.cuts.proofs.AnyCut.{history-keeps, as-uncut}
 use Rattle.cuts.proofs.States.{Passed}
-use Rattle.queries.specs.Stepping.{isServed, listOf}
+use Rattle.queries.specs.Stepping.{isServed}
 use Rattle.queries.specs.Playing.{UnderWay}
 use Rattle.queries.proofs.Taking.{is-served}
 
@@ -57,6 +56,14 @@ pub longer-by : (e : Ending) → Grows e [] → (bs cs : List Bindings) → leng
 longer-by e g bs [] = omega (arith, ap (λ l. length (gathered e [] l)) (append-nil bs))
 longer-by e g bs (c ∷ cs) =
     omega (arith, g .longer bs c, longer-by e g (bs ++ (c ∷ [])) cs, ap (λ l. length (gathered e [] l)) (append-assoc bs (c ∷ []) cs))
+
+-- the list of an accepted plan
+pub list-grows : (t : Tables) (plan : List ℕ) → Accepted t plan → Grows (planOf plan .ending) []
+unfolding thresholdRight
+list-grows t plan a =
+    let q = planOf plan in
+    grows (binds (q .branches)) (q .ending) [] (accepted-form t plan a .ending)
+    (and-right (all branchRight (q .branches)) (endingRight (binds (q .branches)) (q .ending)) (a .variables)) refl
 
 -- a served turn leaves what its result says
 served-after : (h : Held) (quantum : ℕ) (r : TurnResult) (e : TurnEnding) → isServed e ≡ true → afterTurn h quantum r e ≡ afterServed h quantum r
@@ -81,12 +88,6 @@ no-elements (x ∷ xs) e = absurd (omega arith)
 module _ (t : Tables) (plan : List ℕ) (a : Accepted t plan) (first : Held) (k : Kept t (planOf plan) first) (before : List ℕ) where
   abbrev q : Plan
   q = planOf plan
-
-  list-grows : Grows (q .ending) []
-  unfolding thresholdRight
-  list-grows =
-      grows (binds (q .branches)) (q .ending) [] (accepted-form t plan a .ending)
-      (and-right (all branchRight (q .branches)) (endingRight (binds (q .branches)) (q .ending)) (a .variables)) refl
 
   module _ (count : ℕ) (state : List ℕ) (saved : ℕ) (kept : List ℕ) (used : ℕ) (u : UnderWay t plan first before count state saved kept used) where
     abbrev h : Held
@@ -191,7 +192,7 @@ module _ (t : Tables) (plan : List ℕ) (a : Accepted t plan) (first : Held) (k 
               let n = stepsIn (h .taken) in
               let new : list ≡ gathered (q .ending) [] (after t q n .delivered ++ piece .rows) =
               now-keeps .list ∙ ap (λ d. runList (q .ending) (after t q d)) (steps-more (h .taken) x) ∙ ap (gathered (q .ending) []) (piece .more) in
-              omega (arith, ap length new, ap length (held-keeps .list), longer-by (q .ending) list-grows (after t q n .delivered) (piece .rows))
+              omega (arith, ap length new, ap length (held-keeps .list), longer-by (q .ending) (list-grows t plan a) (after t q n .delivered) (piece .rows))
 
           module _ (new : List ℕ) (words : ℕ) (whole : new ≡ over list kept) (counted : words ≡ length list) (room : words ≤ length kept) where
             -- done was answered exactly by a turn that was done

@@ -3,9 +3,8 @@ use Prim.Native.Nat.{ℕ, _+_, _≤_}
 use native.Mathlib.Omega.{arith}
 use native.Mathlib.Decide.{decLt}
 use mathlib.Core.Path.{_≡_, refl, sym, _∙_, ap, ap₂, subst, subst⁻¹}
-use mathlib.Core.Logic.{_⊎_, inl, inr}
+use mathlib.Core.Logic.{inl, inr}
 use mathlib.Core.Bool.{Bool, true, false, cond, not, _&&_}
-use mathlib.Core.Option.{none}
 use mathlib.Core.List.{List, [], _∷_, _++_}
 use lib.Dec.{leb}
 use lib.ListN.{length, take, drop, length-append}
@@ -35,7 +34,7 @@ use Rattle.cuts.proofs.Taking.{taking-keeps}
 use Rattle.cuts.proofs.MergeRefusals.{Merged, merge-refused}
 use Rattle.queries.specs.declared.Went.{Went}
 use Rattle.queries.specs.declared.Went.the-variants.{On, Over, Stopped}
-use Rattle.queries.specs.Stepping.{isServed, isRows, joinOf, Stepped, listOf, mergedBy, takenBy, takeTurnOf, wentAs, leftAsIs, Advances}
+use Rattle.queries.specs.Stepping.{isServed, isRows, joinOf, mergedBy, takenBy, takeTurnOf, wentAs, leftAsIs, Advances}
 use Rattle.queries.specs.Playing.{Holds, Finishes, Pauses, Cause, totals-pass, kept-short, Stops, UnderWay}
 use Rattle.queries.proofs.Refusing.{turn-stopped, Sized, served-sized, not-sized, merge-short}
 use Rattle.queries.proofs.Taking.{is-served}

@@ -3,3 +3,4 @@ pub mod Refusing
 pub mod Advancing
 pub mod Leaving
 pub mod Starting
+pub mod Room

@@ -1,5 +1,5 @@
 -- The start of a query: what a served opening leaves is under way, with no turn made and no list taken.
-use Prim.Native.Nat.{ℕ, _≤_}
+use Prim.Native.Nat.{ℕ}
 use native.Mathlib.Omega.{arith}
 use mathlib.Core.Path.{_≡_, refl, sym, _∙_, ap, ap₂, subst⁻¹}
 use mathlib.Core.Logic.{inr}
@@ -17,7 +17,7 @@ use Rattle.steps.specs.Saved.{savedWords, leastStateWords}
 use Rattle.turns.specs.Opening.{openOf}
 use Rattle.turns.proofs.Refusals.{open-refusals}
 use Rattle.turns.proofs.Follows.{starts-run}
-use Rattle.cuts.specs.Histories.{Held, doneIn, history, fresh}
+use Rattle.cuts.specs.Histories.{doneIn, history, fresh}
 use Rattle.cuts.proofs.Accepting.{Accepted, opening-accepts}
 use Rattle.cuts.proofs.Turning.{Kept}
 use Rattle.cuts.proofs.AnyCut.{fresh-keeps}

@@ -1,17 +1,15 @@
 -- One turn and its list: from what the calls leave to the definition of a step.
 use Prim.Native.Nat.{ℕ, _+_, _-_, _≤_, _<_}
 use native.Mathlib.Omega.{arith}
-use mathlib.Core.Path.{_≡_, refl, sym, _∙_, ap, ap₂, subst, subst⁻¹}
-use mathlib.Core.Bool.{Bool, true, false, cond, not, _&&_}
+use mathlib.Core.Path.{_≡_, refl, sym, _∙_, ap, ap₂}
+use mathlib.Core.Bool.{Bool, true, false, not, _&&_}
 use mathlib.Core.List.{List, _++_}
 use lib.Dec.{leb}
-use lib.ListN.{length, take, drop, length-append}
+use lib.ListN.{length, take, length-append}
 use lib.Seq.{paste, take-length, length-take-le}
 use borrow.Author.Tests.{le-leb, lt-leb}
-use Rattle.words.specs.declared.Written.{Written}
 use Rattle.words.specs.declared.Written.the-variants as written
-use Rattle.words.specs.Sequences.{over}
-use Rattle.words.proofs.Booleans.{absurd-true, and-left, and-right}
+use Rattle.words.proofs.Booleans.{absurd-true}
 use Rattle.plans.specs.declared.Last.{Last}
 use Rattle.plans.specs.declared.Last.the-variants as last
 use Rattle.plans.specs.Endings.{Ending, rows, top, group}
@@ -26,7 +24,7 @@ use Rattle.turns.proofs.Follows.{follows}
 use Rattle.turns.proofs.OnTheRun.{keeps-lengths}
 use Rattle.merges.specs.Merging.{MergeResult, mergeOf}
 use Rattle.queries.specs.declared.Step.{Step}
-use Rattle.queries.specs.Stepping.{isServed, isRows, toMerge, toJoin, joinOf, Stepped, steppedAs, listOf, leftAsIs, mergedBy, playTurnOf, takenBy, takeTurnOf}
+use Rattle.queries.specs.Stepping.{isServed, isRows, toMerge, toJoin, joinOf, Stepped, steppedAs, listOf, leftAsIs, mergedBy, playTurnOf, takeTurnOf}
 
 -- ---- the kind of an ending
 abbrev pub rowsKind : Last → Bool

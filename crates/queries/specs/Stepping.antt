@@ -12,7 +12,7 @@ use Rattle.plans.specs.Endings.{Ending, rows, top, group}
 use Rattle.turns.specs.declared.TurnEnding.{TurnEnding}
 use Rattle.turns.specs.declared.TurnEnding.the-variants as ending
 use Rattle.turns.specs.Turns.{TurnInput, TurnResult, givenPlan, turnOf}
-use Rattle.merges.specs.Merging.{MergeInput, MergeResult, mergeOf}
+use Rattle.merges.specs.Merging.{MergeResult, mergeOf}
 use Rattle.queries.specs.declared.Step.{Step}
 use Rattle.queries.specs.declared.Went.{Went}
 use Rattle.queries.specs.declared.Went.the-variants.{On, Over, Stopped}

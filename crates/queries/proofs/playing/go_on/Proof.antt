@@ -1,12 +1,11 @@
 -- `go_on` meets its contract: after each turn the query is under way as the uncut run, until it is over or stopped.
 use borrow.Author.Needs.{needs}
-use Prim.Native.Nat.{ℕ, _-_, _≤_}
+use Prim.Native.Nat.{_-_, _≤_}
 use native.Mathlib.Omega.{arith}
-use mathlib.Core.Path.{_≡_, refl, sym, _∙_, subst}
+use mathlib.Core.Path.{_≡_, refl, _∙_, subst}
 use lib.ListN.{length}
 use Rattle.tables.specs.Tables.{tablesOf}
 use Rattle.plans.specs.Plans.{planOf}
-use Rattle.queries.specs.declared.Went.{Went}
 use Rattle.queries.specs.Playing.{Cause, Pauses, startAt, UnderWay}
 use Rattle.queries.proofs.Refusing.{Sized}
 use Rattle.queries.proofs.Leaving.{Becomes, becomes, pauses, stops}

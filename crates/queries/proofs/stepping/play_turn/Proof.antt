@@ -1,10 +1,7 @@
 -- `play_turn` meets its contract: the turn, and its list merged where it is one to merge.
 use borrow.Author.Needs.{needs}
-use native.Mathlib.Omega.{arith}
-use mathlib.Core.Path.{_≡_, sym, _∙_, ap}
-use mathlib.Core.Bool.{true}
+use mathlib.Core.Path.{sym, _∙_, ap}
 use mathlib.Core.List.{[]}
-use lib.ListN.{length}
 use lib.Seq.{length-take-le}
 use Rattle.words.proofs.Booleans.{and-left}
 use Rattle.turns.specs.Turns.{TurnResult}

@@ -1,10 +1,7 @@
 -- `take_turn` meets its contract: the turn, its list merged, or joined where it is one to join.
 use borrow.Author.Needs.{needs}
-use native.Mathlib.Omega.{arith}
-use mathlib.Core.Path.{_≡_, sym, _∙_}
-use mathlib.Core.Bool.{true}
+use mathlib.Core.Path.{sym, _∙_}
 use mathlib.Core.List.{[]}
-use lib.ListN.{length}
 use lib.Seq.{length-take-le}
 use Rattle.words.proofs.Booleans.{and-left}
 use Rattle.turns.specs.Testing.{turnInput}

@@ -1,0 +1,56 @@
+-- A kept buffer that has room for the whole list has room for the list at every step: a play over it is not refused by 14.
+use Prim.Native.Nat.{ℕ, _+_, _-_, _≤_}
+use native.Mathlib.Omega.{arith}
+use native.Mathlib.Decide.{decLt}
+use mathlib.Core.Path.{_≡_, refl, _∙_, ap}
+use mathlib.Core.Option.{Option, none, some}
+use mathlib.Core.List.{List, []}
+use lib.ListN.{length}
+use Rattle.tables.specs.Tables.{Tables}
+use Rattle.plans.specs.Plans.{Plan, planOf}
+use Rattle.steps.specs.Steps.{State, runFrom, after}
+use Rattle.steps.proofs.Runs.{after-rows, done-stays}
+use Rattle.lists.specs.Gathering.{gathered}
+use Rattle.cuts.specs.Uncut.{EndsAt, runList}
+use Rattle.cuts.proofs.Accepting.{Accepted, opening-accepts}
+use Rattle.queries.specs.Playing.{listAfter, Cause, output-short, quantum-wrong, totals-pass, kept-short, Opens, Stops}
+use Rattle.queries.proofs.Advancing.{longer-by, list-grows}
+
+module _ (t : Tables) (plan : List ℕ) (a : Accepted t plan) where
+  abbrev q : Plan
+  q = planOf plan
+
+  -- more steps make no shorter list
+  pub no-shorter : (m n : ℕ) → length (listAfter t plan m) ≤ length (listAfter t plan (m + n))
+  no-shorter m n = go (after t q m .state) refl
+    where
+      go : (o : Option State) → after t q m .state ≡ o → length (listAfter t plan m) ≤ length (listAfter t plan (m + n))
+      go none e = omega (arith, ap (λ r. length (runList (q .ending) r)) (done-stays t q m n e))
+      go (some s) e =
+          omega (
+            arith,
+            ap (λ l. length (gathered (q .ending) [] l)) (after-rows t q m n s e),
+            longer-by (q .ending) (list-grows t plan a) (after t q m .delivered) (runFrom t q s n .delivered),
+          )
+
+  -- and none is longer than the whole one
+  pub whole-longest : (n : ℕ) → EndsAt t q n → (m : ℕ) → length (listAfter t plan m) ≤ length (listAfter t plan n)
+  whole-longest n e m =
+      elim (decLt n m) [
+        | yes f ↦ let d : m ≡ n + (m - n) = omega arith in
+            omega (arith, ap (λ r. length (runList (q .ending) r)) (ap (after t q) d ∙ done-stays t q n (m - n) (e .over)))
+        | no f ↦ let d : n ≡ m + (n - m) = omega arith in
+            omega (arith, no-shorter m (n - m), ap (λ k. length (listAfter t plan k)) d)
+      ]
+
+-- a play that was opened, over a kept buffer with room for the whole list of the uncut run, is stopped by no 14
+pub room-enough : (t : Tables) (plan state : List ℕ) → Opens t plan state → (n : ℕ) → EndsAt t (planOf plan) n
+    → (quantum room : ℕ) (before kept : List ℕ) → length (listAfter t plan n) ≤ length before
+    → (x : ℕ) → Stops t plan quantum room before kept x → ¬ (x ≡ 14)
+room-enough t plan state o n ends quantum room before kept fits x s = go x (s .cause)
+  where
+    go : (y : ℕ) → Cause t plan quantum room before y → ¬ (y ≡ 14)
+    go y (output-short l) e = omega arith
+    go y (quantum-wrong f) e = omega arith
+    go y totals-pass e = omega arith
+    go y (kept-short m l) e = omega (arith, whole-longest t plan (opening-accepts t plan state o) n ends m)
