@@ -7,6 +7,7 @@ use mathlib.Core.Path.{_≡_, sym, _∙_, ap}
 use mathlib.Core.List.{List, [], _∷_, _++_, append-assoc}
 use lib.ListN.{length, take, drop, set, length-append, length-drop}
 use lib.Seq.{take-at, drop-at, drop-drop, set-split, take-set-le, drop-set-lt, drop-cons, getD-set-same, lt-length-set, append-snoc, length-take-le, take-length, paste, paste-zero}
+use Rattle.words.proofs.Buffers.{length-over}
 use Rattle.lists.specs.Putting.{Listed}
 use Rattle.printing.specs.Texts.{Text, newline, digit, decimal}
 use Rattle.printing.specs.Placing.{placed, Placed}
@@ -104,3 +105,12 @@ module _ (word mid : Text) (p q r : ℕ) (line one two three : List ℕ) (h : le
       (placed-front (word ++ mid ++ (newline ∷ [])) line three r
       (placed-then (word ++ mid) (newline ∷ []) 0 q r line two three (omega arith)
       (placed-then word mid 0 p q line one two (omega arith) x y) z))
+
+-- ---- for a program that lends the printed part on: it lies within the line
+pub printed-part : (text : Text) (before after : List ℕ) (r : ℕ) → length text ≤ length before → Listed text before after r
+    → (r ≤ length after) × (r ≡ length (take r after))
+printed-part text before after r h x =
+    let n = ap length (x .1) ∙ length-over text before h in
+    let e = x .0 in
+    let l : r ≤ length after = omega arith in
+    (l, sym (length-take-le r after l))

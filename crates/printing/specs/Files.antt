@@ -1,5 +1,5 @@
 -- The turn printer's file: its words, the tests of its size, and where its parts begin. Assumes nothing: these are definitions.
-use Prim.Native.Nat.{ℕ, _+_, _*_, _%_}
+use Prim.Native.Nat.{ℕ, _+_, _*_, _%_, _≤_}
 use mathlib.Core.Bool.{Bool, cond, _&&_}
 use mathlib.Core.List.{List, [], _∷_, map}
 use lib.Dec.{eqb, leb}
@@ -50,6 +50,10 @@ planAt n = rowsAt + 5 * n
 -- the parts of a file with so many rows and words; the plan is all that is left
 abbrev pub partsOf : ℕ → ℕ → FileParts
 partsOf n count = record { pos = posAt n; osp = ospAt n; plan = planAt n; words = count }
+
+-- the parts follow each other
+abbrev pub Laid : FileParts → Type 0
+Laid p = (rowsAt ≤ p .pos) × (p .pos ≤ p .osp) × (p .osp ≤ p .plan) × (p .plan ≤ p .words)
 
 -- ---- the answer: where the parts begin, or refused by 1
 -- words that are not fewer than their counts say

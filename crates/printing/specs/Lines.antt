@@ -1,8 +1,8 @@
 -- The lines of the turn printer: a row, a group, any other list, a turn, a refusal; and how long a line is at most. Assumes nothing:
 -- these are definitions.
-use Prim.Native.Nat.{ℕ}
+use Prim.Native.Nat.{ℕ, _+_}
 use mathlib.Core.List.{List, [], _∷_, _++_}
-use Rattle.lists.specs.Groups.{Group}
+use Rattle.lists.specs.Groups.{Group, pairAt}
 use Rattle.turns.specs.declared.TurnEnding.{TurnEnding}
 use Rattle.turns.specs.declared.TurnEnding.the-variants.{Done, Spent, Full, Refused}
 use Rattle.printing.specs.Texts.{Text, newline, numberField, termFields, numberFields, rowWord, groupWord, listWord, turnWord, stepsWord, doneWord, spentWord, fullWord, refusedWord}
@@ -10,6 +10,10 @@ use Rattle.printing.specs.Texts.{Text, newline, numberField, termFields,
 -- a row: its terms
 unfoldable pub rowLine : List ℕ → Text
 rowLine ws = rowWord ++ (termFields ws ++ (newline ∷ []))
+
+-- rows, numbers and sum as the words of a record with n keys have them
+abbrev pub totalsIn : ℕ → List ℕ → List ℕ
+totalsIn n ws = pairAt ws n ∷ pairAt ws (n + 2) ∷ pairAt ws (n + 4) ∷ []
 
 -- the fields of a record: keys, rows, numbers, sum, least, greatest
 unfoldable pub groupFields : Group → Text

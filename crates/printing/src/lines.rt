@@ -5,15 +5,14 @@ use crate::texts::put_number;
 use crate::texts::put_numbers;
 use crate::texts::put_terms;
 use turns::TurnEnding;
-ghost use mathlib.Core.Path.{_≡_};
-ghost use mathlib.Core.List.{_∷_, [], _++_};
+ghost use mathlib.Core.List.{_++_};
 ghost use Prim.Native.Nat.{_+_, _≤_};
 ghost use lib.ListN.{length};
 ghost use Rattle.plans.specs.Endings.{mostRowVariables, mostGroupVariables};
 ghost use Rattle.lists.specs.Groups.{groupIn, totalsWidth, pairAt};
 ghost use Rattle.lists.specs.Putting.{Listed};
 ghost use Rattle.printing.specs.Texts.{numberField, numberFields};
-ghost use Rattle.printing.specs.Lines.{rowLine, groupFields, groupLine, listLine, refusedLine, servedLine, turnLine, rowLineRoom, groupLineRoom, turnLineRoom};
+ghost use Rattle.printing.specs.Lines.{rowLine, totalsIn, groupFields, groupLine, listLine, refusedLine, servedLine, turnLine, rowLineRoom, groupLineRoom, turnLineRoom};
 ghost use Rattle.printing.specs.Placing.{Placed};
 
 // A row's line.
@@ -46,8 +45,8 @@ fn put_total(line: &mut [u8], at: usize, group: &[u32], total: usize) -> usize
 
 // The rows, the numbers and the sum of a record of so many keys.
 fn put_totals(line: &mut [u8], at: usize, keys: usize, group: &[u32]) -> usize
-    requires { ⌜ (keys + totalsWidth ≤ length (now group)) × (at + length (numberFields (pairAt (now group) keys ∷ pairAt (now group) (keys + 2) ∷ pairAt (now group) (keys + 4) ∷ [])) ≤ length (now line)) ⌝ }
-    ensures { λ r. ⌜ Placed (numberFields (pairAt (now (group .entry)) keys ∷ pairAt (now (group .entry)) (keys + 2) ∷ pairAt (now (group .entry)) (keys + 4) ∷ [])) at (now (line .entry)) (now (line .exit)) r ⌝ }
+    requires { ⌜ (keys + totalsWidth ≤ length (now group)) × (at + length (numberFields (totalsIn keys (now group))) ≤ length (now line)) ⌝ }
+    ensures { λ r. ⌜ Placed (numberFields (totalsIn keys (now (group .entry)))) at (now (line .entry)) (now (line .exit)) r ⌝ }
 {
     let after_rows = put_total(line, at, group, keys);
     let after_numbers = put_total(line, after_rows, group, keys + 2);

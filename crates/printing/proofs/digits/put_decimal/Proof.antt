@@ -22,9 +22,11 @@ same-length c = search needs
 
 returns : tie.Need-returns
 returns c =
-    let a = c .before .before .before .before .before .before .args in
-    let e = c .before .before .before .before .digit-count .ensures in
-    let p : a .at + c .before .before .before .before .digit-count .result - length (decimal (a .x)) ≡ a .at = omega arith in
+    let s = c .before .before .before .before .before .before in
+    let digit-count-done = c .before .before .before .before .digit-count in
+    let a = s .args in
+    let e = digit-count-done .ensures in
+    let p : a .at + digit-count-done .result - length (decimal (a .x)) ≡ a .at = omega arith in
     (ap (λ k. a .at + k) e, c .before .before .write-digits .ensures ∙ rw p)
 
 pub put-decimal-spec : {M : Type 1} → statement M

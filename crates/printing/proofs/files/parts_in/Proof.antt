@@ -28,11 +28,13 @@ add-plan c = omega (arith, c .wide .ensures, c .before .shared-slice-known2 .giv
 
 returns-2 : tie.Need-returns-2
 returns-2 c =
-    too-short (c .before .before .before .before .before .args .words .now) (c .before .wide .result) (c .before .wide .ensures) (omega arith) (omega arith)
+    let s = c .before .before .before .before .before in
+    too-short (s .args .words .now) (c .before .wide .result) (c .before .wide .ensures) (omega arith) (omega arith)
 
 returns-3 : tie.Need-returns-3
 returns-3 c =
-    right-parts (c .before .before .before .before .before .args .words .now) (c .before .wide .result) (c .before .wide .ensures) (omega arith) (omega arith) _ _ _
+    let s = c .before .before .before .before .before in
+    right-parts (s .args .words .now) (c .before .wide .result) (c .before .wide .ensures) (omega arith) (omega arith) _ _ _
     (omega arith) (omega arith) (omega arith)
 
 pub parts-in-spec : {M : Type 1} → statement M

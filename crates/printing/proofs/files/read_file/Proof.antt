@@ -11,7 +11,9 @@ use Rattle.printing.proofs.files.read_file.Statement.{statement}
 use Rattle.printing.proofs.files.read_file.Tie as tie
 
 returns : tie.Need-returns
-returns c = too-long (c .before .before .before .args .bytes .now) (c .before .before .before .args .words .now) (c .if1 .taken)
+returns c =
+    let s = c .before .before .before in
+    too-long (s .args .bytes .now) (s .args .words .now) (c .if1 .taken)
 
 read-words-requires : tie.Need-read-words-requires
 read-words-requires c κs = search needs
@@ -32,7 +34,9 @@ slice-reshare-prefix-parts-in : tie.Need-slice-reshare-prefix-parts-in
 slice-reshare-prefix-parts-in c = search needs
 
 slice-aggregate-parts-in : tie.Need-slice-aggregate-parts-in
-slice-aggregate-parts-in c = sym (length-take-le (length (c .before .before .before .before .before .before .before .before .before .args .bytes .now) / 4) (c .before .before .before .before .read-words .last .1 .0) (omega arith))
+slice-aggregate-parts-in c =
+    let s = c .before .before .before .before .before .before .before .before .before in
+    sym (length-take-le (length (s .args .bytes .now) / 4) (c .before .before .before .before .read-words .last .1 .0) (omega arith))
 
 parts-in-requires : tie.Need-parts-in-requires
 parts-in-requires c κs = search needs

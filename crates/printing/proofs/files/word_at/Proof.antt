@@ -58,7 +58,8 @@ add-result c = search needs
 
 returns : tie.Need-returns
 returns c =
-    let a = c .before .before .before .before .before .before .before .before .before .args in
+    let s = c .before .before .before .before .before .before .before .before .before in
+    let a = s .args in
     let four = four-bytes (a .at) (a .bytes .now) (omega arith) in
     omega (arith, c .before .before .before .before .before .before .byte .ensures .0, c .before .before .before .before .byte2 .ensures .0, c .before .before .byte3 .ensures .0)
 

@@ -17,24 +17,37 @@ put-bytes-requires : tie.Need-put-bytes-requires
 put-bytes-requires c κs = search needs
 
 put-fields-requires : tie.Need-put-fields-requires
-put-fields-requires c κs = let e = group-fields-most (c .before .before .before .before .before .before .before .before .args .keys) (c .before .before .before .before .before .before .before .before .args .group .now) (omega (arith, c .before .before .before .before .before .before .before .before .pre)) (omega (arith, c .before .before .before .before .before .before .before .before .pre)) (λ i. c .before .before .before .before .before .before .shared-slice-known .given i .fits) in (omega arith, omega (arith, c .before .before .before .before .before .before .before .before .pre))
+put-fields-requires c κs =
+    let s = c .before .before .before .before .before .before .before .before in
+    let word = c .before .before .before .before .before .before .shared-slice-known .given in
+    let a = s .args in
+    let e = group-fields-most (a .keys) (a .group .now) (omega (arith, s .pre)) (omega (arith, s .pre)) (λ i. word i .fits) in
+    (omega arith, omega (arith, s .pre))
 
 put-byte-requires : tie.Need-put-byte-requires
-put-byte-requires c κs = let e = group-fields-most (c .before .before .before .before .before .before .before .before .before .before .before .before .args .keys) (c .before .before .before .before .before .before .before .before .before .before .before .before .args .group .now) (omega (arith, c .before .before .before .before .before .before .before .before .before .before .before .before .pre)) (omega (arith, c .before .before .before .before .before .before .before .before .before .before .before .before .pre)) (λ i. c .before .before .before .before .before .before .before .before .before .before .shared-slice-known .given i .fits) in omega (arith, c .before .before .before .before .before .before .before .before .before .before .before .before .pre)
+put-byte-requires c κs =
+    let s = c .before .before .before .before .before .before .before .before .before .before .before .before in
+    let word = c .before .before .before .before .before .before .before .before .before .before .shared-slice-known .given in
+    let a = s .args in
+    let e = group-fields-most (a .keys) (a .group .now) (omega (arith, s .pre)) (omega (arith, s .pre)) (λ i. word i .fits) in
+    omega (arith, s .pre)
 
 same-length : tie.Need-same-length
 same-length c = search needs
 
 returns : tie.Need-returns
 returns c =
-    let a = c .before .before .before .before .before .before .before .before .before .before .before .before .before .before .before .args in
+    let s = c .before .before .before .before .before .before .before .before .before .before .before .before .before .before .before in
     let one = c .before .before .before .before .before .before .before .before .before .before .put-bytes in
     let two = c .before .before .before .before .before .before .put-fields in
     let three = c .before .before .put-byte in
-    let e = group-fields-most (c .before .before .before .before .before .before .before .before .before .before .before .before .before .before .before .args .keys) (c .before .before .before .before .before .before .before .before .before .before .before .before .before .before .before .args .group .now) (omega (arith, c .before .before .before .before .before .before .before .before .before .before .before .before .before .before .before .pre)) (omega (arith, c .before .before .before .before .before .before .before .before .before .before .before .before .before .before .before .pre)) (λ i. c .before .before .before .before .before .before .before .before .before .before .before .before .before .shared-slice-known .given i .fits) in
+    let word = c .before .before .before .before .before .before .before .before .before .before .before .before .before .shared-slice-known .given in
+    let a = s .args in
+    let e = group-fields-most (a .keys) (a .group .now) (omega (arith, s .pre)) (omega (arith, s .pre)) (λ i. word i .fits) in
     rw (group-text (groupIn (a .keys) (a .group .now)))
-    (whole-line groupWord (groupFields (groupIn (a .keys) (a .group .now))) (one .result) (two .result) (three .result) (a .line .now) (one .last .0) (two .last .0) (three .last .0)
-    (omega (arith, c .before .before .before .before .before .before .before .before .before .before .before .before .before .before .before .pre)) (one .ensures) (two .ensures) (three .ensures))
+    (whole-line groupWord (groupFields (groupIn (a .keys) (a .group .now)))
+    (one .result) (two .result) (three .result) (a .line .now) (one .last .0) (two .last .0) (three .last .0)
+    (omega (arith, s .pre)) (one .ensures) (two .ensures) (three .ensures))
 
 pub group-line-spec : {M : Type 1} → statement M
 group-line-spec =

@@ -15,24 +15,32 @@ put-bytes-requires : tie.Need-put-bytes-requires
 put-bytes-requires c κs = let e = list-length (c .before .before .before .before .args .list .now) in omega arith
 
 put-numbers-requires : tie.Need-put-numbers-requires
-put-numbers-requires c κs = let e = list-length (c .before .before .before .before .before .before .before .before .args .list .now) in omega (arith, c .before .before .before .before .before .before .before .before .pre)
+put-numbers-requires c κs =
+    let s = c .before .before .before .before .before .before .before .before in
+    let e = list-length (s .args .list .now) in
+    omega (arith, s .pre)
 
 put-byte-requires : tie.Need-put-byte-requires
-put-byte-requires c κs = let e = list-length (c .before .before .before .before .before .before .before .before .before .before .before .before .args .list .now) in omega (arith, c .before .before .before .before .before .before .before .before .before .before .before .before .pre)
+put-byte-requires c κs =
+    let s = c .before .before .before .before .before .before .before .before .before .before .before .before in
+    let e = list-length (s .args .list .now) in
+    omega (arith, s .pre)
 
 same-length : tie.Need-same-length
 same-length c = search needs
 
 returns : tie.Need-returns
 returns c =
-    let a = c .before .before .before .before .before .before .before .before .before .before .before .before .before .before .before .args in
+    let s = c .before .before .before .before .before .before .before .before .before .before .before .before .before .before .before in
+    let a = s .args in
     let one = c .before .before .before .before .before .before .before .before .before .before .put-bytes in
     let two = c .before .before .before .before .before .before .put-numbers in
     let three = c .before .before .put-byte in
-    let e = list-length (c .before .before .before .before .before .before .before .before .before .before .before .before .before .before .before .args .list .now) in
+    let e = list-length (s .args .list .now) in
     rw (list-text (a .list .now))
-    (whole-line listWord (numberFields (a .list .now)) (one .result) (two .result) (three .result) (a .line .now) (one .last .0) (two .last .0) (three .last .0)
-    (omega (arith, c .before .before .before .before .before .before .before .before .before .before .before .before .before .before .before .pre)) (one .ensures) (two .ensures) (three .ensures))
+    (whole-line listWord (numberFields (a .list .now))
+    (one .result) (two .result) (three .result) (a .line .now) (one .last .0) (two .last .0) (three .last .0)
+    (omega (arith, s .pre)) (one .ensures) (two .ensures) (three .ensures))
 
 pub list-line-spec : {M : Type 1} → statement M
 list-line-spec =

@@ -6,15 +6,17 @@ use mathlib.Core.List.{[], _∷_, _++_}
 use mathlib.Core.Path.{sym}
 use lib.Seq.{length-take-le}
 use lib.ListN.{getD, take, length-append}
-use Rattle.lists.specs.Groups.{pairAt}
 use Rattle.printing.specs.Texts.{numberFields, termFields}
 use Rattle.printing.proofs.Placements.{placed-then}
+use Rattle.printing.specs.Lines.{totalsIn}
 use Rattle.printing.proofs.Records.{fields-of, fields-length, last-two}
 use Rattle.printing.proofs.lines.put_fields.Statement.{statement}
 use Rattle.printing.proofs.lines.put_fields.Tie as tie
 
 slice-aggregate-put-terms : tie.Need-slice-aggregate-put-terms
-slice-aggregate-put-terms c = sym (length-take-le (c .before .before .before .before .args .keys) (c .before .before .before .before .args .group .now) (omega (arith, c .before .before .before .before .pre)))
+slice-aggregate-put-terms c =
+    let s = c .before .before .before .before in
+    sym (length-take-le (s .args .keys) (s .args .group .now) (omega (arith, s .pre)))
 
 put-terms-requires : tie.Need-put-terms-requires
 put-terms-requires c κs =
@@ -54,10 +56,11 @@ part-put-terms-end c = search needs
 
 put-terms-requires-2 : tie.Need-put-terms-requires-2
 put-terms-requires-2 c κs =
-    let a = c .before .before .before .before .before .before .before .before .before .before .before .before .before .args in
+    let s = c .before .before .before .before .before .before .before .before .before .before .before .before .before in
+    let a = s .args in
     let g = a .group .now in
     let k = a .keys in
-    let pre = c .before .before .before .before .before .before .before .before .before .before .before .before .before .pre in
+    let pre = s .pre in
     let e = fields-length k g in
     rw (last-two k g (omega (arith, pre))) (omega arith)
 
@@ -66,13 +69,14 @@ same-length c = search needs
 
 returns : tie.Need-returns
 returns c =
-    let a = c .before .before .before .before .before .before .before .before .before .before .before .before .before .before .before .before .args in
+    let s = c .before .before .before .before .before .before .before .before .before .before .before .before .before .before .before .before in
+    let a = s .args in
     let g = a .group .now in
     let k = a .keys in
-    let pre = c .before .before .before .before .before .before .before .before .before .before .before .before .before .before .before .before .pre in
+    let pre = s .pre in
     let e = fields-length k g in
     let keys = termFields (take k g) in
-    let totals = numberFields (pairAt g k ∷ pairAt g (k + 2) ∷ pairAt g (k + 4) ∷ []) in
+    let totals = numberFields (totalsIn k g) in
     let ends = termFields (getD g (k + 6) 0 ∷ getD g (k + 7) 0 ∷ []) in
     let n = length-append keys totals in
     let one = c .before .before .before .before .before .before .before .before .before .before .before .put-terms in

@@ -46,7 +46,8 @@ same-length c = search needs
 
 returns : tie.Need-returns
 returns c =
-    let a = c .before .before .before .before .before .before .before .before .before .before .before .before .before .before .args in
+    let s = c .before .before .before .before .before .before .before .before .before .before .before .before .before .before in
+    let a = s .args in
     let g = a .group .now in
     let x = pairAt g (a .keys) in
     let y = pairAt g (a .keys + 2) in

@@ -21,22 +21,26 @@ put-number-requires : tie.Need-put-number-requires
 put-number-requires c κs = let e = length-word (c .long .result) (omega arith) in omega arith
 
 put-byte-requires : tie.Need-put-byte-requires
-put-byte-requires c κs = let e = length-word (c .before .before .before .before .long .result) (omega arith) in omega arith
+put-byte-requires c κs =
+    let e = length-word (c .before .before .before .before .long .result) (omega arith) in
+    omega arith
 
 same-length : tie.Need-same-length
 same-length c = search needs
 
 returns : tie.Need-returns
 returns c =
-    let a = c .before .before .before .before .before .before .before .before .before .before .before .before .before .before .before .args in
-    let x = c .before .before .before .before .before .before .before .long .result in
+    let s = c .before .before .before .before .before .before .before .before .before .before .before .before .before .before .before in
+    let long-done = c .before .before .before .before .before .before .before .long in
+    let a = s .args in
+    let x = long-done .result in
     let one = c .before .before .before .before .before .before .before .before .before .before .before .put-bytes in
     let two = c .before .before .before .before .before .before .put-number in
     let three = c .before .before .put-byte in
-    let e = length-word x (omega (arith, c .before .before .before .before .before .before .before .long .ensures)) in
-    rw (refused-text (a .number) x (c .before .before .before .before .before .before .before .long .ensures .0))
+    let e = length-word x (omega (arith, long-done .ensures)) in
+    rw (refused-text (a .number) x (long-done .ensures .0))
     (whole-line refusedWord (numberField x) (one .result) (two .result) (three .result) (a .line .now) (one .last .0) (two .last .0)
-    (three .last .0) (omega (arith, c .before .before .before .before .before .before .before .before .before .before .before .before .before .before .before .pre)) (one .ensures) (two .ensures) (three .ensures))
+    (three .last .0) (omega (arith, s .pre)) (one .ensures) (two .ensures) (three .ensures))
 
 pub refused-line-spec : {M : Type 1} → statement M
 refused-line-spec =

@@ -15,24 +15,32 @@ put-bytes-requires : tie.Need-put-bytes-requires
 put-bytes-requires c κs = search needs
 
 put-terms-requires : tie.Need-put-terms-requires
-put-terms-requires c κs = let e = terms-most (c .before .before .before .before .before .before .before .before .args .row .now) in omega (arith, c .before .before .before .before .before .before .before .before .pre)
+put-terms-requires c κs =
+    let s = c .before .before .before .before .before .before .before .before in
+    let e = terms-most (s .args .row .now) in
+    omega (arith, s .pre)
 
 put-byte-requires : tie.Need-put-byte-requires
-put-byte-requires c κs = let e = terms-most (c .before .before .before .before .before .before .before .before .before .before .before .before .args .row .now) in omega (arith, c .before .before .before .before .before .before .before .before .before .before .before .before .pre)
+put-byte-requires c κs =
+    let s = c .before .before .before .before .before .before .before .before .before .before .before .before in
+    let e = terms-most (s .args .row .now) in
+    omega (arith, s .pre)
 
 same-length : tie.Need-same-length
 same-length c = search needs
 
 returns : tie.Need-returns
 returns c =
-    let a = c .before .before .before .before .before .before .before .before .before .before .before .before .before .before .before .args in
+    let s = c .before .before .before .before .before .before .before .before .before .before .before .before .before .before .before in
+    let a = s .args in
     let one = c .before .before .before .before .before .before .before .before .before .before .put-bytes in
     let two = c .before .before .before .before .before .before .put-terms in
     let three = c .before .before .put-byte in
-    let e = terms-most (c .before .before .before .before .before .before .before .before .before .before .before .before .before .before .before .args .row .now) in
+    let e = terms-most (s .args .row .now) in
     rw (row-text (a .row .now))
-    (whole-line rowWord (termFields (a .row .now)) (one .result) (two .result) (three .result) (a .line .now) (one .last .0) (two .last .0) (three .last .0)
-    (omega (arith, c .before .before .before .before .before .before .before .before .before .before .before .before .before .before .before .pre)) (one .ensures) (two .ensures) (three .ensures))
+    (whole-line rowWord (termFields (a .row .now))
+    (one .result) (two .result) (three .result) (a .line .now) (one .last .0) (two .last .0) (three .last .0)
+    (omega (arith, s .pre)) (one .ensures) (two .ensures) (three .ensures))
 
 pub row-line-spec : {M : Type 1} → statement M
 row-line-spec =

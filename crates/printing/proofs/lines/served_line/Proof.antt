@@ -14,7 +14,10 @@ slice-aggregate-put-named : tie.Need-slice-aggregate-put-named
 slice-aggregate-put-named c = search needs
 
 put-named-requires : tie.Need-put-named-requires
-put-named-requires c κs = let e = length-long (c .before .before .before .before .args .number) (omega (arith, c .before .before .before .before .fits)) in omega arith
+put-named-requires c κs =
+    let s = c .before .before .before .before in
+    let e = length-long (s .args .number) (omega (arith, s .fits)) in
+    omega arith
 
 slice-aggregate-put-named-2 : tie.Need-slice-aggregate-put-named-2
 slice-aggregate-put-named-2 c = search needs
@@ -24,33 +27,38 @@ long-requires c κs = search needs
 
 put-named-requires-2 : tie.Need-put-named-requires-2
 put-named-requires-2 c κs =
-    let d = length-long (c .before .before .before .before .before .before .before .before .before .before .args .number) (omega (arith, c .before .before .before .before .before .before .before .before .before .before .fits)) in
+    let s = c .before .before .before .before .before .before .before .before .before .before in
+    let d = length-long (s .args .number) (omega (arith, s .fits)) in
     let e = length-word (c .long .result) (omega arith) in
-    omega (arith, c .before .before .before .before .before .before .before .before .before .before .pre)
+    omega (arith, s .pre)
 
 put-bytes-requires : tie.Need-put-bytes-requires
 put-bytes-requires c κs =
-    let d = length-long (c .before .before .before .before .before .before .before .before .before .before .before .before .before .before .args .number) (omega (arith, c .before .before .before .before .before .before .before .before .before .before .before .before .before .before .fits)) in
-    let e = length-word (c .before .before .before .before .long .result) (omega (arith, c .before .before .before .before .long .ensures)) in
-    omega (arith, c .before .before .before .before .before .before .before .before .before .before .before .before .before .before .pre)
+    let s = c .before .before .before .before .before .before .before .before .before .before .before .before .before .before in
+    let long-done = c .before .before .before .before .long in
+    let d = length-long (s .args .number) (omega (arith, s .fits)) in
+    let e = length-word (long-done .result) (omega (arith, long-done .ensures)) in
+    omega (arith, s .pre)
 
 same-length : tie.Need-same-length
 same-length c = search needs
 
 returns : tie.Need-returns
 returns c =
-    let a = c .before .before .before .before .before .before .before .before .before .before .before .before .before .before .before .before .before .args in
-    let pre = c .before .before .before .before .before .before .before .before .before .before .before .before .before .before .before .before .before .pre in
-    let steps = c .before .before .before .before .before .before .before .long .result in
+    let s = c .before .before .before .before .before .before .before .before .before .before .before .before .before .before .before .before .before in
+    let long-done = c .before .before .before .before .before .before .before .long in
+    let a = s .args in
+    let pre = s .pre in
+    let steps = long-done .result in
     let one = c .before .before .before .before .before .before .before .before .before .before .before .before .put-named in
     let two = c .before .before .before .before .before .before .put-named2 in
     let three = c .before .before .put-bytes in
-    let d = length-long (a .number) (omega (arith, c .before .before .before .before .before .before .before .before .before .before .before .before .before .before .before .before .before .fits)) in
-    let e = length-word steps (omega (arith, c .before .before .before .before .before .before .before .long .ensures)) in
+    let d = length-long (a .number) (omega (arith, s .fits)) in
+    let e = length-word steps (omega (arith, long-done .ensures)) in
     let named = turnWord ++ numberField (a .number) in
     let counted = stepsWord ++ numberField steps in
     let n = length-append named counted in
-    served-text (a .number) (a .steps) steps (a .ending .now) (a .line .now) (three .last .0) (three .result) (c .before .before .before .before .before .before .before .long .ensures .0)
+    served-text (a .number) (a .steps) steps (a .ending .now) (a .line .now) (three .last .0) (three .result) (long-done .ensures .0)
     (placed-front (named ++ counted ++ a .ending .now) (a .line .now) (three .last .0) (three .result)
     (placed-then (named ++ counted) (a .ending .now) 0 (two .result) (three .result) (a .line .now) (two .last .0) (three .last .0)
     (omega arith)

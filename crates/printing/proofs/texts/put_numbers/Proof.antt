@@ -35,10 +35,11 @@ long-requires c κs = tt
 
 put-number-requires : tie.Need-put-number-requires Inv-loop μ-loop
 put-number-requires c κs =
+    let s = c .before .before .before .before .before .before .before in
     let l = c .before .before .before .before in
-    let a = c .before .before .before .before .before .before .before .args in
+    let a = s .args in
     let room = field-room numberField (a .words .now) (l .loop .i) (omega arith) in
-    rw (c .long .ensures .0) (omega (arith, l .loop .inv .1, l .loop .inv .2, c .before .before .before .before .before .before .before .pre))
+    rw (c .long .ensures .0) (omega (arith, l .loop .inv .1, l .loop .inv .2, s .pre))
 
 add-i : tie.Need-add-i Inv-loop μ-loop
 add-i c = omega arith
@@ -48,13 +49,14 @@ loop-less c = omega arith
 
 loop-again : tie.Need-loop-again Inv-loop μ-loop
 loop-again c =
+    let s = c .before .before .before .before .before .before .before .before .before .before in
     let l = c .before .before .before .before .before .before .before in
-    let a = c .before .before .before .before .before .before .before .before .before .before .args in
+    let a = s .args in
     let i = l .loop .i in
     let inv = l .loop .inv in
     let two = c .before .before .put-number in
     let h : i < length (a .words .now) = omega arith in
-    let room : l .loop .next + length (numberFields (drop i (a .words .now))) ≤ length (l .loop .line) = omega (arith, inv .1, inv .2, c .before .before .before .before .before .before .before .before .before .before .pre) in
+    let room : l .loop .next + length (numberFields (drop i (a .words .now))) ≤ length (l .loop .line) = omega (arith, inv .1, inv .2, s .pre) in
     let x = rw (c .before .before .before .long .ensures .0) at (two .ensures) in (
       omega arith,
       omega arith,
@@ -67,8 +69,9 @@ same-length c = c .before .loop .inv .1
 
 returns : tie.Need-returns Inv-loop μ-loop
 returns c =
+    let s = c .before .before .before .before in
     let l = c .before in
-    let a = c .before .before .before .before .args in
+    let a = s .args in
     let e : numberFields (drop (l .loop .i) (a .words .now)) ≡ [] = fields-end numberField (a .words .now) (l .loop .i) (omega arith) in
     let n = ap length e in (
       omega (arith, l .loop .inv .2),

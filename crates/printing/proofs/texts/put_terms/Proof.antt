@@ -45,13 +45,14 @@ loop-less c = omega arith
 
 loop-again : tie.Need-loop-again Inv-loop μ-loop
 loop-again c =
+    let s = c .before .before .before .before .before .before .before .before .before in
     let l = c .before .before .before .before .before .before in
-    let a = c .before .before .before .before .before .before .before .before .before .args in
+    let a = s .args in
     let i = l .loop .i in
     let inv = l .loop .inv in
     let two = c .before .before .put-term in
     let h : i < length (a .terms .now) = omega arith in
-    let room : l .loop .next + length (termFields (drop i (a .terms .now))) ≤ length (l .loop .line) = omega (arith, inv .1, inv .2, c .before .before .before .before .before .before .before .before .before .pre) in
+    let room : l .loop .next + length (termFields (drop i (a .terms .now))) ≤ length (l .loop .line) = omega (arith, inv .1, inv .2, s .pre) in
     let x = two .ensures in (
       omega arith,
       omega arith,
@@ -64,8 +65,9 @@ same-length c = c .before .loop .inv .1
 
 returns : tie.Need-returns Inv-loop μ-loop
 returns c =
+    let s = c .before .before .before .before in
     let l = c .before in
-    let a = c .before .before .before .before .args in
+    let a = s .args in
     let e : termFields (drop (l .loop .i) (a .terms .now)) ≡ [] = fields-end termField (a .terms .now) (l .loop .i) (omega arith) in
     let n = ap length e in (
       omega (arith, l .loop .inv .2),
