@@ -39,19 +39,17 @@ fn some_word(random: &mut Random, tables: &Tables) -> u32 {
     }
 }
 
+/// A pattern that matches nothing: a branch that starts with it has a short run.
+const NOTHING: [u32; 3] = [MOST_VALUE - 9; 3];
+
 /// A branch that binds many variables, and an ending that names them.
 fn many_variables(random: &mut Random, plan: &mut Plan, at: usize) {
     let many: usize = random.pick(&[4, 5, 16, 17]);
-    let patterns = [[0u32, 1, 2], [3, 4, 5], [6, 7, 8], [9, 10, 11], [12, 13, 14], [15, 16, 15]];
-    let mut patterns: Vec<_> = patterns
-        .iter()
-        .map(|pattern| pattern.map(variable))
-        .take(many.div_ceil(3))
-        .collect();
-    // A pattern that matches nothing keeps the run short.
-    patterns.insert(0, [name(MOST_VALUE - 9); 3]);
+    let at_most = |number: usize| variable(number.min(many - 1) as u32);
+    let pattern = |first| [at_most(first), at_most(first + 1), at_most(first + 2)];
+    let patterns = [NOTHING].into_iter().chain((0..many).step_by(3).map(pattern));
     plan.branches[at] = Branch {
-        patterns,
+        patterns: patterns.collect(),
         condition: Condition::True,
     };
     let columns = (0..many as u32).collect();
@@ -61,13 +59,47 @@ fn many_variables(random: &mut Random, plan: &mut Plan, at: usize) {
     };
 }
 
+/// So many comparisons joined by "and", about as deep on each side.
+fn joined(many: usize) -> Condition {
+    match many {
+        1 => Condition::Compare(0, number(1), number(1)),
+        _ => Condition::And(Box::new(joined(many / 2)), Box::new(joined(many - many / 2))),
+    }
+}
+
+/// A condition of so many words, at least 3: joined comparisons below a few "not".
+fn condition_of(words: usize) -> Condition {
+    let comparisons = (words + 1) / 4;
+    (4 * comparisons - 1..words).fold(joined(comparisons), |condition, _| Condition::Not(Box::new(condition)))
+}
+
+/// A plan of about as many words as there may be.
+fn many_words(random: &mut Random, plan: &mut Plan) {
+    plan.branches = plan.branches.iter().cycle().take(4).cloned().collect();
+    for branch in &mut plan.branches {
+        branch.patterns = [NOTHING]
+            .iter()
+            .chain(branch.patterns.iter().cycle())
+            .take(8)
+            .copied()
+            .collect();
+        branch.condition = Condition::True;
+    }
+    let mut left = random.pick(&[255, 256, 256, 257]) - (plan.words().len() - 4);
+    for (number, branch) in plan.branches.iter_mut().enumerate() {
+        let part = left / (4 - number);
+        branch.condition = condition_of(part);
+        left -= part;
+    }
+}
+
 /// The plan's parts grown to about their limits.
 pub fn grown(random: &mut Random, query: &Query) -> Plan {
     let mut plan = query.plan.clone();
     let at = random.below(plan.branches.len());
     let branch = &mut plan.branches[at];
     let bound: Vec<u32> = branch.binds().into_iter().collect();
-    match random.small(6) {
+    match random.small(9) {
         0 => {
             let not = |condition, _| Condition::Not(Box::new(condition));
             branch.condition = (0..random.between(5, 8)).fold(branch.condition.clone(), not);
@@ -85,6 +117,16 @@ pub fn grown(random: &mut Random, query: &Query) -> Plan {
             plan.branches = plan.branches.iter().cycle().take(many).cloned().collect();
         }
         4 => many_variables(random, &mut plan, at),
+        5 => many_words(random, &mut plan),
+        6 => {
+            *branch = Branch {
+                patterns: Vec::new(),
+                condition: Condition::True,
+            }
+        }
+        7 => match &mut plan.ending {
+            Ending::Rows(columns) | Ending::Top(_, columns, _) | Ending::Group(columns, _) => columns.clear(),
+        },
         _ => {
             if let Ending::Top(k, rows, keys) = &mut plan.ending {
                 *k = random.pick(&[0, 63, 64, 65]);
