@@ -10,8 +10,8 @@ use Rattle.tables.specs.Tables.{Tables, tableTests}
 use Rattle.plans.specs.Plans.{readPlan, planOf, variablesRight}
 use Rattle.plans.proofs.Bounds.{PlanForm, plan-form, was-read}
 use Rattle.lists.proofs.Gatherings.{Gathering, gathering}
-use Rattle.turns.specs.Opening.{openTests}
-use Rattle.turns.proofs.Refusals.{Opens, open-refusals}
+use Rattle.turns.specs.Opening.{openTests, Opens}
+use Rattle.turns.proofs.Refusals.{open-refusals}
 
 pub record Accepted (t : Tables) (plan : List ℕ) : Type 0 where
   pub tables : firstFailing (tableTests t) ≡ none

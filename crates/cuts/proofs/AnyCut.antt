@@ -17,9 +17,8 @@ use Rattle.steps.specs.Saved.{savedWords, positionWords}
 use Rattle.lists.proofs.Gatherings.{Gathering}
 use Rattle.turns.specs.declared.TurnEnding.{TurnEnding}
 use Rattle.turns.specs.declared.TurnEnding.the-variants.{Done, Spent, Full, Refused}
-use Rattle.turns.specs.Opening.{openOf}
+use Rattle.turns.specs.Opening.{openOf, Opens}
 use Rattle.turns.specs.Turns.{TurnInput, turnOf, refusalOf}
-use Rattle.turns.proofs.Refusals.{Opens}
 use Rattle.turns.proofs.Follows.{starts-run}
 use Rattle.cuts.specs.Histories.{Event, turns, merges, joins, Held, Served, servedIn, stepsIn, doneIn, turnInputOf, afterTurn, happens, history, fresh}
 use Rattle.cuts.specs.Premises.{Asked, Premises}

@@ -27,8 +27,7 @@ use Rattle.lists.proofs.Each.{Each, all-each}
 use Rattle.lists.proofs.EachMore.{each-weaken}
 use Rattle.lists.proofs.Values.{AllValues}
 use Rattle.lists.proofs.Gatherings.{Gathering, Valid}
-use Rattle.turns.specs.Opening.{openOf}
-use Rattle.turns.proofs.Refusals.{Opens}
+use Rattle.turns.specs.Opening.{openOf, Opens}
 use Rattle.merges.specs.Merging.{MergeInput, mergeTests, mergedWords, mergeOf}
 use Rattle.merges.proofs.Refusals.{merge-refusals}
 use Rattle.cuts.specs.Histories.{Event, Held, Served, stepsIn, mergeInputOf, history, fresh}

@@ -14,8 +14,8 @@ use Rattle.plans.specs.Plans.{planOf}
 use Rattle.steps.specs.Steps.{State, after}
 use Rattle.steps.specs.Saved.{stateWords, shapeRight, placesRight}
 use Rattle.steps.proofs.Accepted.{accepted-iff}
+use Rattle.turns.specs.Opening.{Opens}
 use Rattle.turns.specs.Turns.{TurnInput, givenState, givenPlan}
-use Rattle.turns.proofs.Refusals.{Opens}
 use Rattle.cuts.proofs.Accepting.{Accepted, opening-accepts}
 
 -- the given words are there, and are those of a state that the uncut run passes through

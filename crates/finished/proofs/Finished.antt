@@ -7,8 +7,7 @@ use mathlib.Core.List.{List, [], map}
 use Rattle.tables.specs.Tables.{Tables}
 use Rattle.plans.specs.Plans.{planOf}
 use Rattle.steps.specs.Steps.{after}
-use Rattle.turns.specs.Opening.{openOf}
-use Rattle.turns.proofs.Refusals.{Opens}
+use Rattle.turns.specs.Opening.{openOf, Opens}
 use Rattle.cuts.specs.Histories.{Event, Held, servedIn, stepsIn, doneIn, history, fresh}
 use Rattle.cuts.specs.Premises.{Premises}
 use Rattle.cuts.specs.Uncut.{EndsAt}

@@ -13,7 +13,8 @@ use Rattle.steps.proofs.Runs.{after-rows, done-stays}
 use Rattle.lists.specs.Gathering.{gathered}
 use Rattle.cuts.specs.Uncut.{EndsAt, runList}
 use Rattle.cuts.proofs.Accepting.{Accepted, opening-accepts}
-use Rattle.queries.specs.Playing.{listAfter, Cause, output-short, quantum-wrong, totals-pass, kept-short, Opens, Stops}
+use Rattle.turns.specs.Opening.{Opens}
+use Rattle.queries.specs.Playing.{listAfter, Cause, output-short, quantum-wrong, totals-pass, kept-short, Stops}
 use Rattle.queries.proofs.Advancing.{longer-by, list-grows}
 
 module _ (t : Tables) (plan : List ℕ) (a : Accepted t plan) where

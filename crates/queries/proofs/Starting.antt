@@ -14,7 +14,7 @@ use Rattle.tables.specs.Tables.{Tables}
 use Rattle.plans.specs.Plans.{planOf}
 use Rattle.steps.specs.Steps.{after}
 use Rattle.steps.specs.Saved.{savedWords, leastStateWords}
-use Rattle.turns.specs.Opening.{openOf}
+use Rattle.turns.specs.Opening.{openOf, Opens}
 use Rattle.turns.proofs.Refusals.{open-refusals}
 use Rattle.turns.proofs.Follows.{starts-run}
 use Rattle.cuts.specs.Histories.{doneIn, history, fresh}
@@ -23,7 +23,7 @@ use Rattle.cuts.proofs.Turning.{Kept}
 use Rattle.cuts.proofs.AnyCut.{fresh-keeps}
 use Rattle.queries.specs.declared.Played.{Played}
 use Rattle.queries.specs.declared.Played.the-variants.{Finished, Unfinished, Refused}
-use Rattle.queries.specs.Playing.{Leaves, Lent, NotOpened, Opens, Plays, startAt, Started, UnderWay}
+use Rattle.queries.specs.Playing.{Leaves, Lent, NotOpened, Plays, startAt, Started, UnderWay}
 use Rattle.queries.proofs.Leaving.{not-over}
 
 module _ (t : Tables) (plan state : List ℕ) (saved : ℕ) (s : Started t plan state saved) where

@@ -13,7 +13,7 @@ use Rattle.plans.specs.Plans.{planOf}
 use Rattle.steps.specs.Steps.{after}
 use Rattle.steps.specs.Saved.{savedWords, leastStateWords}
 use Rattle.lists.specs.Gathering.{leastOutput}
-use Rattle.turns.specs.Opening.{openOf}
+use Rattle.turns.specs.Opening.{openOf, Opens}
 use Rattle.turns.specs.Turns.{mostSteps}
 use Rattle.cuts.specs.Histories.{Event, Held, history}
 use Rattle.cuts.specs.Premises.{Premises}
@@ -79,10 +79,6 @@ pub record Lent : Type 0 where
 pub record NotOpened (t : Tables) (plan : List ℕ) (before after : Lent) (x : ℕ) : Type 0 where
   pub refused : openOf t plan (before .state) .answer ≡ written.Refused x
   pub unchanged : after ≡ before
-
--- the opening is served
-abbrev pub Opens : Tables → List ℕ → List ℕ → Type 0
-Opens t plan state = (x : ℕ) → ¬ (openOf t plan state .answer ≡ written.Refused x)
 
 abbrev pub Plays : Tables → List ℕ → ℕ → ℕ → Lent → Lent → Played → Type 0
 Plays t plan quantum most before after (Finished words) = Opens t plan (before .state) × Finishes t plan (before .kept) (after .kept) words

@@ -17,10 +17,10 @@ use Rattle.steps.specs.Steps.{Run, startOf, runFrom, after}
 use Rattle.steps.specs.Saved.{positionWords, upperWords, leastStateWords, stateWords, savedWords, stateIn}
 use Rattle.lists.specs.Gathering.{gathered}
 use Rattle.lists.proofs.OneRow.{gathered-nil}
-use Rattle.turns.specs.Opening.{Opened, openTests, openOf}
+use Rattle.turns.specs.Opening.{Opened, openTests, openOf, Opens}
 use Rattle.turns.specs.Turns.{Progress, going, stopped, endingOf, stepsOf, leftOf, rowsOf, TurnInput, TurnResult, resultOf, givenState, givenPlan, turnList, finished, served, turnOf}
 use Rattle.turns.proofs.Stepping.{has-room, served-stands}
-use Rattle.turns.proofs.Refusals.{open-refusals, Opens, opened-so, Served, turned-so}
+use Rattle.turns.proofs.Refusals.{open-refusals, opened-so, Served, turned-so}
 
 -- the run from the state that a turn was given
 abbrev pub givenRun : TurnInput → ℕ → Run

@@ -16,7 +16,7 @@ use Rattle.plans.specs.Plans.{planOf}
 use Rattle.steps.specs.Steps.{startOf}
 use Rattle.steps.specs.Saved.{stateWords}
 use Rattle.turns.specs.declared.TurnEnding.the-variants.{Done, Spent, Full, Refused}
-use Rattle.turns.specs.Opening.{Opened, openTests, openedWith, openedAs, openOf}
+use Rattle.turns.specs.Opening.{Opened, openTests, openedWith, openedAs, openOf, Opens}
 use Rattle.turns.specs.Turns.{Progress, going, stopped, TurnInput, TurnResult, resultOf, givenPlan, turnTests, finished, served, turnedAs, turnOf}
 use Rattle.turns.proofs.Stepping.{How, roomFor, served-stands}
 
@@ -25,10 +25,6 @@ use Rattle.turns.proofs.Stepping.{How, roomFor, served-stands}
 pub record NotOpened (t : Tables) (plan state : List ℕ) : Type 0 where
   pub buffer : openOf t plan state .state ≡ state
   pub words : wordsIn (openOf t plan state .answer) ≡ 0
-
--- an opening that is not refused
-abbrev pub Opens : Tables → List ℕ → List ℕ → Type 0
-Opens t plan state = (x : ℕ) → ¬ (openOf t plan state .answer ≡ written.Refused x)
 
 pub record OpenRefusals (t : Tables) (plan state : List ℕ) : Type 0 where
   -- the table's numbers, in the table's order

@@ -1,5 +1,6 @@
 -- Opening a query: its tests in order, its answer, and the state buffer at exit. Assumes nothing: these are definitions.
 use Prim.Native.Nat.{ℕ}
+use mathlib.Core.Path.{_≡_}
 use mathlib.Core.List.{List, [], _∷_, _++_}
 use mathlib.Core.Bool.{Bool}
 use mathlib.Core.Option.{Option, none, some}
@@ -33,3 +34,7 @@ openedAs t plan state none = openedWith (stateWords (startOf t (planOf plan) 0))
 
 unfoldable pub openOf : Tables → List ℕ → List ℕ → Opened
 openOf t plan state = openedAs t plan state (firstFailing (openTests t plan state))
+
+-- an opening that is served: no number refuses it
+abbrev pub Opens : Tables → List ℕ → List ℕ → Type 0
+Opens t plan state = (x : ℕ) → ¬ (openOf t plan state .answer ≡ Refused x)
