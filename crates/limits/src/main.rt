@@ -56,7 +56,7 @@ fn opened(d: Draft, state: &mut [u32]) -> Written {
     let words: &[u32] = &all;
     let used = d.used;
     if used <= words.len() {
-        return turns::open(&words[..0], &words[..0], &words[..0], &words[..used], state);
+        return service::open(&words[..0], &words[..0], &words[..0], &words[..used], state);
     }
     Written::Words(0)
 }

@@ -25,8 +25,8 @@ fn turned(rows: &[u32], list: &[u32], quantum: u32) -> Turned {
     let p = total();
     let mut state = [0u32; 9];
     let mut output = [0u32; 8];
-    turns::open(rows, list, list, &p, &mut state);
-    turns::turn(
+    service::open(rows, list, list, &p, &mut state);
+    service::turn(
         rows,
         list,
         list,

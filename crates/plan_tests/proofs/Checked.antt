@@ -11,6 +11,7 @@ use borrow.Author.Tests.{ne-eqb, le-leb, lt-leb}
 use Rattle.words.specs.Sequences.{all}
 use Rattle.words.specs.Tests.{firstFailing, numberOf}
 use Rattle.words.proofs.Testing.{passes-all}
+use Rattle.words.proofs.Numbering.{one-fails, none-fails}
 use Rattle.words.proofs.Walking.{rest-of}
 use Rattle.plan_tests.specs.declared.Part.{Part}
 use Rattle.plan_tests.specs.declared.Part.the-variants.{Ends, Broken}
@@ -36,21 +37,10 @@ number-of (some q) = refl
 check-number : (ws : List ℕ) → numberOf (firstFailing (planTests ws)) ≡ planNumber (readPlan ws)
 check-number ws = first-of (hasForm (readPlan ws)) (variablesRight (planOr (readPlan ws))) ∙ number-of (readPlan ws)
 
--- 0 where all pass, and the number itself where one fails
-none-fails : (form right : Bool) → numberOf (firstFailing ((5, form) ∷ (6, right) ∷ [])) ≡ 0
-    → firstFailing ((5, form) ∷ (6, right) ∷ []) ≡ none
-unfolding firstFailing
-none-fails true true e = refl
-none-fails true false e = absurd (omega arith)
-none-fails false right e = absurd (omega arith)
-
-one-fails : (o : Option ℕ) (n : ℕ) → n ≡ numberOf o → (n ≡ 0 → ⊥) → o ≡ some n
-one-fails none n e h = absurd (h e)
-one-fails (some m) n e h = rw e
-
 module _ (ws : List ℕ) where
   pub check-passes : numberOf (firstFailing (planTests ws)) ≡ 0 → firstFailing (planTests ws) ≡ none
-  check-passes e = none-fails (hasForm (readPlan ws)) (variablesRight (planOr (readPlan ws))) e
+  unfolding all
+  check-passes e = none-fails (planTests ws) refl e
 
   pub check-refuses : (n : ℕ) → n ≡ numberOf (firstFailing (planTests ws)) → (n ≡ 0 → ⊥) → firstFailing (planTests ws) ≡ some n
   check-refuses n e h = one-fails (firstFailing (planTests ws)) n e h

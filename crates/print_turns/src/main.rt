@@ -23,7 +23,7 @@ fn play(file: &[u32], parts: FileParts)
     let osp = &file[osp_at..plan_at];
     let plan = &file[plan_at..end];
     let mut state = [0u32; 9];
-    let opened = turns::open(rows, pos, osp, plan, &mut state);
+    let opened = service::open(rows, pos, osp, plan, &mut state);
     match opened {
         words::Written::Words(n) => running::run(rows, pos, osp, plan, quantum, &mut state, n),
         words::Written::Refused(x) => print_refused(x),

@@ -9,7 +9,7 @@ use lib.ListN.{length, take, drop, length-append, take-append-drop}
 use Rattle.words.specs.Bindings.{Bindings}
 use Rattle.words.specs.Sequences.{all, over}
 use Rattle.words.proofs.Booleans.{absurd-true, and-right}
-use Rattle.words.proofs.Buffers.{take-over, length-over}
+use Rattle.words.proofs.Buffers.{take-over, length-over, over-over}
 use Rattle.tables.specs.Tables.{Tables}
 use Rattle.plans.specs.Branches.{branchRight, binds}
 use Rattle.plans.specs.Endings.{Ending, rows, endingRight}
@@ -23,8 +23,7 @@ use Rattle.turns.specs.declared.TurnEnding.the-variants as ending
 use Rattle.turns.specs.Turns.{TurnInput, TurnResult, turnOf}
 use Rattle.turns.proofs.Follows.{follows}
 use Rattle.turns.proofs.OnTheRun.{keeps-lengths}
-use Rattle.turns.proofs.Growing.{Grows, grows}
-use Rattle.turns.proofs.UnderWay.{over-over}
+use Rattle.runs.proofs.Growing.{Grows, grows}
 use Rattle.cuts.specs.Histories.{Event, turns, Held, Served, servedIn, stepsIn, doneIn, isDone, turnInputOf, servedOf, afterServed, afterTurn, afterTaking, happens, history}
 use Rattle.cuts.specs.Premises.{Asked, Premises}
 use Rattle.cuts.specs.Uncut.{AsUncut, runList}

@@ -69,7 +69,7 @@ pub fn play(
 ) -> Played
     ensures { λ r. ⌜ Plays (tablesOf (now (rows .entry)) (now (pos .entry)) (now (osp .entry))) (now (plan .entry)) quantum most (record { state = now (state .entry); output = now (output .entry); kept = now (kept .entry) }) (record { state = now (state .exit); output = now (output .exit); kept = now (kept .exit) }) r ⌝ }
 {
-    match turns::open(rows, pos, osp, plan, state) {
+    match service::open(rows, pos, osp, plan, state) {
         Written::Refused(x) => Played::Refused(x),
         Written::Words(opened) => go_on(
             rows,

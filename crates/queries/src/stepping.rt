@@ -10,7 +10,7 @@ ghost use Prim.Native.Nat.{_≤_};
 ghost use mathlib.Core.List.{[]};
 ghost use lib.ListN.{length};
 ghost use Rattle.plans.specs.Plans.{readPlan, hasForm, planOf};
-ghost use Rattle.turns.specs.Testing.{turnInput};
+ghost use Rattle.turns.specs.Turns.{turnInput};
 ghost use Rattle.queries.specs.Stepping.{isServed, isRows, toMerge, toJoin, joinOf, playTurnOf, takeTurnOf, wentOf, Advances};
 
 // What a join that has no room is refused by.
@@ -79,7 +79,7 @@ pub fn play_turn(
 ) -> Step
     ensures { λ r. ⌜ record { answer = r; state = now (state .exit); output = now (output .exit); kept = now (kept .exit) } ≡ playTurnOf (turnInput (now (rows .entry)) (now (pos .entry)) (now (osp .entry)) (now (plan .entry)) (now (state .entry)) saved quantum [] (now (output .entry))) (now (kept .entry)) used ⌝ }
 {
-    let turned = turns::turn(
+    let turned = service::turn(
         rows,
         pos,
         osp,

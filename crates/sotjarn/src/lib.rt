@@ -6,8 +6,7 @@ use words::Written;
 ghost use mathlib.Core.Path.{_≡_};
 ghost use Rattle.tables.specs.Tables.{tablesOf};
 ghost use Rattle.turns.specs.Opening.{openOf};
-ghost use Rattle.turns.specs.Turns.{turnOf};
-ghost use Rattle.turns.specs.Testing.{turnInput};
+ghost use Rattle.turns.specs.Turns.{turnOf, turnInput};
 ghost use Rattle.merges.specs.Merging.{mergeOf};
 ghost use Rattle.sotjarn.specs.Numbers.{writtenNumbers, endingNumbers, turnedNumbers};
 
@@ -111,7 +110,7 @@ pub extern "C" fn sotjarn_open(
     ensures answer { λ r. ⌜ r ≡ writtenNumbers (openOf (tablesOf (now (rows .entry)) (now (pos .entry)) (now (osp .entry))) (now (plan .entry)) (now (state .entry)) .answer) ⌝ }
     ensures state { λ _. ⌜ now (state .exit) ≡ openOf (tablesOf (now (rows .entry)) (now (pos .entry)) (now (osp .entry))) (now (plan .entry)) (now (state .entry)) .state ⌝ }
 {
-    written_numbers(turns::open(rows, pos, osp, plan, state))
+    written_numbers(service::open(rows, pos, osp, plan, state))
 }
 
 // Runs one turn of a query, or refuses.
@@ -131,7 +130,7 @@ pub extern "C" fn sotjarn_turn(
     ensures state { λ _. ⌜ now (state .exit) ≡ turnOf (turnInput (now (rows .entry)) (now (pos .entry)) (now (osp .entry)) (now (plan .entry)) (now (state .entry)) given quantum (now (threshold .entry)) (now (output .entry))) .state ⌝ }
     ensures output { λ _. ⌜ now (output .exit) ≡ turnOf (turnInput (now (rows .entry)) (now (pos .entry)) (now (osp .entry)) (now (plan .entry)) (now (state .entry)) given quantum (now (threshold .entry)) (now (output .entry))) .output ⌝ }
 {
-    turned_numbers(turns::turn(
+    turned_numbers(service::turn(
         rows,
         pos,
         osp,

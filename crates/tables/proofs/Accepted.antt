@@ -8,10 +8,11 @@ use mathlib.Core.List.{List}
 use lib.Dec.{ltb, eqb}
 use lib.ListN.{length, getD}
 use borrow.Author.Tests.{ltb-true, leb-true, eqb-true, lt-ltb, le-leb, eq-eqb}
-use Rattle.words.specs.Sequences.{lexBefore, allBelow}
+use Rattle.words.specs.Sequences.{all, lexBefore, allBelow}
 use Rattle.words.specs.Tests.{firstFailing, numberOf}
 use Rattle.words.proofs.Booleans.{and-left, and-right, and-both}
 use Rattle.words.proofs.Testing.{passes-all, all-passes}
+use Rattle.words.proofs.Numbering.{none-fails}
 use Rattle.words.proofs.Counting.{all-at, at-all}
 use Rattle.words.proofs.Elements.{all-element, element-all}
 use Rattle.tables.specs.declared.Order.{Order}
@@ -111,19 +112,9 @@ module _ (t : Tables) where
       lists = and-both (namesRows t (t .pos)) _ (at-named (t .pos) (r .sized .pos-length) (r .named Pos)) (and-both (namesRows t (t .osp)) _ (at-named (t .osp) (r .sized .osp-length) (r .named Osp)) (and-both (ascends Pos t) _ (at-up Pos (r .up Pos)) (at-up Osp (r .up Osp))))
 
   -- what an answer of 0 gives
-  abbrev answer : Bool → Bool → Bool → Bool → Option ℕ
-  answer a b c d = cond a (cond b (cond c (cond d none (some 4)) (some 3)) (some 2)) (some 1)
-
-  passed : (a b c d : Bool) → numberOf (answer a b c d) ≡ 0 → answer a b c d ≡ none
-  passed true true true true e = refl
-  passed true true true false e = absurd (omega arith)
-  passed true true false d e = absurd (omega arith)
-  passed true false c d e = absurd (omega arith)
-  passed false b c d e = absurd (omega arith)
-
-  pub none-fails : numberOf (firstFailing (tableTests t)) ≡ 0 → firstFailing (tableTests t) ≡ none
-  unfolding firstFailing
-  none-fails = passed (lengthsRight t) (kindsRight t) (ascends Spo t) (listsRight t)
+  pub all-pass : numberOf (firstFailing (tableTests t)) ≡ 0 → firstFailing (tableTests t) ≡ none
+  unfolding all
+  all-pass e = none-fails (tableTests t) refl e
 
   pub checked : numberOf (firstFailing (tableTests t)) ≡ 0 → Right t
-  checked e = right (none-fails e)
+  checked e = right (all-pass e)

@@ -1,15 +1,6 @@
-pub mod Receiving
-pub mod Answering
-pub mod Attempting
-pub mod UnderWay
-pub mod Growing
-pub mod Trying
 pub mod Stepping
 pub mod Refusals
 pub mod Follows
 pub mod Progress
 pub mod Endings
 pub mod OnTheRun
-pub mod Numbering
-pub mod Sizing
-pub mod Opened

@@ -1,5 +1,3 @@
 pub mod Opening
 pub mod Turns
-pub mod Running
-pub mod Testing
 pub mod Computing

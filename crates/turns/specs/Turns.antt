@@ -8,7 +8,7 @@ use lib.Dec.{leb}
 use Rattle.words.specs.Bindings.{Bindings}
 use Rattle.words.specs.Sequences.{iterate, over}
 use Rattle.words.specs.Tests.{Test, firstFailing}
-use Rattle.tables.specs.Tables.{Tables, tableTests}
+use Rattle.tables.specs.Tables.{Tables, tablesOf, tableTests}
 use Rattle.plans.specs.Endings.{Ending}
 use Rattle.plans.specs.Plans.{Plan, planOf, planTests}
 use Rattle.steps.specs.Steps.{State, Step, moves, delivers, ends, step}
@@ -75,6 +75,19 @@ pub record TurnInput : Type 0 where
   pub quantum : ℕ
   pub threshold : List ℕ
   pub output : List ℕ
+
+-- what a call lends: the tables as row words and two lists, and the rest as it is
+abbrev pub turnInput : List ℕ → List ℕ → List ℕ → List ℕ → List ℕ → ℕ → ℕ → List ℕ → List ℕ → TurnInput
+turnInput rows pos osp plan state given quantum threshold output =
+    record {
+      tables = tablesOf rows pos osp;
+      plan = plan;
+      state = state;
+      given = given;
+      quantum = quantum;
+      threshold = threshold;
+      output = output;
+    }
 
 abbrev pub mostSteps : ℕ
 mostSteps = 1000000

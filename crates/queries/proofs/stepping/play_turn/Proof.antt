@@ -4,8 +4,7 @@ use mathlib.Core.Path.{sym, _∙_, ap}
 use mathlib.Core.List.{[]}
 use lib.Seq.{length-take-le}
 use Rattle.words.proofs.Booleans.{and-left}
-use Rattle.turns.specs.Turns.{TurnResult}
-use Rattle.turns.specs.Testing.{turnInput}
+use Rattle.turns.specs.Turns.{TurnResult, turnInput}
 use Rattle.queries.specs.Stepping.{isServed}
 use Rattle.queries.proofs.Taking.{served-form, served-room, merged-step, left-step}
 use Rattle.queries.proofs.stepping.play_turn.Statement.{statement}

@@ -4,7 +4,7 @@ use mathlib.Core.Path.{sym, _∙_}
 use mathlib.Core.List.{[]}
 use lib.Seq.{length-take-le}
 use Rattle.words.proofs.Booleans.{and-left}
-use Rattle.turns.specs.Testing.{turnInput}
+use Rattle.turns.specs.Turns.{turnInput}
 use Rattle.queries.specs.Stepping.{isServed}
 use Rattle.queries.proofs.Taking.{served-form, served-room, step-turned, step-output, joined-step, other-step}
 use Rattle.queries.proofs.stepping.take_turn.Statement.{statement}

@@ -1,0 +1,8 @@
+// The tests of opening and of a turn, in their order.
+mod testing;
+
+pub use testing::ACCEPTED;
+pub use testing::ROOM;
+pub use testing::STATE_WORDS;
+pub use testing::check;
+pub use testing::prepare;

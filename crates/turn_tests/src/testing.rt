@@ -1,0 +1,165 @@
+// The tests of opening and of a turn, in their order.
+use cursors::Cursor;
+use plans::Last;
+use saved_states::Loaded;
+use tables::Place;
+ghost use mathlib.Core.Path.{_≡_};
+ghost use mathlib.Core.Bool.{true, _&&_};
+ghost use mathlib.Core.List.{_++_};
+ghost use lib.Dec.{leb};
+ghost use lib.ListN.{length, take};
+ghost use Rattle.words.specs.Tests.{firstFailing, numberOf};
+ghost use Rattle.tables.specs.Tables.{tablesOf, tableTests};
+ghost use Rattle.tables.specs.Right.{Right};
+ghost use Rattle.plans.specs.Endings.{endingForm, endingAt};
+ghost use Rattle.plans.specs.Plans.{readPlan, hasForm, planOf, planTests};
+ghost use Rattle.steps.specs.Saved.{stateIn, leastStateWords, shapeRight, placesRight};
+ghost use Rattle.cursors.specs.Held.{stateOf, Held};
+ghost use Rattle.lists.specs.Gathering.{leastOutput, thresholdRight};
+ghost use Rattle.turns.specs.Turns.{mostSteps, turnTests, turnInput};
+ghost use Rattle.turn_tests.specs.Testing.{sizeNumber, lateNumber};
+
+// The words that a state buffer needs, and the most steps of a turn.
+pub const STATE_WORDS: usize = 9;
+
+pub const MOST_STEPS: u32 = 1000000;
+
+// The tests of room, quantum, state and threshold, by their numbers; and that all pass.
+pub const ROOM: u32 = 7;
+
+pub const QUANTUM: u32 = 8;
+
+pub const STATE: u32 = 9;
+
+pub const THRESHOLD: u32 = 11;
+
+pub const ACCEPTED: u32 = 0;
+
+// Tests 1 to 6: 0, or the number of the first that tables and plan fail.
+pub fn check(rows: &[u32], pos: &[u32], osp: &[u32], plan: &[u32]) -> u32
+    ensures { λ r. ⌜ r ≡ numberOf (firstFailing (tableTests (tablesOf (now (rows .entry)) (now (pos .entry)) (now (osp .entry))) ++ planTests (now (plan .entry)))) ⌝ }
+{
+    let number = table_tests::check(rows, pos, osp);
+    if number != 0 {
+        return number;
+    }
+    plan_tests::check(plan)
+}
+
+// The words that an output has at least: one row, k rows, one record.
+fn least_output(ending: &[u32]) -> usize
+    requires { ⌜ endingForm (now ending) ≡ true ⌝ }
+    ensures { λ r. ⌜ r ≡ leastOutput (endingAt (now (ending .entry))) ⌝ }
+{
+    let width = plans::variables(ending).len();
+    match plans::ending_kind(ending) {
+        Last::Rows => width,
+        Last::Top => plans::best_count(ending) * width,
+        Last::Group => width + group_lists::TOTALS,
+        Last::Neither => 0,
+    }
+}
+
+// Tests 7 and 8: 0, or the number of the first that the buffers and the quantum fail.
+fn sizes(ending: &[u32], state: &[u32], quantum: u32, output: &[u32]) -> u32
+    requires { ⌜ endingForm (now ending) ≡ true ⌝ }
+    ensures { λ r. ⌜ r ≡ sizeNumber (leb leastStateWords (length (now (state .entry))) && leb (leastOutput (endingAt (now (ending .entry)))) (length (now (output .entry)))) (leb 1 quantum && leb quantum mostSteps) ⌝ }
+{
+    if state.len() < STATE_WORDS {
+        return ROOM;
+    }
+    if output.len() < least_output(ending) {
+        return ROOM;
+    }
+    if quantum == 0 {
+        return QUANTUM;
+    }
+    if quantum > MOST_STEPS {
+        return QUANTUM;
+    }
+    ACCEPTED
+}
+
+// Test 11: a threshold is empty, or one row for a best-of ending.
+fn threshold_right(ending: &[u32], threshold: &[u32]) -> bool
+    requires { ⌜ endingForm (now ending) ≡ true ⌝ }
+    ensures { λ r. ⌜ r ≡ thresholdRight (endingAt (now (ending .entry))) (now (threshold .entry)) ⌝ }
+{
+    match plans::ending_kind(ending) {
+        Last::Top => best_lists::best_threshold(plans::variables(ending), threshold),
+        Last::Rows => lists::no_threshold(threshold),
+        Last::Group => lists::no_threshold(threshold),
+        Last::Neither => false,
+    }
+}
+
+// A refusal by number, in place of a state's cursor.
+fn refused(number: u32) -> Loaded
+    ensures { λ r. ⌜ r .refused ≡ number ⌝ }
+{
+    Loaded {
+        refused: number,
+        from: Cursor {
+            branch: 0,
+            at: 0,
+            level: 0,
+            places: [Place(0); 8],
+        },
+    }
+}
+
+// Tests 9 to 11: the cursor of the state, or the number of the first test that fails.
+fn load(
+    rows: &[u32],
+    pos: &[u32],
+    osp: &[u32],
+    plan: &[u32],
+    state: &[u32],
+    given: usize,
+    threshold: &[u32],
+    bound: &mut [u32; 16],
+) -> Loaded
+    requires { ⌜ Right (tablesOf (now rows) (now pos) (now osp)) ⌝ }
+    requires { ⌜ hasForm (readPlan (now plan)) ≡ true ⌝ }
+    ensures { λ r. ⌜ r .refused ≡ lateNumber (leb given (length (now (state .entry))) && shapeRight (planOf (now (plan .entry))) (take given (now (state .entry)))) (placesRight (tablesOf (now (rows .entry)) (now (pos .entry)) (now (osp .entry))) (planOf (now (plan .entry))) (take given (now (state .entry)))) (thresholdRight (planOf (now (plan .entry)) .ending) (now (threshold .entry))) ⌝ }
+    ensures { λ r. ⌜ (r .refused ≡ 0 → (stateOf (r .from) ≡ stateIn (take given (now (state .entry)))) × Held (tablesOf (now (rows .entry)) (now (pos .entry)) (now (osp .entry))) (now (plan .entry)) (r .from) (now (bound .exit))) ⌝ }
+{
+    if given > state.len() {
+        return refused(STATE);
+    }
+    let loaded = saved_states::load(rows, pos, osp, plan, &state[..given], bound);
+    if loaded.refused != ACCEPTED {
+        return loaded;
+    }
+    if threshold_right(plans::ending_part(plan), threshold) {
+        return loaded;
+    }
+    refused(THRESHOLD)
+}
+
+// All tests of a turn: the cursor of its state, or the number of the first test that its input fails.
+pub fn prepare(
+    rows: &[u32],
+    pos: &[u32],
+    osp: &[u32],
+    plan: &[u32],
+    state: &[u32],
+    given: usize,
+    quantum: u32,
+    threshold: &[u32],
+    output: &[u32],
+    bound: &mut [u32; 16],
+) -> Loaded
+    ensures { λ r. ⌜ r .refused ≡ numberOf (firstFailing (turnTests (turnInput (now (rows .entry)) (now (pos .entry)) (now (osp .entry)) (now (plan .entry)) (now (state .entry)) given quantum (now (threshold .entry)) (now (output .entry))))) ⌝ }
+    ensures { λ r. ⌜ (r .refused ≡ 0 → (stateOf (r .from) ≡ stateIn (take given (now (state .entry)))) × Held (tablesOf (now (rows .entry)) (now (pos .entry)) (now (osp .entry))) (now (plan .entry)) (r .from) (now (bound .exit))) ⌝ }
+{
+    let number = check(rows, pos, osp, plan);
+    if number != ACCEPTED {
+        return refused(number);
+    }
+    let size = sizes(plans::ending_part(plan), state, quantum, output);
+    if size != ACCEPTED {
+        return refused(size);
+    }
+    load(rows, pos, osp, plan, state, given, threshold, bound)
+}
