@@ -1,7 +1,7 @@
--- Under demand 3's premises a merge of a best-of or group query is refused only for its totals or its room, by 13 or 14.
+-- Under demand 3's premises a merge of a best-of or group query is refused only for the uncut run's totals or its list's room, by 13 or 14.
 use Prim.Native.Nat.{ℕ, _+_, _≤_}
 use native.Mathlib.Omega.{arith}
-use mathlib.Core.Path.{_≡_, refl, sym, _∙_, ap, subst}
+use mathlib.Core.Path.{_≡_, refl, sym, _∙_, ap, ap₂, subst}
 use mathlib.Core.Logic.{_⊎_, inl, inr}
 use mathlib.Core.Bool.{Bool, true, false, cond, _&&_}
 use mathlib.Core.Option.{Option, none, some}
@@ -9,7 +9,7 @@ use mathlib.Core.List.{List, [], _∷_, _++_}
 use lib.Dec.{leb, eqb}
 use lib.ListN.{length, take, length-append}
 use lib.Seq.{take-append-seam}
-use borrow.Author.Tests.{le-leb}
+use borrow.Author.Tests.{le-leb, leb-false}
 use Rattle.words.specs.declared.Written.the-variants.{Refused}
 use Rattle.words.specs.Words.{isValue}
 use Rattle.words.specs.Bindings.{Bindings, variableCount}
@@ -20,23 +20,25 @@ use Rattle.words.proofs.Testing.{none-some, some-injective, fails-first}
 use Rattle.tables.specs.Tables.{Tables}
 use Rattle.plans.specs.Endings.{Ending, rows, top, group}
 use Rattle.plans.specs.Plans.{Plan, planOf, hasForm, readPlan, variablesRight}
-use Rattle.steps.specs.Steps.{after}
+use Rattle.steps.specs.Steps.{Run, after}
 use Rattle.steps.proofs.Values.{after-valued}
-use Rattle.lists.specs.Gathering.{gathered, listRight, totalsFit}
+use Rattle.lists.specs.Groups.{addGroups, groupsOf}
+use Rattle.lists.specs.Gathering.{gathered, merged, takenInto, listRight, groupFits, totalsFit}
 use Rattle.lists.proofs.Each.{Each, all-each}
 use Rattle.lists.proofs.EachMore.{each-weaken}
 use Rattle.lists.proofs.Values.{AllValues}
+use Rattle.lists.proofs.GroupLists.{groups-in-gathered, groups-append}
 use Rattle.lists.proofs.Gatherings.{Gathering, Valid}
 use Rattle.turns.specs.Opening.{openOf, Opens}
 use Rattle.merges.specs.Merging.{MergeInput, mergeTests, mergedWords, mergeOf}
 use Rattle.merges.proofs.Refusals.{merge-refusals}
 use Rattle.cuts.specs.Histories.{Event, Held, Served, stepsIn, mergeInputOf, history, fresh}
 use Rattle.cuts.specs.Premises.{Premises}
-use Rattle.cuts.specs.Uncut.{runList}
+use Rattle.cuts.specs.Uncut.{runList, runFits, NotTaken, totals-pass, no-room}
 use Rattle.cuts.proofs.Accepting.{Accepted, opening-accepts, accepted-gathering}
-use Rattle.cuts.proofs.Chains.{Piece}
+use Rattle.cuts.proofs.Chains.{Piece, piece-adds}
 use Rattle.cuts.proofs.Turning.{Kept}
-use Rattle.cuts.proofs.Taking.{next-piece}
+use Rattle.cuts.proofs.Taking.{merged-taken, next-piece}
 use Rattle.cuts.proofs.AnyCut.{fresh-keeps, history-keeps}
 
 -- the later of two lists' elements
@@ -55,16 +57,28 @@ valid-right (rows vs) m list v = absurd m
 valid-right (top k vs keys) m list v = v
 valid-right (group vs g) m list v = v
 
--- where the other tests pass, 13 or 14 fails first
+-- where the other tests pass, 13 fails, or 14 and not 13
 last-two : (a b c d e : Bool) (y : ℕ) → a ≡ true → b ≡ true → c ≡ true
     → cond a (cond b (cond c (cond d (cond e none (some 14)) (some 13)) (some 12)) (some 6)) (some 5) ≡ some y
-    → (y ≡ 13) ⊎ (y ≡ 14)
+    → ((y ≡ 13) × (d ≡ false)) ⊎ ((y ≡ 14) × (d ≡ true) × (e ≡ false))
 last-two true true true true true y p q r h = absurd (none-some h)
-last-two true true true true false y p q r h = inr (sym (some-injective h))
-last-two true true true false e y p q r h = inl (sym (some-injective h))
+last-two true true true true false y p q r h = inr (sym (some-injective h), refl, refl)
+last-two true true true false e y p q r h = inl (sym (some-injective h), refl)
 last-two true true false d e y p q r h = absurd-true r refl
 last-two true false c d e y p q r h = absurd-true q refl
 last-two false b c d e y p q r h = absurd-true p refl
+
+-- test 13 of two gathered lists is that of the rows of both
+fits-both : (e : Ending) (threshold : List ℕ) (xs ys : List Bindings) (r : Run) → r .delivered ≡ xs ++ ys
+    → totalsFit e (gathered e [] xs) (gathered e threshold ys) ≡ runFits e r
+unfolding totalsFit
+fits-both (rows vs) threshold xs ys r d = refl
+fits-both (top k vs keys) threshold xs ys r d = refl
+fits-both (group vs m) threshold xs ys r d =
+    ap (all groupFits)
+    (ap₂ addGroups (groups-in-gathered vs m [] xs) (groups-in-gathered vs m threshold ys)
+    ∙ sym (groups-append vs m xs ys)
+    ∙ ap (groupsOf vs m) (sym d))
 
 module _ (t : Tables) (plan : List ℕ) (a : Accepted t plan) (h : Held) (k : Kept t (planOf plan) h) where
   abbrev q : Plan
@@ -86,28 +100,56 @@ module _ (t : Tables) (plan : List ℕ) (a : Accepted t plan) (h : Held) (k : Ke
         ∙ valid-right (q .ending) m _
         (accepted-gathering t plan a .valid [] (after t q (stepsIn (h .taken)) .delivered) (values (stepsIn (h .taken))))
 
+    abbrev n : ℕ
+    n = stepsIn (h .taken)
+
+    piece : Piece t q n x
+    piece = next-piece t plan a h k x rest waits
+
     list-right : listRight (q .ending) (x .list) ≡ true
     list-right =
-        let p : Piece t q (stepsIn (h .taken)) x = next-piece t plan a h k x rest waits in
-        ap (listRight (q .ending)) (p .list)
+        ap (listRight (q .ending)) (piece .list)
         ∙ valid-right (q .ending) m _
-        (accepted-gathering t plan a .valid (p .threshold) (p .rows)
-        (each-later (λ (b : Bindings). all isValue b ≡ true) (after t q (stepsIn (h .taken)) .delivered) (p .rows)
-        (subst AllValues (p .more) (values (stepsIn (h .taken) + x .steps)))))
+        (accepted-gathering t plan a .valid (piece .threshold) (piece .rows)
+        (each-later (λ (b : Bindings). all isValue b ≡ true) (after t q n .delivered) (piece .rows)
+        (subst AllValues (piece .more) (values (n + x .steps)))))
 
-    pub merge-refused : (y : ℕ) → mergeOf i .answer ≡ Refused y → (y ≡ 13) ⊎ (y ≡ 14)
+    -- the totals and the words of the result are the uncut run's up to the end of that turn
+    totals-are : totalsFit (q .ending) (h .kept) (x .list) ≡ runFits (q .ending) (after t q (n + x .steps))
+    totals-are =
+        ap₂ (totalsFit (q .ending)) (k .list) (piece .list)
+        ∙ fits-both (q .ending) (piece .threshold) (after t q n .delivered) (piece .rows) (after t q (n + x .steps)) (piece .more)
+
+    words-are : merged (q .ending) (h .kept) (x .list) ≡ runList (q .ending) (after t q (n + x .steps))
+    words-are =
+        merged-taken (q .ending) (h .kept) (x .list) kept-right
+        ∙ ap (λ l. takenInto (q .ending) l (x .list)) (k .list)
+        ∙ piece-adds t q (accepted-gathering t plan a) n x piece
+
+    given-kept : take (i .given) (i .kept) ≡ h .kept
+    given-kept = take-append-seam (h .kept) behind
+
+    lists-right : leb (i .given) (length (i .kept)) && (listRight (q .ending) (take (i .given) (i .kept)) && listRight (q .ending) (x .list)) ≡ true
+    lists-right =
+        and-both (leb (i .given) (length (i .kept))) _
+        (le-leb (length (h .kept)) (length (h .kept ++ behind)) (omega (arith, length-append (h .kept) behind)))
+        (and-both (listRight (q .ending) (take (i .given) (i .kept))) (listRight (q .ending) (x .list))
+        (ap (listRight (q .ending)) given-kept ∙ kept-right) list-right)
+
+    pub merge-refused : (y : ℕ) → mergeOf i .answer ≡ Refused y → NotTaken t q (n + x .steps) (length (h .kept ++ behind)) y
     unfolding firstFailing
     merge-refused y e =
-        let kept : take (i .given) (i .kept) ≡ h .kept = take-append-seam (h .kept) behind in
-        let room : leb (i .given) (length (i .kept)) ≡ true = le-leb (length (h .kept)) (length (h .kept ++ behind)) (omega (arith, length-append (h .kept) behind)) in
-        last-two (hasForm (readPlan plan)) (variablesRight q)
+        let fits : totalsFit (q .ending) (take (i .given) (i .kept)) (x .list) ≡ runFits (q .ending) (after t q (n + x .steps)) =
+        ap (λ l. totalsFit (q .ending) l (x .list)) given-kept ∙ totals-are in
+        let long = ap length (ap (λ l. merged (q .ending) l (x .list)) given-kept ∙ words-are) in
+        elim (last-two (hasForm (readPlan plan)) (variablesRight q)
         (leb (i .given) (length (i .kept)) && (listRight (q .ending) (take (i .given) (i .kept)) && listRight (q .ending) (x .list)))
         (totalsFit (q .ending) (take (i .given) (i .kept)) (x .list)) (leb (length (mergedWords i)) (length (i .kept))) y
-        (ap hasForm (a .read)) (a .variables)
-        (and-both (leb (i .given) (length (i .kept))) _ room
-        (and-both (listRight (q .ending) (take (i .given) (i .kept))) (listRight (q .ending) (x .list))
-        (ap (listRight (q .ending)) kept ∙ kept-right) list-right))
-        (fails-first y (mergeTests i) (merge-refusals i .number y .0 e))
+        (ap hasForm (a .read)) (a .variables) lists-right (fails-first y (mergeTests i) (merge-refusals i .number y .0 e))) [
+          | inl f ↦ subst (NotTaken t q (n + x .steps) (length (h .kept ++ behind))) (sym (f .0)) (totals-pass (sym fits ∙ f .1))
+          | inr f ↦ subst (NotTaken t q (n + x .steps) (length (h .kept ++ behind))) (sym (f .0))
+              (no-room (sym fits ∙ f .1) (omega (arith, long, leb-false (length (mergedWords i)) (length (i .kept)) (f .2))))
+        ]
 
 -- in every history under the premises
 pub refused-by-13-or-14 : (t : Tables) (plan state : List ℕ) → Opens t plan state → Merged (planOf plan .ending)
@@ -115,7 +157,8 @@ pub refused-by-13-or-14 : (t : Tables) (plan state : List ℕ) → Opens t plan 
     → (x : Served) (rest : List Served) → history t plan (fresh (openOf t plan state)) es .waiting ≡ x ∷ rest
     → (behind : List ℕ) (y : ℕ)
     → mergeOf (mergeInputOf plan (history t plan (fresh (openOf t plan state)) es) behind x) .answer ≡ Refused y
-    → (y ≡ 13) ⊎ (y ≡ 14)
+    → NotTaken t (planOf plan) (stepsIn (history t plan (fresh (openOf t plan state)) es .taken) + x .steps)
+    (length (history t plan (fresh (openOf t plan state)) es .kept ++ behind)) y
 refused-by-13-or-14 t plan state o m es p x rest waits behind y e =
     let a = opening-accepts t plan state o in
     let h = history t plan (fresh (openOf t plan state)) es in

@@ -27,7 +27,7 @@ use Rattle.cuts.proofs.Chains.{steps-more, Piece, Chain, chain-rest, pi
 use Rattle.cuts.proofs.Turning.{Kept, isNone}
 
 -- a list that test 12 passes is merged by taking it
-merged-taken : (e : Ending) (kept list : List ℕ) → listRight e kept ≡ true → merged e kept list ≡ takenInto e kept list
+pub merged-taken : (e : Ending) (kept list : List ℕ) → listRight e kept ≡ true → merged e kept list ≡ takenInto e kept list
 unfolding listRight
 merged-taken (rows vs) kept list r = absurd-true refl (sym r)
 merged-taken (top k vs keys) kept list r = refl

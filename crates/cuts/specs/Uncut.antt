@@ -3,15 +3,17 @@ use Prim.Native.Nat.{ℕ, _≤_, _<_}
 use mathlib.Core.Path.{_≡_}
 use mathlib.Core.Logic.{_↔_}
 use mathlib.Core.List.{List, [], _∷_, flatten}
-use mathlib.Core.Bool.{true}
+use mathlib.Core.Bool.{Bool, true, false}
 use mathlib.Core.Option.{none}
-use lib.ListN.{take}
+use lib.ListN.{length, take}
 use Rattle.tables.specs.Tables.{Tables}
-use Rattle.plans.specs.Endings.{Ending, rows}
+use Rattle.words.specs.Sequences.{all}
+use Rattle.plans.specs.Endings.{Ending, rows, top, group}
 use Rattle.plans.specs.Plans.{Plan}
 use Rattle.steps.specs.Steps.{Run, after}
 use Rattle.steps.specs.Saved.{savedWords}
-use Rattle.lists.specs.Gathering.{gathered}
+use Rattle.lists.specs.Groups.{groupsOf}
+use Rattle.lists.specs.Gathering.{gathered, groupFits}
 use Rattle.cuts.specs.Histories.{Served, Held, servedIn, stepsIn, doneIn}
 use Rattle.cuts.specs.Premises.{listsIn}
 
@@ -19,10 +21,22 @@ use Rattle.cuts.specs.Premises.{listsIn}
 abbrev pub runList : Ending → Run → List ℕ
 runList e r = gathered e [] (r .delivered)
 
+-- no total of a run's groups, each a natural number, passes 2^64 - 1
+abbrev pub runFits : Ending → Run → Bool
+runFits (rows vs) r = true
+runFits (top k vs keys) r = true
+runFits (group vs m) r = all groupFits (groupsOf vs m (r .delivered))
+
 -- the uncut run ends with its n-th step: n is its whole length
 pub record EndsAt (t : Tables) (q : Plan) (n : ℕ) : Type 0 where
   pub over : after t q n .state ≡ none
   pub not-before : (m : ℕ) → m < n → after t q m .state ≡ none → ⊥
+
+-- why the list of a turn, which ends after so many steps of the uncut run, is not taken into a buffer of so many words. By 13: a total of
+-- the run's groups up to there passes 2^64 - 1. By 14: none does, and the run's list up to there is longer than the buffer
+pub data NotTaken (t : Tables) (q : Plan) (steps room : ℕ) : ℕ → Type 0 where
+  totals-pass : runFits (q .ending) (after t q steps) ≡ false → NotTaken t q steps room 13
+  no-room : runFits (q .ending) (after t q steps) ≡ true → room < length (runList (q .ending) (after t q steps)) → NotTaken t q steps room 14
 
 -- each served turn took at least one step and no more than its quantum
 abbrev pub WithinQuantum : List Served → Type 0

@@ -169,7 +169,8 @@ module _ (t : Tables) (plan : List ℕ) (a : Accepted t plan) (first : Held) (k 
         pub turned-keeps : Kept t q turned
         turned-keeps = subst (Kept t q) calls-reach (history-keeps t plan a calls first k calls-premises)
 
-        piece : Piece t q (stepsIn (h .taken)) x
+        -- it is a piece of the uncut run, of a step at least and of the quantum at most
+        pub piece : Piece t q (stepsIn (h .taken)) x
         piece = next-piece t plan a turned turned-keeps x [] one-waits
 
         -- the list of that turn is taken by one call more
@@ -186,12 +187,14 @@ module _ (t : Tables) (plan : List ℕ) (a : Accepted t plan) (first : Held) (k 
           pub now-keeps : Kept t q now
           now-keeps = subst (Kept t q) more-reach (history-keeps t plan a (calls ++ (e ∷ [])) first k more-premises)
 
+          pub now-list : list ≡ runList (q .ending) (after t q (stepsIn (h .taken) + x .steps))
+          now-list = now-keeps .list ∙ ap (λ d. runList (q .ending) (after t q d)) (steps-more (h .taken) x)
+
           pub no-shorter : length (h .kept) ≤ length list
           no-shorter =
-              let n = stepsIn (h .taken) in
-              let new : list ≡ gathered (q .ending) [] (after t q n .delivered ++ piece .rows) =
-              now-keeps .list ∙ ap (λ d. runList (q .ending) (after t q d)) (steps-more (h .taken) x) ∙ ap (gathered (q .ending) []) (piece .more) in
-              omega (arith, ap length new, ap length (held-keeps .list), longer-by (q .ending) (list-grows t plan a) (after t q n .delivered) (piece .rows))
+              let rows = after t q (stepsIn (h .taken)) .delivered in
+              let new : list ≡ gathered (q .ending) [] (rows ++ piece .rows) = now-list ∙ ap (gathered (q .ending) []) (piece .more) in
+              omega (arith, ap length new, ap length (held-keeps .list), longer-by (q .ending) (list-grows t plan a) rows (piece .rows))
 
           module _ (new : List ℕ) (words : ℕ) (whole : new ≡ over list kept) (counted : words ≡ length list) (room : words ≤ length kept) where
             -- done was answered exactly by a turn that was done

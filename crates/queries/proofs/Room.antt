@@ -11,10 +11,10 @@ use Rattle.plans.specs.Plans.{Plan, planOf}
 use Rattle.steps.specs.Steps.{State, runFrom, after}
 use Rattle.steps.proofs.Runs.{after-rows, done-stays}
 use Rattle.lists.specs.Gathering.{gathered}
-use Rattle.cuts.specs.Uncut.{EndsAt, runList}
+use Rattle.cuts.specs.Uncut.{EndsAt, runList, totals-pass, no-room}
 use Rattle.cuts.proofs.Accepting.{Accepted, opening-accepts}
 use Rattle.turns.specs.Opening.{Opens}
-use Rattle.queries.specs.Playing.{listAfter, Cause, output-short, quantum-wrong, totals-pass, kept-short, Stops}
+use Rattle.queries.specs.Playing.{listAfter, Cause, output-short, quantum-wrong, list-left, Stops}
 use Rattle.queries.proofs.Advancing.{longer-by, list-grows}
 
 module _ (t : Tables) (plan : List ℕ) (a : Accepted t plan) where
@@ -50,8 +50,8 @@ pub room-enough : (t : Tables) (plan state : List ℕ) → Opens t plan state �
     → (x : ℕ) → Stops t plan quantum room before kept x → ¬ (x ≡ 14)
 room-enough t plan state o n ends quantum room before kept fits x s = go x (s .cause)
   where
-    go : (y : ℕ) → Cause t plan quantum room before y → ¬ (y ≡ 14)
+    go : (y : ℕ) → Cause t plan quantum room before (s .steps) y → ¬ (y ≡ 14)
     go y (output-short l) e = omega arith
     go y (quantum-wrong f) e = omega arith
-    go y totals-pass e = omega arith
-    go y (kept-short m l) e = omega (arith, whole-longest t plan (opening-accepts t plan state o) n ends m)
+    go y (list-left m f w z (totals-pass p)) e = omega arith
+    go y (list-left m f w z (no-room p l)) e = omega (arith, whole-longest t plan (opening-accepts t plan state o) n ends m)

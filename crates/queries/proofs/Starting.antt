@@ -1,7 +1,7 @@
--- The start of a query: what a served opening leaves is under way, with no turn made and no list taken.
+-- The start of a query: what a served opening leaves is under way, with no turn made and no list taken; and what a turn makes of what it leads to.
 use Prim.Native.Nat.{ℕ}
 use native.Mathlib.Omega.{arith}
-use mathlib.Core.Path.{_≡_, refl, sym, _∙_, ap, ap₂, subst⁻¹}
+use mathlib.Core.Path.{_≡_, refl, sym, _∙_, ap, ap₂, subst, subst⁻¹}
 use mathlib.Core.Logic.{inr}
 use mathlib.Core.List.{List, []}
 use lib.ListN.{length, take}
@@ -15,16 +15,21 @@ use Rattle.plans.specs.Plans.{planOf}
 use Rattle.steps.specs.Steps.{after}
 use Rattle.steps.specs.Saved.{savedWords, leastStateWords}
 use Rattle.turns.specs.Opening.{openOf, Opens}
+use Rattle.turns.specs.Turns.{TurnInput}
 use Rattle.turns.proofs.Refusals.{open-refusals}
 use Rattle.turns.proofs.Follows.{starts-run}
-use Rattle.cuts.specs.Histories.{doneIn, history, fresh}
+use Rattle.cuts.specs.Histories.{stepsIn, doneIn, history, fresh}
 use Rattle.cuts.proofs.Accepting.{Accepted, opening-accepts}
 use Rattle.cuts.proofs.Turning.{Kept}
 use Rattle.cuts.proofs.AnyCut.{fresh-keeps}
 use Rattle.queries.specs.declared.Played.{Played}
 use Rattle.queries.specs.declared.Played.the-variants.{Finished, Unfinished, Refused}
-use Rattle.queries.specs.Playing.{Leaves, Lent, NotOpened, Plays, startAt, Started, UnderWay}
-use Rattle.queries.proofs.Leaving.{not-over}
+use Rattle.queries.specs.declared.Went.{Went}
+use Rattle.queries.specs.declared.Went.the-variants.{Stopped}
+use Rattle.queries.specs.Stepping.{takeTurnOf, Advances}
+use Rattle.queries.specs.Playing.{Cause, Stops, Leaves, Lent, NotOpened, Plays, startAt, Started, UnderWay}
+use Rattle.queries.proofs.Refusing.{Sized}
+use Rattle.queries.proofs.Leaving.{not-over, stops, Becomes, becomes}
 
 module _ (t : Tables) (plan state : List ℕ) (saved : ℕ) (s : Started t plan state saved) where
   pub start-accepts : Accepted t plan
@@ -50,7 +55,11 @@ module _ (t : Tables) (plan state : List ℕ) (saved : ℕ) (s : Started t plan 
         taken = refl;
         turns = refl;
         state-words = refl;
-        state-count = s .counted ∙ r .buffer .counted ∙ ap length (sym (r .buffer .front)) ∙ sym (ap₂ (λ n l. length (take n l)) (s .counted) (s .left));
+        state-count =
+            s .counted
+            ∙ r .buffer .counted
+            ∙ ap length (sym (r .buffer .front))
+            ∙ sym (ap₂ (λ n l. length (take n l)) (s .counted) (s .left));
         state-room = omega (arith, l, n, ap length (r .buffer .whole), ap length (s .left));
         list = refl;
         words = refl;
@@ -60,6 +69,27 @@ module _ (t : Tables) (plan state : List ℕ) (saved : ℕ) (s : Started t plan 
   pub start-alive : (kept : List ℕ) → ¬ (saved ≡ 0)
   unfolding doneIn starts
   start-alive kept = not-over t plan start-accepts (startAt state saved) start-keeps kept 0 state saved kept 0 (starts kept) refl
+
+  -- ---- one turn more of what it leads to
+  module _ (before : List ℕ) (count : ℕ) (now : List ℕ) (left : ℕ) (kept : List ℕ) (used : ℕ)
+      (u : UnderWay t plan (startAt state saved) before count now left kept used) (alive : ¬ (left ≡ 0)) (quantum : ℕ) (output : List ℕ) where
+    abbrev i : TurnInput
+    i = record { tables = t; plan = plan; state = now; given = left; quantum = quantum; threshold = []; output = output }
+
+    abbrev pub TurnsTo : List ℕ → List ℕ → Went → Type 0
+    TurnsTo = Becomes t plan start-accepts (startAt state saved) start-keeps before count now left kept used u alive quantum output
+
+    pub turns-to : (then list : List ℕ) (w : Went) → Advances (takeTurnOf i kept used) then list w → (v : Went) → w ≡ v → TurnsTo then list v
+    turns-to then list w p v e =
+        subst (TurnsTo then list) e
+        (becomes t plan start-accepts (startAt state saved) start-keeps before count now left kept used u alive quantum output then list w p)
+
+    -- stopped, with an output as long as the first one
+    pub stopped : (room : ℕ) → length output ≡ room → (¬ (count ≡ 0) → Sized (planOf plan .ending) quantum room)
+        → (list : List ℕ) (y : ℕ) → TurnsTo now list (Stopped y) → Stops t plan quantum room before list y
+    stopped room e sized list y b =
+        stops t plan start-accepts (startAt state saved) start-keeps before count now left kept used u quantum room sized list y
+        (subst (λ n. Cause t plan quantum n before (stepsIn (u .held .taken)) y) e (b .1)) (b .0)
 
 -- ---- from the calls' answers
 module _ (t : Tables) (plan lent : List ℕ) (r : Written) (answer : r ≡ openOf t plan lent .answer) where
@@ -73,7 +103,8 @@ module _ (t : Tables) (plan lent : List ℕ) (r : Written) (answer : r ≡ openO
       → NotOpened t plan (record { state = lent; output = output; kept = kept }) (record { state = state; output = output; kept = kept }) x
   not-opened state output kept left x e =
       let f = sym answer ∙ e in
-      record { refused = f; unchanged = ap (λ l. record { state = l; output = output; kept = kept }) (left ∙ open-refusals t plan lent .unchanged x f .buffer) }
+      let same = left ∙ open-refusals t plan lent .unchanged x f .buffer in
+      record { refused = f; unchanged = ap (λ l. record { state = l; output = output; kept = kept }) same }
 
 pub plays : (t : Tables) (plan : List ℕ) (quantum most : ℕ) (before after : Lent) → Opens t plan (before .state) → (r : Played)
     → Leaves t plan quantum most (length (before .output)) (before .kept) (after .state) (after .kept) r → Plays t plan quantum most before after r

@@ -1,5 +1,5 @@
 -- A query played to its end, or for so many turns: what it answers and leaves is the uncut run's. Assumes nothing: these are definitions.
-use Prim.Native.Nat.{ℕ, _≤_, _<_}
+use Prim.Native.Nat.{ℕ, _+_, _≤_, _<_}
 use mathlib.Core.Path.{_≡_}
 use mathlib.Core.Logic.{_⊎_}
 use mathlib.Core.List.{List, []}
@@ -17,7 +17,7 @@ use Rattle.turns.specs.Opening.{openOf, Opens}
 use Rattle.turns.specs.Turns.{mostSteps}
 use Rattle.cuts.specs.Histories.{Event, Held, history}
 use Rattle.cuts.specs.Premises.{Premises}
-use Rattle.cuts.specs.Uncut.{EndsAt, runList}
+use Rattle.cuts.specs.Uncut.{EndsAt, runList, NotTaken}
 use Rattle.queries.specs.declared.Played.{Played}
 use Rattle.queries.specs.declared.Played.the-variants.{Finished, Unfinished, Refused}
 
@@ -47,18 +47,18 @@ pub record Pauses (t : Tables) (plan : List ℕ) (most : ℕ) (before state kept
   pub state-count : saved ≡ length (savedWords (after t (planOf plan) steps .state))
   pub list : Holds t plan steps before kept words
 
--- why a query that was opened is stopped: by a turn, for an output of so many words or for the quantum; where a list is taken, for its
--- totals, or for a kept buffer in which some list of the uncut run has no room
-pub data Cause (t : Tables) (plan : List ℕ) (quantum room : ℕ) (before : List ℕ) : ℕ → Type 0 where
-  output-short : room < leastOutput (planOf plan .ending) → Cause t plan quantum room before 7
-  quantum-wrong : ¬ ((1 ≤ quantum) × (quantum ≤ mostSteps)) → Cause t plan quantum room before 8
-  totals-pass : Cause t plan quantum room before 13
-  kept-short : (steps : ℕ) → length before < length (listAfter t plan steps) → Cause t plan quantum room before 14
+-- why a query that was opened is stopped, its lists taken up to so many steps. By a turn: for an output of so many words, or for the quantum.
+-- Where the list of the next turn, of at most the quantum, is taken: for its totals, or for a kept buffer in which it has no room
+pub data Cause (t : Tables) (plan : List ℕ) (quantum room : ℕ) (before : List ℕ) (steps : ℕ) : ℕ → Type 0 where
+  output-short : room < leastOutput (planOf plan .ending) → Cause t plan quantum room before steps 7
+  quantum-wrong : ¬ ((1 ≤ quantum) × (quantum ≤ mostSteps)) → Cause t plan quantum room before steps 8
+  list-left : (later : ℕ) → steps < later → later ≤ steps + quantum → (x : ℕ) → NotTaken t (planOf plan) later (length before) x
+      → Cause t plan quantum room before steps x
 
 -- stopped: the kept list is the uncut run's up to the lists taken. For its output or its quantum it is stopped before the first step
 pub record Stops (t : Tables) (plan : List ℕ) (quantum room : ℕ) (before kept : List ℕ) (x : ℕ) : Type 0 where
-  pub cause : Cause t plan quantum room before x
   pub steps : ℕ
+  pub cause : Cause t plan quantum room before steps x
   pub at-first : x ≤ 8 → steps ≡ 0
   pub words : ℕ
   pub list : Holds t plan steps before kept words

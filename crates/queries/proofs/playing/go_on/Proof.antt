@@ -6,10 +6,10 @@ use mathlib.Core.Path.{_≡_, refl, _∙_, subst}
 use lib.ListN.{length}
 use Rattle.tables.specs.Tables.{tablesOf}
 use Rattle.plans.specs.Plans.{planOf}
-use Rattle.queries.specs.Playing.{Cause, Pauses, startAt, UnderWay}
+use Rattle.queries.specs.Playing.{Pauses, startAt, UnderWay}
 use Rattle.queries.proofs.Refusing.{Sized}
-use Rattle.queries.proofs.Leaving.{Becomes, becomes, pauses, stops}
-use Rattle.queries.proofs.Starting.{start-accepts, start-keeps, starts, start-alive}
+use Rattle.queries.proofs.Leaving.{pauses}
+use Rattle.queries.proofs.Starting.{start-accepts, start-keeps, starts, start-alive, turns-to, stopped}
 use Rattle.queries.proofs.playing.go_on.Statement.{statement}
 use Rattle.queries.proofs.playing.go_on.Tie as tie
 
@@ -29,7 +29,8 @@ loop-holds c =
     let p = s .args .plan .now in
     let st = s .args .state .now in
     let k = s .args .kept .now in
-    (omega arith, refl, refl, refl, starts t p st (s .args .opened) (s .pre) k, start-alive t p st (s .args .opened) (s .pre) k, λ f. absurd (f refl))
+    let o = s .args .opened in
+    (omega arith, refl, refl, refl, starts t p st o (s .pre) k, start-alive t p st o (s .pre) k, λ f. absurd (f refl))
 
 advance-requires : tie.Need-advance-requires Inv-loop μ-loop
 advance-requires c κs =
@@ -52,23 +53,35 @@ loop-again c =
     let s = l .before .before .before .before .before .before .before .before in
     let t = tablesOf (s .args .rows .now) (s .args .pos .now) (s .args .osp .now) in
     let p = s .args .plan .now in
-    let st = s .args .state .now in
-    let o = s .args .opened in
     let v = l .loop .inv in
-    let b = subst (λ w. Becomes t p (start-accepts t p st o (s .pre)) (startAt st o) (start-keeps t p st o (s .pre)) (s .args .kept .now) (l .loop .n) (l .loop .state) (l .loop .saved) (l .loop .kept) (l .loop .used) (v .4) (v .5) (s .args .quantum) (l .loop .output) (d .advance .last .1 .1 .1 .1 .0) (d .advance .last .1 .1 .1 .1 .1 .1 .1 .1 .0) w) (c .before .went .given .1) (becomes t p (start-accepts t p st o (s .pre)) (startAt st o) (start-keeps t p st o (s .pre)) (s .args .kept .now) (l .loop .n) (l .loop .state) (l .loop .saved) (l .loop .kept) (l .loop .used) (v .4) (v .5) (s .args .quantum) (l .loop .output) _ _ (d .advance .result) (d .advance .ensures)) in
-    (omega arith, c .before .before .before .before .before .before .before .before .state .given ∙ v .1, c .before .before .before .before .before .before .output .given ∙ v .2, c .before .before .before .before .kept .given ∙ v .3, b .0, b .1, λ _. subst (λ n. Sized (planOf p .ending) (s .args .quantum) n) (v .2) (b .2))
+    let b = turns-to t p (s .args .state .now) (s .args .opened) (s .pre) (s .args .kept .now) (l .loop .n) (l .loop .state) (l .loop .saved) (l .loop .kept)
+    (l .loop .used) (v .4) (v .5) (s .args .quantum) (l .loop .output) _ _ (d .advance .result) (d .advance .ensures) _ (c .before .went .given .1) in (
+      omega arith,
+      c .before .before .before .before .before .before .before .before .state .given ∙ v .1,
+      c .before .before .before .before .before .before .output .given ∙ v .2,
+      c .before .before .before .before .kept .given ∙ v .3,
+      b .0,
+      b .1,
+      λ _. subst (λ n. Sized (planOf p .ending) (s .args .quantum) n) (v .2) (b .2),
+    )
 
 enum-known-went-2 : tie.Need-enum-known-went-2 Inv-loop μ-loop
 enum-known-went-2 c = search needs
 
 same-length : tie.Need-same-length Inv-loop μ-loop
-same-length c = c .before .before .before .before .before .before .before .before .state .given ∙ c .before .before .before .before .before .before .before .before .before .before .before .before .before .before .loop .inv .1
+same-length c =
+    let l = c .before .before .before .before .before .before .before .before .before .before .before .before .before .before in
+    c .before .before .before .before .before .before .before .before .state .given ∙ l .loop .inv .1
 
 same-length-2 : tie.Need-same-length-2 Inv-loop μ-loop
-same-length-2 c = c .before .before .before .before .before .before .output .given ∙ c .before .before .before .before .before .before .before .before .before .before .before .before .before .before .loop .inv .2
+same-length-2 c =
+    let l = c .before .before .before .before .before .before .before .before .before .before .before .before .before .before in
+    c .before .before .before .before .before .before .output .given ∙ l .loop .inv .2
 
 same-length-3 : tie.Need-same-length-3 Inv-loop μ-loop
-same-length-3 c = c .before .before .before .before .kept .given ∙ c .before .before .before .before .before .before .before .before .before .before .before .before .before .before .loop .inv .3
+same-length-3 c =
+    let l = c .before .before .before .before .before .before .before .before .before .before .before .before .before .before in
+    c .before .before .before .before .kept .given ∙ l .loop .inv .3
 
 returns : tie.Need-returns Inv-loop μ-loop
 returns c =
@@ -77,22 +90,27 @@ returns c =
     let s = l .before .before .before .before .before .before .before .before in
     let t = tablesOf (s .args .rows .now) (s .args .pos .now) (s .args .osp .now) in
     let p = s .args .plan .now in
-    let st = s .args .state .now in
-    let o = s .args .opened in
     let v = l .loop .inv in
-    subst (λ w. Becomes t p (start-accepts t p st o (s .pre)) (startAt st o) (start-keeps t p st o (s .pre)) (s .args .kept .now) (l .loop .n) (l .loop .state) (l .loop .saved) (l .loop .kept) (l .loop .used) (v .4) (v .5) (s .args .quantum) (l .loop .output) (d .advance .last .1 .1 .1 .1 .0) (d .advance .last .1 .1 .1 .1 .1 .1 .1 .1 .0) w) (c .before .went2 .given .1) (becomes t p (start-accepts t p st o (s .pre)) (startAt st o) (start-keeps t p st o (s .pre)) (s .args .kept .now) (l .loop .n) (l .loop .state) (l .loop .saved) (l .loop .kept) (l .loop .used) (v .4) (v .5) (s .args .quantum) (l .loop .output) _ _ (d .advance .result) (d .advance .ensures))
+    turns-to t p (s .args .state .now) (s .args .opened) (s .pre) (s .args .kept .now) (l .loop .n) (l .loop .state) (l .loop .saved) (l .loop .kept)
+    (l .loop .used) (v .4) (v .5) (s .args .quantum) (l .loop .output) _ _ (d .advance .result) (d .advance .ensures) _ (c .before .went2 .given .1)
 
 enum-known-went-3 : tie.Need-enum-known-went-3 Inv-loop μ-loop
 enum-known-went-3 c = search needs
 
 same-length-4 : tie.Need-same-length-4 Inv-loop μ-loop
-same-length-4 c = c .before .before .before .before .before .before .before .before .state .given ∙ c .before .before .before .before .before .before .before .before .before .before .before .before .before .before .loop .inv .1
+same-length-4 c =
+    let l = c .before .before .before .before .before .before .before .before .before .before .before .before .before .before in
+    c .before .before .before .before .before .before .before .before .state .given ∙ l .loop .inv .1
 
 same-length-5 : tie.Need-same-length-5 Inv-loop μ-loop
-same-length-5 c = c .before .before .before .before .before .before .output .given ∙ c .before .before .before .before .before .before .before .before .before .before .before .before .before .before .loop .inv .2
+same-length-5 c =
+    let l = c .before .before .before .before .before .before .before .before .before .before .before .before .before .before in
+    c .before .before .before .before .before .before .output .given ∙ l .loop .inv .2
 
 same-length-6 : tie.Need-same-length-6 Inv-loop μ-loop
-same-length-6 c = c .before .before .before .before .kept .given ∙ c .before .before .before .before .before .before .before .before .before .before .before .before .before .before .loop .inv .3
+same-length-6 c =
+    let l = c .before .before .before .before .before .before .before .before .before .before .before .before .before .before in
+    c .before .before .before .before .kept .given ∙ l .loop .inv .3
 
 returns-2 : tie.Need-returns-2 Inv-loop μ-loop
 returns-2 c =
@@ -101,11 +119,11 @@ returns-2 c =
     let s = l .before .before .before .before .before .before .before .before in
     let t = tablesOf (s .args .rows .now) (s .args .pos .now) (s .args .osp .now) in
     let p = s .args .plan .now in
-    let st = s .args .state .now in
-    let o = s .args .opened in
     let v = l .loop .inv in
-    let b = subst (λ w. Becomes t p (start-accepts t p st o (s .pre)) (startAt st o) (start-keeps t p st o (s .pre)) (s .args .kept .now) (l .loop .n) (l .loop .state) (l .loop .saved) (l .loop .kept) (l .loop .used) (v .4) (v .5) (s .args .quantum) (l .loop .output) (d .advance .last .1 .1 .1 .1 .0) (d .advance .last .1 .1 .1 .1 .1 .1 .1 .1 .0) w) (c .before .went3 .given .1) (becomes t p (start-accepts t p st o (s .pre)) (startAt st o) (start-keeps t p st o (s .pre)) (s .args .kept .now) (l .loop .n) (l .loop .state) (l .loop .saved) (l .loop .kept) (l .loop .used) (v .4) (v .5) (s .args .quantum) (l .loop .output) _ _ (d .advance .result) (d .advance .ensures)) in
-    stops t p (start-accepts t p st o (s .pre)) (startAt st o) (start-keeps t p st o (s .pre)) (s .args .kept .now) (l .loop .n) (l .loop .state) (l .loop .saved) (l .loop .kept) (l .loop .used) (v .4) (s .args .quantum) (length (s .args .output .now)) (v .6) _ _ (subst (λ n. Cause t p (s .args .quantum) n (s .args .kept .now) (c .before .went3 .given .0 .0)) (v .2) (b .1)) (b .0)
+    let b = turns-to t p (s .args .state .now) (s .args .opened) (s .pre) (s .args .kept .now) (l .loop .n) (l .loop .state) (l .loop .saved) (l .loop .kept)
+    (l .loop .used) (v .4) (v .5) (s .args .quantum) (l .loop .output) _ _ (d .advance .result) (d .advance .ensures) _ (c .before .went3 .given .1) in
+    stopped t p (s .args .state .now) (s .args .opened) (s .pre) (s .args .kept .now) (l .loop .n) (l .loop .state) (l .loop .saved) (l .loop .kept)
+    (l .loop .used) (v .4) (v .5) (s .args .quantum) (l .loop .output) (length (s .args .output .now)) (v .2) (v .6) _ _ b
 
 same-length-7 : tie.Need-same-length-7 Inv-loop μ-loop
 same-length-7 c = c .before .loop .inv .1
@@ -124,9 +142,12 @@ returns-3 c =
     let p = s .args .plan .now in
     let st = s .args .state .now in
     let o = s .args .opened in
+    let k = s .args .kept .now in
     let v = l .loop .inv in
     let e : l .loop .n ≡ s .args .most = omega (arith, c .loop-test .left, v .0) in
-    subst (λ n. Pauses t p n (s .args .kept .now) (l .loop .state) (l .loop .kept) (l .loop .saved) (l .loop .used)) e (pauses t p (start-accepts t p st o (s .pre)) (startAt st o) (start-keeps t p st o (s .pre)) (s .args .kept .now) (l .loop .n) (l .loop .state) (l .loop .saved) (l .loop .kept) (l .loop .used) (v .4) (v .5))
+    subst (λ n. Pauses t p n k (l .loop .state) (l .loop .kept) (l .loop .saved) (l .loop .used)) e
+    (pauses t p (start-accepts t p st o (s .pre)) (startAt st o) (start-keeps t p st o (s .pre)) k (l .loop .n) (l .loop .state) (l .loop .saved)
+    (l .loop .kept) (l .loop .used) (v .4) (v .5))
 
 pub go-on-spec : {M : Type 1} → statement M
 go-on-spec =
