@@ -15,7 +15,7 @@ use Rattle.plans.specs.Branches.{branchRight, binds}
 use Rattle.plans.specs.Endings.{Ending, rows, endingRight}
 use Rattle.plans.specs.Plans.{Plan, planOf}
 use Rattle.steps.specs.Steps.{State, after}
-use Rattle.steps.specs.Saved.{savedWords}
+use Rattle.steps.specs.Saved.{savedWords, stateWords}
 use Rattle.lists.specs.Gathering.{gathered, thresholdRight}
 use Rattle.lists.specs.Thresholds.{absent}
 use Rattle.turns.specs.declared.TurnEnding.{TurnEnding}
@@ -24,7 +24,8 @@ use Rattle.turns.specs.Turns.{TurnInput, TurnResult, turnOf}
 use Rattle.turns.proofs.Follows.{follows}
 use Rattle.turns.proofs.OnTheRun.{keeps-lengths}
 use Rattle.runs.proofs.Growing.{Grows, grows}
-use Rattle.cuts.specs.Histories.{Event, turns, Held, Served, servedIn, stepsIn, doneIn, isDone, turnInputOf, servedOf, afterServed, afterTurn, afterTaking, happens, history}
+use Rattle.cuts.specs.Histories.{Event, turns, Held, Served, servedIn, stepsIn, doneIn, isDone, turnInputOf, servedOf, afterServed, afterTurn}
+use Rattle.cuts.specs.Histories.{afterTaking, happens, history}
 use Rattle.cuts.specs.Premises.{Asked, Premises}
 use Rattle.cuts.specs.Uncut.{AsUncut, runList}
 use Rattle.cuts.proofs.Accepting.{Accepted, accepted-form}
@@ -123,18 +124,17 @@ module _ (t : Tables) (plan : List ℕ) (a : Accepted t plan) (first : Held) (k 
           ap₂ (λ s g. record { tables = t; plan = plan; state = s; given = g; quantum = quantum; threshold = []; output = output })
           (ap (λ l. l ++ drop saved state) (sym (u .state-words)) ∙ take-append-drop saved state) (sym (u .state-count))
 
-      -- the turn is given a state that the uncut run passes through
+      -- the turn is given the state of the uncut run after the lists taken
+      pub given-state : ¬ (saved ≡ 0) → (s : State) × (after t q (stepsIn (h .taken)) .state ≡ some s) × (take saved state ≡ stateWords s)
+      given-state f =
+          let kept-words = held-keeps .saved ∙ ap (λ l. savedWords (after t q (stepsIn l) .state)) all-taken in
+          let s = some-words (after t q (stepsIn (h .taken)) .state) (λ e. f (u .state-count ∙ ap length (kept-words ∙ e))) in
+          (s .0, s .1, u .state-words ∙ kept-words ∙ ap savedWords (s .1))
+
       pub given-passed : ¬ (saved ≡ 0) → Passed i
       given-passed f =
-          let n = stepsIn (servedIn h) in
-          let s = some-words (after t q n .state) (λ e. f (u .state-count ∙ ap length (held-keeps .saved ∙ e))) in
-          record {
-            there = there;
-            steps = n;
-            state = s .0;
-            passes = s .1;
-            words = u .state-words ∙ held-keeps .saved ∙ ap savedWords (s .1);
-          }
+          let s = given-state f in
+          record { there = there; steps = stepsIn (h .taken); state = s .0; passes = s .1; words = s .2 }
         where
           there : saved ≤ length state
           there =
@@ -207,6 +207,7 @@ module _ (t : Tables) (plan : List ℕ) (a : Accepted t plan) (first : Held) (k 
 
             pub goes-on : ¬ (saved ≡ 0) → (v : UnderWay t plan first before (count + 1) (turnOf i .state) (turnOf i .answer .saved) new words)
                 × (doneIn (servedIn (v .held)) ≡ isDone (turnOf i .answer .ending))
+                × (stepsIn (v .held .taken) ≡ stepsIn (h .taken) + x .steps)
             goes-on f =
                 let s = follows i (is-served i served) in (
                   record {
@@ -224,4 +225,5 @@ module _ (t : Tables) (plan : List ℕ) (a : Accepted t plan) (first : Held) (k 
                     room = omega (arith, kept-length, room);
                   },
                   done-then f,
+                  steps-more (h .taken) x,
                 )

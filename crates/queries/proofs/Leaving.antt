@@ -1,8 +1,9 @@
 -- What a turn makes of a query under way, by what it answers: under way again, finished, or stopped; and what that says of the uncut run.
-use Prim.Native.Nat.{ℕ, _+_, _≤_}
+use Prim.Native.Nat.{ℕ, _+_, _<_}
 use native.Mathlib.Omega.{arith}
 use native.Mathlib.Decide.{decLt}
 use mathlib.Core.Path.{_≡_, refl, sym, _∙_, ap, ap₂, subst, subst⁻¹}
+use mathlib.Core.Logic.{_⊎_, inl, inr}
 use mathlib.Core.Bool.{Bool, true, false, cond, not, _&&_}
 use mathlib.Core.List.{List, [], _∷_, _++_}
 use lib.Dec.{leb}
@@ -26,7 +27,7 @@ use Rattle.merges.proofs.Refusals as refusals
 use Rattle.merges.proofs.Writes.{merge-writes}
 use Rattle.cuts.specs.Histories.{merges, joins, Held, Served, servedIn, stepsIn, doneIn, isDone, servedOf, mergeInputOf, afterServed, afterTaking}
 use Rattle.cuts.specs.Histories.{afterMerge, afterMerging, afterJoin, afterJoining, happens}
-use Rattle.cuts.specs.Uncut.{WithinQuantum, AsUncut, runList, runFits, NotTaken, no-room}
+use Rattle.cuts.specs.Uncut.{EndsAt, AsUncut, runList, runFits, NotTaken, no-room}
 use Rattle.cuts.proofs.Accepting.{Accepted}
 use Rattle.cuts.proofs.Chains.{Piece}
 use Rattle.cuts.proofs.Turning.{Kept}
@@ -34,16 +35,26 @@ use Rattle.cuts.proofs.MergeRefusals.{Merged, merge-refused}
 use Rattle.queries.specs.declared.Went.{Went}
 use Rattle.queries.specs.declared.Went.the-variants.{On, Over, Stopped}
 use Rattle.queries.specs.Stepping.{isServed, isRows, joinOf, mergedBy, takenBy, takeTurnOf, wentAs, leftAsIs, Advances}
-use Rattle.queries.specs.Playing.{Holds, Finishes, Pauses, Cause, list-left, Stops, UnderWay}
+use Rattle.queries.specs.Playing.{Holds, Turns, Made, Finishes, Pauses, Cause, list-left, Stops, UnderWay}
 use Rattle.queries.proofs.Refusing.{turn-stopped, Sized, served-sized, not-sized}
 use Rattle.queries.proofs.Taking.{is-served}
+use Rattle.queries.proofs.Making.{spent-more, full-more}
 use Rattle.queries.proofs.Advancing as advancing
 
--- each turn took a step at least
-at-least : (xs : List Served) → WithinQuantum xs → length xs ≤ stepsIn xs
-unfolding stepsIn
-at-least [] w = omega arith
-at-least (x ∷ xs) w = omega (arith, w .0 .0, at-least xs (w .1))
+-- a query that goes on: under way, its saved words those of a state, and its turns made as the uncut run has them
+pub record Going (t : Tables) (plan : List ℕ) (first : Held) (before : List ℕ) (quantum room count : ℕ) (state : List ℕ) (saved : ℕ)
+    (kept : List ℕ) (used : ℕ) : Type 0 where
+  pub under : UnderWay t plan first before count state saved kept used
+  pub alive : ¬ (saved ≡ 0)
+  pub made : Turns t plan quantum room count (stepsIn (under .held .taken))
+  -- a turn that was served has an output and a quantum that every turn has
+  pub sized : ¬ (count ≡ 0) → Sized (planOf plan .ending) quantum room
+
+-- what one more turn comes to, by how the query goes on
+abbrev pub Becomes : Tables → List ℕ → Held → List ℕ → ℕ → ℕ → ℕ → ℕ → List ℕ → List ℕ → Went → Type 0
+Becomes t plan first before quantum most room count now left (On s words) = Going t plan first before quantum room (count + 1) now s left words
+Becomes t plan first before quantum most room count now left (Over words) = Finishes t plan quantum most room before left words
+Becomes t plan first before quantum most room count now left (Stopped y) = Stops t plan quantum most room before left y
 
 module _ (t : Tables) (plan : List ℕ) (a : Accepted t plan) (first : Held) (k : Kept t (planOf plan) first) (before : List ℕ) where
   abbrev q : Plan
@@ -71,16 +82,17 @@ module _ (t : Tables) (plan : List ℕ) (a : Accepted t plan) (first : Held) (k 
           room = u .room;
         }
 
-    pub finishes : doneIn (servedIn h) ≡ true → Finishes t plan before kept used
-    finishes d = record { steps = stepsIn (h .taken); ends = uncut .finished d (u .taken) .0; list = holds }
+    ends : doneIn (servedIn h) ≡ true → EndsAt t q (stepsIn (h .taken))
+    ends d = uncut .finished d (u .taken) .0
 
-    pub pauses : ¬ (saved ≡ 0) → Pauses t plan count before state kept saved used
-    pauses f =
+    pub pauses : ¬ (saved ≡ 0) → (quantum room : ℕ) → Turns t plan quantum room count (stepsIn (h .taken))
+        → Pauses t plan quantum count room before state kept saved used
+    pauses f quantum room made =
         let n = stepsIn (h .taken) in
         let s : h .saved ≡ savedWords (after t q n .state) = keeps .saved ∙ ap (λ l. savedWords (after t q (stepsIn l) .state)) all-taken in
         record {
           steps = n;
-          many = omega (arith, u .turns, at-least (h .taken) (subst WithinQuantum all-taken (uncut .quantum)));
+          made = made;
           going = λ e. f (u .state-count ∙ ap length (s ∙ ap savedWords e));
           state-words = u .state-words ∙ s;
           state-count = u .state-count ∙ ap length s;
@@ -92,11 +104,13 @@ module _ (t : Tables) (plan : List ℕ) (a : Accepted t plan) (first : Held) (k 
     unfolding stepsIn
     no-steps e = ap stepsIn (advancing.no-elements (h .taken) (u .turns ∙ e))
 
-    pub stops : (quantum room : ℕ) → (¬ (count ≡ 0) → Sized (q .ending) quantum room) → (left : List ℕ) (y : ℕ)
-        → Cause t plan quantum room before (stepsIn (h .taken)) y → left ≡ kept → Stops t plan quantum room before left y
-    stops quantum room sized left y c e =
+    stops : (quantum most room : ℕ) → (¬ (count ≡ 0) → Sized (q .ending) quantum room) → Made t plan quantum most room (stepsIn (h .taken))
+        → (left : List ℕ) (y : ℕ) → Cause t plan quantum room before (stepsIn (h .taken)) y → left ≡ kept
+        → Stops t plan quantum most room before left y
+    stops quantum most room sized made left y c e =
         record {
           steps = stepsIn (h .taken);
+          made = made;
           cause = c;
           at-first = λ l. elim (decLt 0 count) [
             | yes p ↦ absurd (not-sized t plan quantum room before (stepsIn (h .taken)) y c l (sized (λ z. omega arith)))
@@ -111,8 +125,11 @@ module _ (t : Tables) (plan : List ℕ) (a : Accepted t plan) (first : Held) (k 
     not-over d e = absurd-true (uncut .done .1 (uncut .end .0 (advancing.no-elements (h .saved) (sym (u .state-count) ∙ e)))) d
 
   -- ---- one turn more
-  module _ (count : ℕ) (state : List ℕ) (saved : ℕ) (kept : List ℕ) (used : ℕ) (u : UnderWay t plan first before count state saved kept used)
-      (alive : ¬ (saved ≡ 0)) (quantum : ℕ) (output : List ℕ) where
+  module _ (quantum most count : ℕ) (fewer : count < most) (output state : List ℕ) (saved : ℕ) (kept : List ℕ) (used : ℕ)
+      (g : Going t plan first before quantum (length output) count state saved kept used) where
+    abbrev u : UnderWay t plan first before count state saved kept used
+    u = g .under
+
     abbrev i : TurnInput
     i = record { tables = t; plan = plan; state = state; given = saved; quantum = quantum; threshold = []; output = output }
 
@@ -134,6 +151,7 @@ module _ (t : Tables) (plan : List ℕ) (a : Accepted t plan) (first : Held) (k 
     TakenAs left (written.Words words) =
         (v : UnderWay t plan first before (count + 1) (turnOf i .state) (turnOf i .answer .saved) left words)
         × (doneIn (servedIn (v .held)) ≡ isDone (turnOf i .answer .ending))
+        × (stepsIn (v .held .taken) ≡ n + x .steps)
     TakenAs left (written.Refused y) = (left ≡ kept) × Cause t plan quantum (length output) before n y
 
     module _ (served : isServed (turnOf i .answer .ending) ≡ true) where
@@ -186,7 +204,7 @@ module _ (t : Tables) (plan : List ℕ) (a : Accepted t plan) (first : Held) (k 
             rw f
             (advancing.goes-on t plan a first k before count state saved kept used u quantum output served joins tt both joins-made
             (over (take used kept ++ x .list) kept) (used + length (x .list)) (ap (λ l. over (l ++ x .list) kept) front)
-            both-length (leb-true (used + length (x .list)) (length kept) f) alive)
+            both-length (leb-true (used + length (x .list)) (length kept) f) (g .alive))
 
         by-rows : TakenAs (m .kept) (m .answer)
         by-rows =
@@ -229,7 +247,7 @@ module _ (t : Tables) (plan : List ℕ) (a : Accepted t plan) (first : Held) (k 
             let front : list ≡ _ = ap (λ d. take d (mergeOf j .kept)) (sym count-is) ∙ w .kept .front in
             advancing.goes-on t plan a first k before count state saved kept used u quantum output served (merges (drop used kept)) tt list
             (merges-made words e) (mergeOf j .kept) words (w .kept .whole ∙ ap (λ l. over l kept) (sym front))
-            (sym count-is ∙ w .kept .counted ∙ ap length (sym front)) (omega (arith, w .room, count-is)) alive
+            (sym count-is ∙ w .kept .counted ∙ ap length (sym front)) (omega (arith, w .room, count-is)) (g .alive)
 
         by-others : TakenAs (m .kept) (m .answer)
         by-others = subst⁻¹ (λ (r : MergeResult). TakenAs (r .kept) (r .answer)) merged-is (by-answer (mergeOf j .answer) refl)
@@ -239,25 +257,59 @@ module _ (t : Tables) (plan : List ℕ) (a : Accepted t plan) (first : Held) (k 
       by-plan (top n vs keys) e = by-others (subst⁻¹ Merged e tt) (ap isRows e)
       by-plan (group vs n) e = by-others (subst⁻¹ Merged e tt) (ap isRows e)
 
-    -- what the turn comes to, by how the query goes on
-    abbrev pub Becomes : List ℕ → List ℕ → Went → Type 0
-    Becomes now left (On s words) =
-        UnderWay t plan first before (count + 1) now s left words × ¬ (s ≡ 0) × Sized (q .ending) quantum (length output)
-    Becomes now left (Over words) = Finishes t plan before left words
-    Becomes now left (Stopped y) = (left ≡ kept) × Cause t plan quantum (length output) before n y
+    abbrev Then : List ℕ → List ℕ → Went → Type 0
+    Then now left w = Becomes t plan first before quantum most (length output) count now left w
+
+    so-far : Made t plan quantum most (length output) n
+    so-far = record { count = count; fewer = fewer; turns = g .made }
+
+    stopped : (y : ℕ) (left : List ℕ) → (left ≡ kept) × Cause t plan quantum (length output) before n y → Then (turnOf i .state) left (Stopped y)
+    stopped y left p = stops count state saved kept used u quantum most (length output) (g .sized) so-far left y (p .1) (p .0)
+
+    -- a turn that is not the last is one more
+    module _ (e : TurnEnding) (f : turnOf i .answer .ending ≡ e) (s : isServed e ≡ true) where
+      one-more : (e ≡ ending.Spent) ⊎ (e ≡ ending.Full) → Turns t plan quantum (length output) (count + 1) (n + x .steps)
+      one-more o =
+          let here = advancing.given-state t plan a first k before count state saved kept used u quantum output (g .alive) in
+          let serve = is-served i (ap isServed f ∙ s) in
+          elim o [
+            | inl d ↦ spent-more i a n (here .0) (here .1) (here .2) refl serve count (g .made) (f ∙ d)
+            | inr d ↦ full-more i a n (here .0) (here .1) (here .2) refl serve count (g .made) (f ∙ d)
+          ]
+
+      goes : isDone e ≡ false → (e ≡ ending.Spent) ⊎ (e ≡ ending.Full) → (words : ℕ) → TakenAs (m .kept) (written.Words words)
+          → Then (turnOf i .state) (m .kept) (On (turnOf i .answer .saved) words)
+      goes d o words p =
+          record {
+            under = p .0;
+            alive = not-over (count + 1) _ _ _ words (p .0) (p .1 ∙ ap isDone f ∙ d);
+            made = subst⁻¹ (Turns t plan quantum (length output) (count + 1)) (p .2) (one-more o);
+            sized = λ _. served-sized i (is-served i (ap isServed f ∙ s));
+          }
+
+      done : isDone e ≡ true → (words : ℕ) → TakenAs (m .kept) (written.Words words) → Finishes t plan quantum most (length output) before (m .kept) words
+      done d words p =
+          let c = piece (ap isServed f ∙ s) in
+          record {
+            from = n;
+            made = so-far;
+            steps = stepsIn (p .0 .held .taken);
+            further = omega (arith, c .least, p .2);
+            within = omega (arith, c .most, p .2);
+            ends = ends (count + 1) _ _ _ words (p .0) (p .1 ∙ ap isDone f ∙ d);
+            list = holds (count + 1) _ _ _ words (p .0);
+          }
 
     by-taking : (e : TurnEnding) → turnOf i .answer .ending ≡ e → isServed e ≡ true → (w : Written) → TakenAs (m .kept) w
-        → Becomes (turnOf i .state) (m .kept) (wentAs e (turnOf i .answer .saved) w)
-    by-taking e f s (written.Refused y) p = p
-    by-taking ending.Done f s (written.Words words) p = finishes (count + 1) _ _ _ words (p .0) (p .1 ∙ ap isDone f)
-    by-taking ending.Spent f s (written.Words words) p =
-        (p .0, not-over (count + 1) _ _ _ words (p .0) (p .1 ∙ ap isDone f), served-sized i (is-served i (ap isServed f ∙ s)))
-    by-taking ending.Full f s (written.Words words) p =
-        (p .0, not-over (count + 1) _ _ _ words (p .0) (p .1 ∙ ap isDone f), served-sized i (is-served i (ap isServed f ∙ s)))
+        → Then (turnOf i .state) (m .kept) (wentAs e (turnOf i .answer .saved) w)
+    by-taking e f s (written.Refused y) p = stopped y (m .kept) p
+    by-taking ending.Done f s (written.Words words) p = done ending.Done f s refl words p
+    by-taking ending.Spent f s (written.Words words) p = goes ending.Spent f s refl (inl refl) words p
+    by-taking ending.Full f s (written.Words words) p = goes ending.Full f s refl (inr refl) words p
     by-taking (ending.Refused y) f s (written.Words words) p = absurd-true s refl
 
     module _ (e : TurnEnding) (f : turnOf i .answer .ending ≡ e) where
-      served-becomes : isServed e ≡ true → Becomes (turnOf i .state) (m .kept) (wentAs e (turnOf i .answer .saved) (m .answer))
+      served-becomes : isServed e ≡ true → Then (turnOf i .state) (m .kept) (wentAs e (turnOf i .answer .saved) (m .answer))
       served-becomes s = by-taking e f s (m .answer) (by-plan (ap isServed f ∙ s) (q .ending) refl)
 
       -- nothing is taken of a turn that is refused
@@ -269,18 +321,18 @@ module _ (t : Tables) (plan : List ℕ) (a : Accepted t plan) (first : Held) (k 
 
     turn-cause : (y : ℕ) → turnOf i .answer .ending ≡ ending.Refused y → Cause t plan quantum (length output) before n y
     turn-cause y f =
-        turn-stopped i a (advancing.given-passed t plan a first k before count state saved kept used u quantum output alive) (u .state-room) refl
-        before n y f
+        turn-stopped i a (advancing.given-passed t plan a first k before count state saved kept used u quantum output (g .alive)) (u .state-room)
+        refl before n y f
 
-    by-ending : (e : TurnEnding) → turnOf i .answer .ending ≡ e → Becomes (turnOf i .state) (m .kept) (wentAs e (turnOf i .answer .saved) (m .answer))
+    by-ending : (e : TurnEnding) → turnOf i .answer .ending ≡ e → Then (turnOf i .state) (m .kept) (wentAs e (turnOf i .answer .saved) (m .answer))
     by-ending ending.Done f = served-becomes ending.Done f refl
     by-ending ending.Spent f = served-becomes ending.Spent f refl
     by-ending ending.Full f = served-becomes ending.Full f refl
     by-ending (ending.Refused y) f =
-        subst⁻¹ (λ (r : MergeResult). Becomes (turnOf i .state) (r .kept) (wentAs (ending.Refused y) (turnOf i .answer .saved) (r .answer)))
-        (not-taken (ending.Refused y) f refl) (refl, turn-cause y f)
+        subst⁻¹ (λ (r : MergeResult). Then (turnOf i .state) (r .kept) (wentAs (ending.Refused y) (turnOf i .answer .saved) (r .answer)))
+        (not-taken (ending.Refused y) f refl) (stopped y kept (refl, turn-cause y f))
 
-    pub becomes : (now left : List ℕ) (w : Went) → Advances (takeTurnOf i kept used) now left w → Becomes now left w
+    pub becomes : (now left : List ℕ) (w : Went) → Advances (takeTurnOf i kept used) now left w → Then now left w
     unfolding takeTurnOf
     becomes now left w p =
         rw (p .went, p .left, p .list) (by-ending (turnOf i .answer .ending) refl)

@@ -1,6 +1,7 @@
 pub mod Taking
 pub mod Refusing
 pub mod Advancing
+pub mod Making
 pub mod Leaving
 pub mod Starting
 pub mod Room

@@ -46,9 +46,9 @@ module _ (t : Tables) (plan : List ℕ) (a : Accepted t plan) where
 
 -- a play that was opened, over a kept buffer with room for the whole list of the uncut run, is stopped by no 14
 pub room-enough : (t : Tables) (plan state : List ℕ) → Opens t plan state → (n : ℕ) → EndsAt t (planOf plan) n
-    → (quantum room : ℕ) (before kept : List ℕ) → length (listAfter t plan n) ≤ length before
-    → (x : ℕ) → Stops t plan quantum room before kept x → ¬ (x ≡ 14)
-room-enough t plan state o n ends quantum room before kept fits x s = go x (s .cause)
+    → (quantum most room : ℕ) (before kept : List ℕ) → length (listAfter t plan n) ≤ length before
+    → (x : ℕ) → Stops t plan quantum most room before kept x → ¬ (x ≡ 14)
+room-enough t plan state o n ends quantum most room before kept fits x s = go x (s .cause)
   where
     go : (y : ℕ) → Cause t plan quantum room before (s .steps) y → ¬ (y ≡ 14)
     go y (output-short l) e = omega arith

@@ -1,5 +1,5 @@
 -- The start of a query: what a served opening leaves is under way, with no turn made and no list taken; and what a turn makes of what it leads to.
-use Prim.Native.Nat.{ℕ}
+use Prim.Native.Nat.{ℕ, _<_}
 use native.Mathlib.Omega.{arith}
 use mathlib.Core.Path.{_≡_, refl, sym, _∙_, ap, ap₂, subst, subst⁻¹}
 use mathlib.Core.Logic.{inr}
@@ -15,7 +15,6 @@ use Rattle.plans.specs.Plans.{planOf}
 use Rattle.steps.specs.Steps.{after}
 use Rattle.steps.specs.Saved.{savedWords, leastStateWords}
 use Rattle.turns.specs.Opening.{openOf, Opens}
-use Rattle.turns.specs.Turns.{TurnInput}
 use Rattle.turns.proofs.Refusals.{open-refusals}
 use Rattle.turns.proofs.Follows.{starts-run}
 use Rattle.cuts.specs.Histories.{stepsIn, doneIn, history, fresh}
@@ -25,11 +24,9 @@ use Rattle.cuts.proofs.AnyCut.{fresh-keeps}
 use Rattle.queries.specs.declared.Played.{Played}
 use Rattle.queries.specs.declared.Played.the-variants.{Finished, Unfinished, Refused}
 use Rattle.queries.specs.declared.Went.{Went}
-use Rattle.queries.specs.declared.Went.the-variants.{Stopped}
 use Rattle.queries.specs.Stepping.{takeTurnOf, Advances}
-use Rattle.queries.specs.Playing.{Cause, Stops, Leaves, Lent, NotOpened, Plays, startAt, Started, UnderWay}
-use Rattle.queries.proofs.Refusing.{Sized}
-use Rattle.queries.proofs.Leaving.{not-over, stops, Becomes, becomes}
+use Rattle.queries.specs.Playing.{none-made, Leaves, Lent, NotOpened, Plays, startAt, Started, UnderWay}
+use Rattle.queries.proofs.Leaving.{not-over, Going, Becomes, becomes}
 
 module _ (t : Tables) (plan state : List ℕ) (saved : ℕ) (s : Started t plan state saved) where
   pub start-accepts : Accepted t plan
@@ -41,7 +38,7 @@ module _ (t : Tables) (plan state : List ℕ) (saved : ℕ) (s : Started t plan 
   pub start-keeps : Kept t (planOf plan) (startAt state saved)
   start-keeps = subst⁻¹ (Kept t (planOf plan)) same-start (fresh-keeps t plan start-accepts (s .lent) (s .opens))
 
-  pub starts : (kept : List ℕ) → UnderWay t plan (startAt state saved) kept 0 state saved kept 0
+  starts : (kept : List ℕ) → UnderWay t plan (startAt state saved) kept 0 state saved kept 0
   unfolding history
   starts kept =
       let r = starts-run t plan (s .lent) (s .opens) in
@@ -66,30 +63,26 @@ module _ (t : Tables) (plan state : List ℕ) (saved : ℕ) (s : Started t plan 
         room = omega arith;
       }
 
-  pub start-alive : (kept : List ℕ) → ¬ (saved ≡ 0)
+  start-alive : (kept : List ℕ) → ¬ (saved ≡ 0)
   unfolding doneIn starts
   start-alive kept = not-over t plan start-accepts (startAt state saved) start-keeps kept 0 state saved kept 0 (starts kept) refl
 
-  -- ---- one turn more of what it leads to
-  module _ (before : List ℕ) (count : ℕ) (now : List ℕ) (left : ℕ) (kept : List ℕ) (used : ℕ)
-      (u : UnderWay t plan (startAt state saved) before count now left kept used) (alive : ¬ (left ≡ 0)) (quantum : ℕ) (output : List ℕ) where
-    abbrev i : TurnInput
-    i = record { tables = t; plan = plan; state = now; given = left; quantum = quantum; threshold = []; output = output }
+  pub start-goes : (kept : List ℕ) (quantum room : ℕ) → Going t plan (startAt state saved) kept quantum room 0 state saved kept 0
+  unfolding stepsIn starts
+  start-goes kept quantum room = record { under = starts kept; alive = start-alive kept; made = none-made; sized = λ f. absurd (f refl) }
 
-    abbrev pub TurnsTo : List ℕ → List ℕ → Went → Type 0
-    TurnsTo = Becomes t plan start-accepts (startAt state saved) start-keeps before count now left kept used u alive quantum output
-
-    pub turns-to : (then list : List ℕ) (w : Went) → Advances (takeTurnOf i kept used) then list w → (v : Went) → w ≡ v → TurnsTo then list v
-    turns-to then list w p v e =
-        subst (TurnsTo then list) e
-        (becomes t plan start-accepts (startAt state saved) start-keeps before count now left kept used u alive quantum output then list w p)
-
-    -- stopped, with an output as long as the first one
-    pub stopped : (room : ℕ) → length output ≡ room → (¬ (count ≡ 0) → Sized (planOf plan .ending) quantum room)
-        → (list : List ℕ) (y : ℕ) → TurnsTo now list (Stopped y) → Stops t plan quantum room before list y
-    stopped room e sized list y b =
-        stops t plan start-accepts (startAt state saved) start-keeps before count now left kept used u quantum room sized list y
-        (subst (λ n. Cause t plan quantum n before (stepsIn (u .held .taken)) y) e (b .1)) (b .0)
+  -- ---- one turn more of what it leads to, with an output as long as the first one
+  pub turns-to : (before : List ℕ) (quantum most room count : ℕ) → count < most → (now : List ℕ) (left : ℕ) (kept : List ℕ) (used : ℕ)
+      → Going t plan (startAt state saved) before quantum room count now left kept used → (output : List ℕ) → length output ≡ room
+      → (then list : List ℕ) (w : Went)
+      → Advances (takeTurnOf (record { tables = t; plan = plan; state = now; given = left; quantum = quantum; threshold = []; output = output }) kept used) then list w
+      → (v : Went) → w ≡ v → Becomes t plan (startAt state saved) before quantum most room count then list v
+  turns-to before quantum most room count fewer now left kept used g output e then list w p v f =
+      let first = startAt state saved in
+      subst (Becomes t plan first before quantum most room count then list) f
+      (subst (λ r. Becomes t plan first before quantum most r count then list w) e
+      (becomes t plan start-accepts first start-keeps before quantum most count fewer output now left kept used
+      (subst⁻¹ (λ r. Going t plan first before quantum r count now left kept used) e g) then list w p))
 
 -- ---- from the calls' answers
 module _ (t : Tables) (plan lent : List ℕ) (r : Written) (answer : r ≡ openOf t plan lent .answer) where

@@ -4,7 +4,7 @@ use mathlib.Core.Path.{_≡_}
 use mathlib.Core.Logic.{_⊎_}
 use mathlib.Core.List.{List, []}
 use mathlib.Core.Option.{none}
-use lib.ListN.{length, take}
+use lib.ListN.{length, take, drop}
 use Rattle.words.specs.declared.Written.the-variants as written
 use Rattle.words.specs.Answers.{wordsIn}
 use Rattle.words.specs.Sequences.{over}
@@ -12,7 +12,7 @@ use Rattle.tables.specs.Tables.{Tables}
 use Rattle.plans.specs.Plans.{planOf}
 use Rattle.steps.specs.Steps.{after}
 use Rattle.steps.specs.Saved.{savedWords, leastStateWords}
-use Rattle.lists.specs.Gathering.{leastOutput}
+use Rattle.lists.specs.Gathering.{gathered, leastOutput}
 use Rattle.turns.specs.Opening.{openOf, Opens}
 use Rattle.turns.specs.Turns.{mostSteps}
 use Rattle.cuts.specs.Histories.{Event, Held, history}
@@ -31,17 +31,43 @@ pub record Holds (t : Tables) (plan : List ℕ) (steps : ℕ) (before now : List
   pub counted : words ≡ length (listAfter t plan steps)
   pub room : words ≤ length before
 
+-- ---- the turns
+-- the list of the rows that the uncut run delivers between two numbers of steps
+abbrev pub listBetween : Tables → List ℕ → ℕ → ℕ → List ℕ
+listBetween t plan from to =
+    gathered (planOf plan .ending) [] (drop (length (after t (planOf plan) from .delivered)) (after t (planOf plan) to .delivered))
+
+-- so many turns, none of them the last, take the uncut run so many steps on. The output, of so many words, has room for each turn's list, and
+-- each makes the quantum's steps; or fewer, at least one, where the next step's row leaves no room
+pub data Turns (t : Tables) (plan : List ℕ) (quantum room : ℕ) : ℕ → ℕ → Type 0 where
+  none-made : Turns t plan quantum room 0 0
+  spent : (count steps : ℕ) → Turns t plan quantum room count steps → length (listBetween t plan steps (steps + quantum)) ≤ room
+      → Turns t plan quantum room (count + 1) (steps + quantum)
+  full : (count steps more : ℕ) → Turns t plan quantum room count steps → length (listBetween t plan steps (steps + more)) ≤ room
+      → 1 ≤ more → more < quantum → room < length (listBetween t plan steps (steps + (more + 1)))
+      → Turns t plan quantum room (count + 1) (steps + more)
+
+-- fewer turns than allowed do so
+pub record Made (t : Tables) (plan : List ℕ) (quantum most room steps : ℕ) : Type 0 where
+  pub count : ℕ
+  pub fewer : count < most
+  pub turns : Turns t plan quantum room count steps
+
 -- ---- the answers
--- finished: the uncut run ends after some steps, and the kept list is its whole list
-pub record Finishes (t : Tables) (plan before kept : List ℕ) (words : ℕ) : Type 0 where
+-- finished: the uncut run ends within the turn after some others, and the kept list is its whole list
+pub record Finishes (t : Tables) (plan : List ℕ) (quantum most room : ℕ) (before kept : List ℕ) (words : ℕ) : Type 0 where
+  pub from : ℕ
+  pub made : Made t plan quantum most room from
   pub steps : ℕ
+  pub further : from < steps
+  pub within : steps ≤ from + quantum
   pub ends : EndsAt t (planOf plan) steps
   pub list : Holds t plan steps before kept words
 
--- not finished: the saved words are a state of the uncut run, at least a step for each turn, and the kept list is its list up to there
-pub record Pauses (t : Tables) (plan : List ℕ) (most : ℕ) (before state kept : List ℕ) (saved words : ℕ) : Type 0 where
+-- not finished: the turns allowed were made, the saved words are the state of the uncut run after them, and the kept list is its list up to there
+pub record Pauses (t : Tables) (plan : List ℕ) (quantum most room : ℕ) (before state kept : List ℕ) (saved words : ℕ) : Type 0 where
   pub steps : ℕ
-  pub many : most ≤ steps
+  pub made : Turns t plan quantum room most steps
   pub going : ¬ (after t (planOf plan) steps .state ≡ none)
   pub state-words : take saved state ≡ savedWords (after t (planOf plan) steps .state)
   pub state-count : saved ≡ length (savedWords (after t (planOf plan) steps .state))
@@ -56,8 +82,9 @@ pub data Cause (t : Tables) (plan : List ℕ) (quantum room : ℕ) (before : Lis
       → Cause t plan quantum room before steps x
 
 -- stopped: the kept list is the uncut run's up to the lists taken. For its output or its quantum it is stopped before the first step
-pub record Stops (t : Tables) (plan : List ℕ) (quantum room : ℕ) (before kept : List ℕ) (x : ℕ) : Type 0 where
+pub record Stops (t : Tables) (plan : List ℕ) (quantum most room : ℕ) (before kept : List ℕ) (x : ℕ) : Type 0 where
   pub steps : ℕ
+  pub made : Made t plan quantum most room steps
   pub cause : Cause t plan quantum room before steps x
   pub at-first : x ≤ 8 → steps ≡ 0
   pub words : ℕ
@@ -65,9 +92,9 @@ pub record Stops (t : Tables) (plan : List ℕ) (quantum room : ℕ) (before kep
 
 -- what is left of a query that was opened
 abbrev pub Leaves : Tables → List ℕ → ℕ → ℕ → ℕ → List ℕ → List ℕ → List ℕ → Played → Type 0
-Leaves t plan quantum most room before state kept (Finished words) = Finishes t plan before kept words
-Leaves t plan quantum most room before state kept (Unfinished saved words) = Pauses t plan most before state kept saved words
-Leaves t plan quantum most room before state kept (Refused x) = Stops t plan quantum room before kept x
+Leaves t plan quantum most room before state kept (Finished words) = Finishes t plan quantum most room before kept words
+Leaves t plan quantum most room before state kept (Unfinished saved words) = Pauses t plan quantum most room before state kept saved words
+Leaves t plan quantum most room before state kept (Refused x) = Stops t plan quantum most room before kept x
 
 -- the buffers lent to a play
 pub record Lent : Type 0 where
@@ -81,12 +108,13 @@ pub record NotOpened (t : Tables) (plan : List ℕ) (before after : Lent) (x : �
   pub unchanged : after ≡ before
 
 abbrev pub Plays : Tables → List ℕ → ℕ → ℕ → Lent → Lent → Played → Type 0
-Plays t plan quantum most before after (Finished words) = Opens t plan (before .state) × Finishes t plan (before .kept) (after .kept) words
+Plays t plan quantum most before after (Finished words) =
+    Opens t plan (before .state) × Finishes t plan quantum most (length (before .output)) (before .kept) (after .kept) words
 Plays t plan quantum most before after (Unfinished saved words) =
-    Opens t plan (before .state) × Pauses t plan most (before .kept) (after .state) (after .kept) saved words
+    Opens t plan (before .state) × Pauses t plan quantum most (length (before .output)) (before .kept) (after .state) (after .kept) saved words
 Plays t plan quantum most before after (Refused x) =
     NotOpened t plan before after x
-    ⊎ (Opens t plan (before .state) × Stops t plan quantum (length (before .output)) (before .kept) (after .kept) x)
+    ⊎ (Opens t plan (before .state) × Stops t plan quantum most (length (before .output)) (before .kept) (after .kept) x)
 
 -- ---- under way
 -- what the phone holds at the start: the saved words, and no list
@@ -101,7 +129,8 @@ pub record Started (t : Tables) (plan state : List ℕ) (saved : ℕ) : Type 0 w
   pub counted : saved ≡ wordsIn (openOf t plan lent .answer)
 
 -- the buffers hold what a list of calls under demand 3's premises leaves, so many turns served and every list taken
-pub record UnderWay (t : Tables) (plan : List ℕ) (first : Held) (before : List ℕ) (count : ℕ) (state : List ℕ) (saved : ℕ) (kept : List ℕ) (used : ℕ) : Type 0 where
+pub record UnderWay (t : Tables) (plan : List ℕ) (first : Held) (before : List ℕ) (count : ℕ) (state : List ℕ) (saved : ℕ) (kept : List ℕ)
+    (used : ℕ) : Type 0 where
   pub events : List Event
   pub premises : Premises t plan first events
   pub held : Held

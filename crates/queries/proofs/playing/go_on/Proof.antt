@@ -5,19 +5,16 @@ use native.Mathlib.Omega.{arith}
 use mathlib.Core.Path.{_≡_, refl, _∙_, subst}
 use lib.ListN.{length}
 use Rattle.tables.specs.Tables.{tablesOf}
-use Rattle.plans.specs.Plans.{planOf}
-use Rattle.queries.specs.Playing.{Pauses, startAt, UnderWay}
-use Rattle.queries.proofs.Refusing.{Sized}
-use Rattle.queries.proofs.Leaving.{pauses}
-use Rattle.queries.proofs.Starting.{start-accepts, start-keeps, starts, start-alive, turns-to, stopped}
+use Rattle.queries.specs.Playing.{Pauses, startAt}
+use Rattle.queries.proofs.Leaving.{Going, pauses}
+use Rattle.queries.proofs.Starting.{start-accepts, start-keeps, start-goes, turns-to}
 use Rattle.queries.proofs.playing.go_on.Statement.{statement}
 use Rattle.queries.proofs.playing.go_on.Tie as tie
 
 abbrev Inv-loop : tie.InvT-loop
 Inv-loop rows pos osp plan quantum most state₀ opened output₀ kept₀ saved₀ used₀ n₀ state output kept saved used n =
     (n ≤ most) × (length state ≡ length state₀) × (length output ≡ length output₀) × (length kept ≡ length kept₀)
-    × UnderWay (tablesOf rows pos osp) plan (startAt state₀ opened) kept₀ n state saved kept used × ¬ (saved ≡ 0)
-    × (¬ (n ≡ 0) → Sized (planOf plan .ending) quantum (length output₀))
+    × Going (tablesOf rows pos osp) plan (startAt state₀ opened) kept₀ quantum (length output₀) n state saved kept used
 
 abbrev μ-loop : tie.MeasureT-loop
 μ-loop rows pos osp plan quantum most state₀ opened output₀ kept₀ saved₀ used₀ n₀ state output kept saved used n = most - n
@@ -28,14 +25,13 @@ loop-holds c =
     let t = tablesOf (s .args .rows .now) (s .args .pos .now) (s .args .osp .now) in
     let p = s .args .plan .now in
     let st = s .args .state .now in
-    let k = s .args .kept .now in
-    let o = s .args .opened in
-    (omega arith, refl, refl, refl, starts t p st o (s .pre) k, start-alive t p st o (s .pre) k, λ f. absurd (f refl))
+    let room = length (s .args .output .now) in
+    (omega arith, refl, refl, refl, start-goes t p st (s .args .opened) (s .pre) (s .args .kept .now) (s .args .quantum) room)
 
 advance-requires : tie.Need-advance-requires Inv-loop μ-loop
 advance-requires c κs =
     let v = c .before .before .before .before .loop .inv in
-    omega (arith, v .3, v .4 .room)
+    omega (arith, v .3, v .4 .under .room)
 
 enum-known-went : tie.Need-enum-known-went Inv-loop μ-loop
 enum-known-went c = search needs
@@ -54,15 +50,14 @@ loop-again c =
     let t = tablesOf (s .args .rows .now) (s .args .pos .now) (s .args .osp .now) in
     let p = s .args .plan .now in
     let v = l .loop .inv in
-    let b = turns-to t p (s .args .state .now) (s .args .opened) (s .pre) (s .args .kept .now) (l .loop .n) (l .loop .state) (l .loop .saved) (l .loop .kept)
-    (l .loop .used) (v .4) (v .5) (s .args .quantum) (l .loop .output) _ _ (d .advance .result) (d .advance .ensures) _ (c .before .went .given .1) in (
+    let g = turns-to t p (s .args .state .now) (s .args .opened) (s .pre) (s .args .kept .now) (s .args .quantum) (s .args .most) (length (s .args .output .now))
+    (l .loop .n) (omega arith) (l .loop .state) (l .loop .saved) (l .loop .kept) (l .loop .used) (v .4) (l .loop .output) (v .2) _ _
+    (d .advance .result) (d .advance .ensures) _ (c .before .went .given .1) in (
       omega arith,
       c .before .before .before .before .before .before .before .before .state .given ∙ v .1,
       c .before .before .before .before .before .before .output .given ∙ v .2,
       c .before .before .before .before .kept .given ∙ v .3,
-      b .0,
-      b .1,
-      λ _. subst (λ n. Sized (planOf p .ending) (s .args .quantum) n) (v .2) (b .2),
+      g,
     )
 
 enum-known-went-2 : tie.Need-enum-known-went-2 Inv-loop μ-loop
@@ -91,8 +86,9 @@ returns c =
     let t = tablesOf (s .args .rows .now) (s .args .pos .now) (s .args .osp .now) in
     let p = s .args .plan .now in
     let v = l .loop .inv in
-    turns-to t p (s .args .state .now) (s .args .opened) (s .pre) (s .args .kept .now) (l .loop .n) (l .loop .state) (l .loop .saved) (l .loop .kept)
-    (l .loop .used) (v .4) (v .5) (s .args .quantum) (l .loop .output) _ _ (d .advance .result) (d .advance .ensures) _ (c .before .went2 .given .1)
+    turns-to t p (s .args .state .now) (s .args .opened) (s .pre) (s .args .kept .now) (s .args .quantum) (s .args .most) (length (s .args .output .now))
+    (l .loop .n) (omega arith) (l .loop .state) (l .loop .saved) (l .loop .kept) (l .loop .used) (v .4) (l .loop .output) (v .2) _ _
+    (d .advance .result) (d .advance .ensures) _ (c .before .went2 .given .1)
 
 enum-known-went-3 : tie.Need-enum-known-went-3 Inv-loop μ-loop
 enum-known-went-3 c = search needs
@@ -120,10 +116,9 @@ returns-2 c =
     let t = tablesOf (s .args .rows .now) (s .args .pos .now) (s .args .osp .now) in
     let p = s .args .plan .now in
     let v = l .loop .inv in
-    let b = turns-to t p (s .args .state .now) (s .args .opened) (s .pre) (s .args .kept .now) (l .loop .n) (l .loop .state) (l .loop .saved) (l .loop .kept)
-    (l .loop .used) (v .4) (v .5) (s .args .quantum) (l .loop .output) _ _ (d .advance .result) (d .advance .ensures) _ (c .before .went3 .given .1) in
-    stopped t p (s .args .state .now) (s .args .opened) (s .pre) (s .args .kept .now) (l .loop .n) (l .loop .state) (l .loop .saved) (l .loop .kept)
-    (l .loop .used) (v .4) (v .5) (s .args .quantum) (l .loop .output) (length (s .args .output .now)) (v .2) (v .6) _ _ b
+    turns-to t p (s .args .state .now) (s .args .opened) (s .pre) (s .args .kept .now) (s .args .quantum) (s .args .most) (length (s .args .output .now))
+    (l .loop .n) (omega arith) (l .loop .state) (l .loop .saved) (l .loop .kept) (l .loop .used) (v .4) (l .loop .output) (v .2) _ _
+    (d .advance .result) (d .advance .ensures) _ (c .before .went3 .given .1)
 
 same-length-7 : tie.Need-same-length-7 Inv-loop μ-loop
 same-length-7 c = c .before .loop .inv .1
@@ -143,11 +138,13 @@ returns-3 c =
     let st = s .args .state .now in
     let o = s .args .opened in
     let k = s .args .kept .now in
+    let quantum = s .args .quantum in
+    let room = length (s .args .output .now) in
     let v = l .loop .inv in
     let e : l .loop .n ≡ s .args .most = omega (arith, c .loop-test .left, v .0) in
-    subst (λ n. Pauses t p n k (l .loop .state) (l .loop .kept) (l .loop .saved) (l .loop .used)) e
+    subst (λ n. Pauses t p quantum n room k (l .loop .state) (l .loop .kept) (l .loop .saved) (l .loop .used)) e
     (pauses t p (start-accepts t p st o (s .pre)) (startAt st o) (start-keeps t p st o (s .pre)) k (l .loop .n) (l .loop .state) (l .loop .saved)
-    (l .loop .kept) (l .loop .used) (v .4) (v .5))
+    (l .loop .kept) (l .loop .used) (v .4 .under) (v .4 .alive) quantum room (v .4 .made))
 
 pub go-on-spec : {M : Type 1} → statement M
 go-on-spec =
