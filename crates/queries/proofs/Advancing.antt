@@ -169,8 +169,7 @@ module _ (t : Tables) (plan : List ℕ) (a : Accepted t plan) (first : Held) (k 
         pub turned-keeps : Kept t q turned
         turned-keeps = subst (Kept t q) calls-reach (history-keeps t plan a calls first k calls-premises)
 
-        -- it is a piece of the uncut run, of a step at least and of the quantum at most
-        pub piece : Piece t q (stepsIn (h .taken)) x
+        piece : Piece t q (stepsIn (h .taken)) x
         piece = next-piece t plan a turned turned-keeps x [] one-waits
 
         -- the list of that turn is taken by one call more

@@ -1,9 +1,7 @@
 -- What a turn makes of a query under way, by what it answers: under way again, finished, or stopped; and what that says of the uncut run.
 use Prim.Native.Nat.{ℕ, _+_, _<_}
 use native.Mathlib.Omega.{arith}
-use native.Mathlib.Decide.{decLt}
 use mathlib.Core.Path.{_≡_, refl, sym, _∙_, ap, ap₂, subst, subst⁻¹}
-use mathlib.Core.Logic.{_⊎_, inl, inr}
 use mathlib.Core.Bool.{Bool, true, false, cond, not, _&&_}
 use mathlib.Core.List.{List, [], _∷_, _++_}
 use lib.Dec.{leb}
@@ -29,16 +27,15 @@ use Rattle.cuts.specs.Histories.{merges, joins, Held, Served, servedIn, stepsIn
 use Rattle.cuts.specs.Histories.{afterMerge, afterMerging, afterJoin, afterJoining, happens}
 use Rattle.cuts.specs.Uncut.{EndsAt, AsUncut, runList, runFits, NotTaken, no-room}
 use Rattle.cuts.proofs.Accepting.{Accepted}
-use Rattle.cuts.proofs.Chains.{Piece}
 use Rattle.cuts.proofs.Turning.{Kept}
 use Rattle.cuts.proofs.MergeRefusals.{Merged, merge-refused}
 use Rattle.queries.specs.declared.Went.{Went}
 use Rattle.queries.specs.declared.Went.the-variants.{On, Over, Stopped}
 use Rattle.queries.specs.Stepping.{isServed, isRows, joinOf, mergedBy, takenBy, takeTurnOf, wentAs, leftAsIs, Advances}
-use Rattle.queries.specs.Playing.{Holds, Turns, Made, Finishes, Pauses, Cause, list-left, Stops, UnderWay}
-use Rattle.queries.proofs.Refusing.{turn-stopped, Sized, served-sized, not-sized}
+use Rattle.queries.specs.Playing.{Holds, Turn, Turns, one-more, Finishes, Pauses, Cause, list-left, Stops, UnderWay}
+use Rattle.queries.proofs.Refusing.{turn-stopped, at-first}
 use Rattle.queries.proofs.Taking.{is-served}
-use Rattle.queries.proofs.Making.{spent-more, full-more}
+use Rattle.queries.proofs.Making.{turn-made}
 use Rattle.queries.proofs.Advancing as advancing
 
 -- a query that goes on: under way, its saved words those of a state, and its turns made as the uncut run has them
@@ -47,8 +44,6 @@ pub record Going (t : Tables) (plan : List ℕ) (first : Held) (before : List �
   pub under : UnderWay t plan first before count state saved kept used
   pub alive : ¬ (saved ≡ 0)
   pub made : Turns t plan quantum room count (stepsIn (under .held .taken))
-  -- a turn that was served has an output and a quantum that every turn has
-  pub sized : ¬ (count ≡ 0) → Sized (planOf plan .ending) quantum room
 
 -- what one more turn comes to, by how the query goes on
 abbrev pub Becomes : Tables → List ℕ → Held → List ℕ → ℕ → ℕ → ℕ → ℕ → List ℕ → List ℕ → Went → Type 0
@@ -99,23 +94,17 @@ module _ (t : Tables) (plan : List ℕ) (a : Accepted t plan) (first : Held) (k 
           list = holds;
         }
 
-    -- no turn made is no step
-    no-steps : count ≡ 0 → stepsIn (h .taken) ≡ 0
-    unfolding stepsIn
-    no-steps e = ap stepsIn (advancing.no-elements (h .taken) (u .turns ∙ e))
-
-    stops : (quantum most room : ℕ) → (¬ (count ≡ 0) → Sized (q .ending) quantum room) → Made t plan quantum most room (stepsIn (h .taken))
+    stops : (quantum most room : ℕ) → count < most → Turns t plan quantum room count (stepsIn (h .taken))
         → (left : List ℕ) (y : ℕ) → Cause t plan quantum room before (stepsIn (h .taken)) y → left ≡ kept
         → Stops t plan quantum most room before left y
-    stops quantum most room sized made left y c e =
+    stops quantum most room fewer made left y c e =
         record {
+          count = count;
+          allowed = fewer;
           steps = stepsIn (h .taken);
           made = made;
           cause = c;
-          at-first = λ l. elim (decLt 0 count) [
-            | yes p ↦ absurd (not-sized t plan quantum room before (stepsIn (h .taken)) y c l (sized (λ z. omega arith)))
-            | no p ↦ no-steps (omega arith)
-          ];
+          at-first = at-first t plan quantum room before count (stepsIn (h .taken)) y made c;
           words = used;
           list = subst⁻¹ (λ l. Holds t plan (stepsIn (h .taken)) before l used) e holds;
         }
@@ -164,12 +153,18 @@ module _ (t : Tables) (plan : List ℕ) (a : Accepted t plan) (first : Held) (k 
       turned-keeps : Kept t q turned
       turned-keeps = advancing.turned-keeps t plan a first k before count state saved kept used u quantum output served
 
-      piece : Piece t q n x
-      piece = advancing.piece t plan a first k before count state saved kept used u quantum output served
+      -- the turn is one of the uncut run
+      turn : Turn t plan quantum (length output) n (n + x .steps)
+      turn =
+          let here = advancing.given-state t plan a first k before count state saved kept used u quantum output (g .alive) in
+          turn-made i a n (here .0) (here .1) (here .2) refl (is-served i served)
+
+      made-more : Turns t plan quantum (length output) (count + 1) (n + x .steps)
+      made-more = one-more count n (n + x .steps) (g .made) turn
 
       -- its list is left
       left-list : (y : ℕ) → NotTaken t q (n + x .steps) (length before) y → Cause t plan quantum (length output) before n y
-      left-list y c = list-left (n + x .steps) (omega (arith, piece .least)) (omega (arith, piece .most)) y c
+      left-list y c = list-left (n + x .steps) turn y c
 
       -- a row query's list is joined
       module _ (vs : List ℕ) (e : q .ending ≡ rows vs) where
@@ -260,42 +255,29 @@ module _ (t : Tables) (plan : List ℕ) (a : Accepted t plan) (first : Held) (k 
     abbrev Then : List ℕ → List ℕ → Went → Type 0
     Then now left w = Becomes t plan first before quantum most (length output) count now left w
 
-    so-far : Made t plan quantum most (length output) n
-    so-far = record { count = count; fewer = fewer; turns = g .made }
-
     stopped : (y : ℕ) (left : List ℕ) → (left ≡ kept) × Cause t plan quantum (length output) before n y → Then (turnOf i .state) left (Stopped y)
-    stopped y left p = stops count state saved kept used u quantum most (length output) (g .sized) so-far left y (p .1) (p .0)
+    stopped y left p = stops count state saved kept used u quantum most (length output) fewer (g .made) left y (p .1) (p .0)
 
-    -- a turn that is not the last is one more
-    module _ (e : TurnEnding) (f : turnOf i .answer .ending ≡ e) (s : isServed e ≡ true) where
-      one-more : (e ≡ ending.Spent) ⊎ (e ≡ ending.Full) → Turns t plan quantum (length output) (count + 1) (n + x .steps)
-      one-more o =
-          let here = advancing.given-state t plan a first k before count state saved kept used u quantum output (g .alive) in
-          let serve = is-served i (ap isServed f ∙ s) in
-          elim o [
-            | inl d ↦ spent-more i a n (here .0) (here .1) (here .2) refl serve count (g .made) (f ∙ d)
-            | inr d ↦ full-more i a n (here .0) (here .1) (here .2) refl serve count (g .made) (f ∙ d)
-          ]
+    -- the list of a turn is taken: the query goes on, or is over
+    module _ (e : TurnEnding) (f : turnOf i .answer .ending ≡ e) (s : isServed e ≡ true) (words : ℕ) (p : TakenAs (m .kept) (written.Words words)) where
+      made-then : Turns t plan quantum (length output) (count + 1) (stepsIn (p .0 .held .taken))
+      made-then = subst⁻¹ (Turns t plan quantum (length output) (count + 1)) (p .2) (made-more (ap isServed f ∙ s))
 
-      goes : isDone e ≡ false → (e ≡ ending.Spent) ⊎ (e ≡ ending.Full) → (words : ℕ) → TakenAs (m .kept) (written.Words words)
-          → Then (turnOf i .state) (m .kept) (On (turnOf i .answer .saved) words)
-      goes d o words p =
+      goes : isDone e ≡ false → Then (turnOf i .state) (m .kept) (On (turnOf i .answer .saved) words)
+      goes d =
           record {
             under = p .0;
             alive = not-over (count + 1) _ _ _ words (p .0) (p .1 ∙ ap isDone f ∙ d);
-            made = subst⁻¹ (Turns t plan quantum (length output) (count + 1)) (p .2) (one-more o);
-            sized = λ _. served-sized i (is-served i (ap isServed f ∙ s));
+            made = made-then;
           }
 
-      done : isDone e ≡ true → (words : ℕ) → TakenAs (m .kept) (written.Words words) → Finishes t plan quantum most (length output) before (m .kept) words
-      done d words p =
-          let c = piece (ap isServed f ∙ s) in
+      over-then : isDone e ≡ true → Then (turnOf i .state) (m .kept) (Over words)
+      over-then d =
           record {
-            from = n;
-            made = so-far;
+            count = count + 1;
+            allowed = omega arith;
             steps = stepsIn (p .0 .held .taken);
-            further = omega (arith, c .least, p .2);
-            within = omega (arith, c .most, p .2);
+            made = made-then;
             ends = ends (count + 1) _ _ _ words (p .0) (p .1 ∙ ap isDone f ∙ d);
             list = holds (count + 1) _ _ _ words (p .0);
           }
@@ -303,9 +285,9 @@ module _ (t : Tables) (plan : List ℕ) (a : Accepted t plan) (first : Held) (k 
     by-taking : (e : TurnEnding) → turnOf i .answer .ending ≡ e → isServed e ≡ true → (w : Written) → TakenAs (m .kept) w
         → Then (turnOf i .state) (m .kept) (wentAs e (turnOf i .answer .saved) w)
     by-taking e f s (written.Refused y) p = stopped y (m .kept) p
-    by-taking ending.Done f s (written.Words words) p = done ending.Done f s refl words p
-    by-taking ending.Spent f s (written.Words words) p = goes ending.Spent f s refl (inl refl) words p
-    by-taking ending.Full f s (written.Words words) p = goes ending.Full f s refl (inr refl) words p
+    by-taking ending.Done f s (written.Words words) p = over-then ending.Done f s words p refl
+    by-taking ending.Spent f s (written.Words words) p = goes ending.Spent f s words p refl
+    by-taking ending.Full f s (written.Words words) p = goes ending.Full f s words p refl
     by-taking (ending.Refused y) f s (written.Words words) p = absurd-true s refl
 
     module _ (e : TurnEnding) (f : turnOf i .answer .ending ≡ e) where

@@ -1,35 +1,40 @@
--- A served turn from a state of the uncut run, spent or full, in terms of that run: its steps, and the room that its output has for their list.
-use Prim.Native.Nat.{ℕ, _+_, _≤_, _<_}
+-- A served turn from a state of the uncut run, in terms of that run: how it ends, and the room that its output has for the list of its steps.
+use Prim.Native.Nat.{ℕ, _+_, _-_, _≤_, _<_}
 use native.Mathlib.Omega.{arith}
-use mathlib.Core.Path.{_≡_, refl, sym, _∙_, ap, subst, subst⁻¹}
-use mathlib.Core.Option.{some}
+use native.Mathlib.Decide.{decLt}
+use mathlib.Core.Path.{_≡_, refl, sym, _∙_, ap}
+use mathlib.Core.Option.{none, some}
 use mathlib.Core.List.{List, [], _∷_, _++_}
 use lib.ListN.{length, drop}
 use lib.Seq.{drop-append-seam}
 use Rattle.words.specs.Bindings.{Bindings}
 use Rattle.words.specs.Sequences.{iterate}
+use Rattle.words.proofs.Testing.{none-some}
 use Rattle.tables.specs.Tables.{Tables}
 use Rattle.plans.specs.Plans.{Plan}
 use Rattle.steps.specs.Steps.{State, delivers, step, Run, runFrom, after}
 use Rattle.steps.specs.Saved.{stateWords, stateIn}
-use Rattle.steps.proofs.Runs.{from-add, after-rows, first-delivers}
+use Rattle.steps.proofs.Runs.{from-add, after-state, after-rows, done-stays, first-delivers}
 use Rattle.steps.proofs.Accepted.{loads-back}
 use Rattle.lists.specs.Gathering.{gathered}
 use Rattle.lists.proofs.Room.{no-space-longer}
-use Rattle.turns.specs.declared.TurnEnding.the-variants.{Spent, Full}
+use Rattle.turns.specs.declared.TurnEnding.{TurnEnding}
+use Rattle.turns.specs.declared.TurnEnding.the-variants.{Done, Spent, Full, Refused}
 use Rattle.turns.specs.Turns.{TurnInput, givenState, givenPlan, turnOf}
 use Rattle.turns.proofs.Refusals.{Served}
 use Rattle.turns.proofs.Follows.{givenRun, turnRun, follows}
 use Rattle.turns.proofs.Progress.{progresses}
 use Rattle.turns.proofs.Endings.{IsFull, endings}
+use Rattle.cuts.specs.Uncut.{EndsAt}
 use Rattle.cuts.proofs.Accepting.{Accepted}
-use Rattle.queries.specs.Playing.{listBetween, Turns, spent, full}
+use Rattle.queries.specs.Playing.{listBetween, TurnEnds, spent, full, done, Turn}
+use Rattle.queries.proofs.Refusing.{served-sized}
 
 -- a step that delivers adds its row
-one-more : (t : Tables) (q : Plan) (s u : State) (m : ℕ) → runFrom t q s m .state ≡ some u → (b : Bindings) (v : State) → step t q u ≡ delivers b v
+row-more : (t : Tables) (q : Plan) (s u : State) (m : ℕ) → runFrom t q s m .state ≡ some u → (b : Bindings) (v : State) → step t q u ≡ delivers b v
     → runFrom t q s (m + 1) .delivered ≡ runFrom t q s m .delivered ++ (b ∷ [])
 unfolding iterate
-one-more t q s u m e b v d =
+row-more t q s u m e b v d =
     ap (λ (r : Run). r .delivered) (from-add t q s u m 1 e)
     ∙ ap (λ (r : Run). runFrom t q s m .delivered ++ r .delivered) (first-delivers t q u 0 b v d)
 
@@ -61,24 +66,47 @@ module _ (i : TurnInput) (a : Accepted (i .tables) (i .plan)) (n : ℕ) (s : Sta
       let same = ap (λ th. length (gathered (q .ending) th (turnRun i .delivered))) none-sent in
       omega (arith, f .room, f .output .counted, same, ap length (list-between m))
 
-  no-more : IsFull i → length (i .output) < length (listBetween t (i .plan) n (n + (m + 1)))
+  no-more : IsFull i → length (i .output) < length (listBetween t (i .plan) n (n + m + 1))
   no-more f =
       let z = f .no-space in
-      let rows = one-more t q (stateIn (givenState i)) (z .state) m (z .here) (z .row) (z .next) (z .would-deliver) in
+      let rows = row-more t q (stateIn (givenState i)) (z .state) m (z .here) (z .row) (z .next) (z .would-deliver) in
       let long = no-space-longer (q .ending) [] (length (i .output)) (givenRun i m .delivered) (z .row) (z .no-space) in
-      omega (arith, long, ap (λ l. length (gathered (q .ending) [] l)) rows, ap length (list-between (m + 1)))
+      let far : n + m + 1 ≡ n + (m + 1) = omega arith in
+      let list = ap (listBetween t (i .plan) n) far ∙ list-between (m + 1) in
+      omega (arith, long, ap (λ l. length (gathered (q .ending) [] l)) rows, ap length list)
 
-  -- so such a turn is one more
-  module _ (count : ℕ) (made : Turns t (i .plan) (i .quantum) (length (i .output)) count n) where
-    abbrev More : ℕ → Type 0
-    More d = Turns t (i .plan) (i .quantum) (length (i .output)) (count + 1) (n + d)
+  state-is : (d : ℕ) → after t q (n + d) .state ≡ givenRun i d .state
+  state-is d = after-state t q n d s passes ∙ sym (ap (λ u. runFrom t q u d .state) start)
 
-    pub spent-more : turnOf i .answer .ending ≡ Spent → More m
-    spent-more e =
-        let x : m ≡ i .quantum = endings i serve .spent .0 e .exactly in
-        subst⁻¹ More x (spent count n made (subst (λ d. length (listBetween t (i .plan) n (n + d)) ≤ length (i .output)) x fits))
+  -- a run that is over with the turn was not over before
+  ends-there : turnRun i .state ≡ none → EndsAt t q (n + m)
+  ends-there e = record { over = state-is m ∙ e; not-before = not-before }
+    where
+      not-before : (j : ℕ) → j < n + m → after t q j .state ≡ none → ⊥
+      not-before j l f =
+          elim (decLt j n) [
+            | yes g ↦ let d : n ≡ j + (n - j) = omega arith in
+                none-some (sym f ∙ ap (λ (r : Run). r .state) (sym (done-stays t q j (n - j) f)) ∙ ap (λ k. after t q k .state) (sym d) ∙ passes)
+            | no g ↦ let d : j ≡ n + (j - n) = omega arith in
+                endings i serve .no-earlier (j - n) (omega arith) .0 (sym (state-is (j - n)) ∙ ap (λ k. after t q k .state) (sym d) ∙ f)
+          ]
 
-    pub full-more : turnOf i .answer .ending ≡ Full → More m
-    full-more e =
-        let f = endings i serve .full .0 e in
-        full count n m made fits (progresses i serve .least) (f .less) (no-more f)
+  by-ending : (e : TurnEnding) → turnOf i .answer .ending ≡ e → TurnEnds t (i .plan) (i .quantum) (length (i .output)) n (n + m)
+  by-ending Done e = done (ends-there (endings i serve .done .0 e .over))
+  by-ending Spent e =
+      let f = endings i serve .spent .0 e in
+      spent (ap (λ d. n + d) (f .exactly)) (λ z. f .not-done (sym (state-is m) ∙ z))
+  by-ending Full e =
+      let f = endings i serve .full .0 e in
+      full (omega (arith, f .less)) (no-more f)
+  by-ending (Refused y) e = absurd (serve y e)
+
+  pub turn-made : Turn t (i .plan) (i .quantum) (length (i .output)) n (n + m)
+  turn-made =
+      record {
+        sized = served-sized i serve;
+        further = omega (arith, progresses i serve .least);
+        within = omega (arith, progresses i serve .within);
+        fits = fits;
+        ending = by-ending (turnOf i .answer .ending) refl;
+      }

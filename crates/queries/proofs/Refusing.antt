@@ -24,7 +24,7 @@ use Rattle.turns.proofs.Progress.{turn-limits}
 use Rattle.cuts.specs.Uncut.{totals-pass, no-room}
 use Rattle.cuts.proofs.Accepting.{Accepted}
 use Rattle.cuts.proofs.States.{Passed, accepted-when-passed}
-use Rattle.queries.specs.Playing.{Cause, output-short, quantum-wrong, list-left}
+use Rattle.queries.specs.Playing.{Sized, Turns, none-made, one-more, Cause, output-short, quantum-wrong, list-left}
 
 -- where the tests on the state and the threshold pass, 7 or 8 fails first
 seven-or-eight : (a b c d e : Bool) (y : ℕ) → c ≡ true → d ≡ true → e ≡ true
@@ -85,18 +85,20 @@ module _ (i : TurnInput) (a : Accepted (i .tables) (i .plan)) (p : Passed i) (ro
       ]
 
 -- ---- a turn that was served has an output and a quantum that every turn has
-pub record Sized (e : Ending) (quantum room : ℕ) : Type 0 where
-  pub output : leastOutput e ≤ room
-  pub least : 1 ≤ quantum
-  pub most : quantum ≤ mostSteps
-
-pub served-sized : (i : TurnInput) → Served i → Sized (givenPlan i .ending) (i .quantum) (length (i .output))
+pub served-sized : (i : TurnInput) → Served i → Sized (i .plan) (i .quantum) (length (i .output))
 served-sized i s = let l = turn-limits i s in record { output = l .output-room; least = l .one-step; most = l .most }
 
 -- and is not stopped for them
-pub not-sized : (t : Tables) (plan : List ℕ) (quantum room : ℕ) (before : List ℕ) (steps y : ℕ) → Cause t plan quantum room before steps y → y ≤ 8
-    → Sized (planOf plan .ending) quantum room → ⊥
+not-sized : (t : Tables) (plan : List ℕ) (quantum room : ℕ) (before : List ℕ) (steps y : ℕ) → Cause t plan quantum room before steps y → y ≤ 8
+    → Sized plan quantum room → ⊥
 not-sized t plan quantum room before steps y (output-short l) m z = omega (arith, l, z .output)
 not-sized t plan quantum room before steps y (quantum-wrong f) m z = f (z .least, z .most)
-not-sized t plan quantum room before steps y (list-left later f w x (totals-pass p)) m z = omega arith
-not-sized t plan quantum room before steps y (list-left later f w x (no-room p l)) m z = omega arith
+not-sized t plan quantum room before steps y (list-left later f x (totals-pass p)) m z = omega arith
+not-sized t plan quantum room before steps y (list-left later f x (no-room p l)) m z = omega arith
+
+-- so 7 and 8 come before the first step
+pub at-first : (t : Tables) (plan : List ℕ) (quantum room : ℕ) (before : List ℕ) (count steps y : ℕ) → Turns t plan quantum room count steps
+    → Cause t plan quantum room before steps y → y ≤ 8 → steps ≡ 0
+at-first t plan quantum room before count steps y none-made c m = refl
+at-first t plan quantum room before count steps y (one-more n from to made turn) c m =
+    absurd (not-sized t plan quantum room before to y c m (turn .sized))

@@ -69,7 +69,7 @@ module _ (t : Tables) (plan state : List ℕ) (saved : ℕ) (s : Started t plan 
 
   pub start-goes : (kept : List ℕ) (quantum room : ℕ) → Going t plan (startAt state saved) kept quantum room 0 state saved kept 0
   unfolding stepsIn starts
-  start-goes kept quantum room = record { under = starts kept; alive = start-alive kept; made = none-made; sized = λ f. absurd (f refl) }
+  start-goes kept quantum room = record { under = starts kept; alive = start-alive kept; made = none-made }
 
   -- ---- one turn more of what it leads to, with an output as long as the first one
   pub turns-to : (before : List ℕ) (quantum most room count : ℕ) → count < most → (now : List ℕ) (left : ℕ) (kept : List ℕ) (used : ℕ)

@@ -37,30 +37,39 @@ abbrev pub listBetween : Tables → List ℕ → ℕ → ℕ → List ℕ
 listBetween t plan from to =
     gathered (planOf plan .ending) [] (drop (length (after t (planOf plan) from .delivered)) (after t (planOf plan) to .delivered))
 
--- so many turns, none of them the last, take the uncut run so many steps on. The output, of so many words, has room for each turn's list, and
--- each makes the quantum's steps; or fewer, at least one, where the next step's row leaves no room
+-- tests 7 and 8 of a turn: its output has the words that its ending needs, and its quantum is in its range
+pub record Sized (plan : List ℕ) (quantum room : ℕ) : Type 0 where
+  pub output : leastOutput (planOf plan .ending) ≤ room
+  pub least : 1 ≤ quantum
+  pub most : quantum ≤ mostSteps
+
+-- how a turn between two numbers of steps of the uncut run ends. Spent: after exactly the quantum, and the run goes on. Full: after less than
+-- the quantum, and the next step's row leaves the output no room. Done: the run ends there
+pub data TurnEnds (t : Tables) (plan : List ℕ) (quantum room from to : ℕ) : Type 0 where
+  spent : to ≡ from + quantum → ¬ (after t (planOf plan) to .state ≡ none) → TurnEnds t plan quantum room from to
+  full : to < from + quantum → room < length (listBetween t plan from (to + 1)) → TurnEnds t plan quantum room from to
+  done : EndsAt t (planOf plan) to → TurnEnds t plan quantum room from to
+
+-- a turn of the uncut run: at least one step, at most the quantum, and the output has room for their list
+pub record Turn (t : Tables) (plan : List ℕ) (quantum room from to : ℕ) : Type 0 where
+  pub sized : Sized plan quantum room
+  pub further : from < to
+  pub within : to ≤ from + quantum
+  pub fits : length (listBetween t plan from to) ≤ room
+  pub ending : TurnEnds t plan quantum room from to
+
+-- so many turns from the start take the uncut run so many steps on
 pub data Turns (t : Tables) (plan : List ℕ) (quantum room : ℕ) : ℕ → ℕ → Type 0 where
   none-made : Turns t plan quantum room 0 0
-  spent : (count steps : ℕ) → Turns t plan quantum room count steps → length (listBetween t plan steps (steps + quantum)) ≤ room
-      → Turns t plan quantum room (count + 1) (steps + quantum)
-  full : (count steps more : ℕ) → Turns t plan quantum room count steps → length (listBetween t plan steps (steps + more)) ≤ room
-      → 1 ≤ more → more < quantum → room < length (listBetween t plan steps (steps + (more + 1)))
-      → Turns t plan quantum room (count + 1) (steps + more)
-
--- fewer turns than allowed do so
-pub record Made (t : Tables) (plan : List ℕ) (quantum most room steps : ℕ) : Type 0 where
-  pub count : ℕ
-  pub fewer : count < most
-  pub turns : Turns t plan quantum room count steps
+  one-more : (count from to : ℕ) → Turns t plan quantum room count from → Turn t plan quantum room from to → Turns t plan quantum room (count + 1) to
 
 -- ---- the answers
--- finished: the uncut run ends within the turn after some others, and the kept list is its whole list
+-- finished: the uncut run ends with one of the turns allowed, and the kept list is its whole list
 pub record Finishes (t : Tables) (plan : List ℕ) (quantum most room : ℕ) (before kept : List ℕ) (words : ℕ) : Type 0 where
-  pub from : ℕ
-  pub made : Made t plan quantum most room from
+  pub count : ℕ
+  pub allowed : count ≤ most
   pub steps : ℕ
-  pub further : from < steps
-  pub within : steps ≤ from + quantum
+  pub made : Turns t plan quantum room count steps
   pub ends : EndsAt t (planOf plan) steps
   pub list : Holds t plan steps before kept words
 
@@ -74,17 +83,19 @@ pub record Pauses (t : Tables) (plan : List ℕ) (quantum most room : ℕ) (befo
   pub list : Holds t plan steps before kept words
 
 -- why a query that was opened is stopped, its lists taken up to so many steps. By a turn: for an output of so many words, or for the quantum.
--- Where the list of the next turn, of at most the quantum, is taken: for its totals, or for a kept buffer in which it has no room
+-- Where the list of the next turn is taken: for its totals, or for a kept buffer in which it has no room
 pub data Cause (t : Tables) (plan : List ℕ) (quantum room : ℕ) (before : List ℕ) (steps : ℕ) : ℕ → Type 0 where
   output-short : room < leastOutput (planOf plan .ending) → Cause t plan quantum room before steps 7
   quantum-wrong : ¬ ((1 ≤ quantum) × (quantum ≤ mostSteps)) → Cause t plan quantum room before steps 8
-  list-left : (later : ℕ) → steps < later → later ≤ steps + quantum → (x : ℕ) → NotTaken t (planOf plan) later (length before) x
+  list-left : (later : ℕ) → Turn t plan quantum room steps later → (x : ℕ) → NotTaken t (planOf plan) later (length before) x
       → Cause t plan quantum room before steps x
 
 -- stopped: the kept list is the uncut run's up to the lists taken. For its output or its quantum it is stopped before the first step
 pub record Stops (t : Tables) (plan : List ℕ) (quantum most room : ℕ) (before kept : List ℕ) (x : ℕ) : Type 0 where
+  pub count : ℕ
+  pub allowed : count < most
   pub steps : ℕ
-  pub made : Made t plan quantum most room steps
+  pub made : Turns t plan quantum room count steps
   pub cause : Cause t plan quantum room before steps x
   pub at-first : x ≤ 8 → steps ≡ 0
   pub words : ℕ
