@@ -5,3 +5,4 @@ pub mod Making
 pub mod Leaving
 pub mod Starting
 pub mod Room
+pub mod Once

@@ -2,13 +2,14 @@
 use Prim.Native.Nat.{ℕ, _+_, _-_, _≤_}
 use native.Mathlib.Omega.{arith}
 use native.Mathlib.Decide.{decLt}
-use mathlib.Core.Path.{_≡_, refl, _∙_, ap}
+use mathlib.Core.Path.{_≡_, refl, sym, _∙_, ap}
 use mathlib.Core.Option.{Option, none, some}
-use mathlib.Core.List.{List, []}
+use mathlib.Core.List.{List, [], _++_, append-nil}
 use lib.ListN.{length}
+use Rattle.words.specs.Bindings.{Bindings}
 use Rattle.tables.specs.Tables.{Tables}
 use Rattle.plans.specs.Plans.{Plan, planOf}
-use Rattle.steps.specs.Steps.{State, runFrom, after}
+use Rattle.steps.specs.Steps.{State, Run, runFrom, after}
 use Rattle.steps.proofs.Runs.{after-rows, done-stays}
 use Rattle.lists.specs.Gathering.{gathered}
 use Rattle.cuts.specs.Uncut.{EndsAt, runList, totals-pass, no-room}
@@ -21,18 +22,23 @@ module _ (t : Tables) (plan : List ℕ) (a : Accepted t plan) where
   abbrev q : Plan
   q = planOf plan
 
-  -- more steps make no shorter list
-  pub no-shorter : (m n : ℕ) → length (listAfter t plan m) ≤ length (listAfter t plan (m + n))
-  no-shorter m n = go (after t q m .state) refl
+  -- more steps only add rows
+  pub rows-later : (m n : ℕ) → (cs : List Bindings) × (after t q (m + n) .delivered ≡ after t q m .delivered ++ cs)
+  rows-later m n = go (after t q m .state) refl
     where
-      go : (o : Option State) → after t q m .state ≡ o → length (listAfter t plan m) ≤ length (listAfter t plan (m + n))
-      go none e = omega (arith, ap (λ r. length (runList (q .ending) r)) (done-stays t q m n e))
-      go (some s) e =
-          omega (
-            arith,
-            ap (λ l. length (gathered (q .ending) [] l)) (after-rows t q m n s e),
-            longer-by (q .ending) (list-grows t plan a) (after t q m .delivered) (runFrom t q s n .delivered),
-          )
+      go : (o : Option State) → after t q m .state ≡ o → (cs : List Bindings) × (after t q (m + n) .delivered ≡ after t q m .delivered ++ cs)
+      go none e = ([], ap (λ (r : Run). r .delivered) (done-stays t q m n e) ∙ sym (append-nil (after t q m .delivered)))
+      go (some s) e = (runFrom t q s n .delivered, after-rows t q m n s e)
+
+  -- and make no shorter list
+  pub no-shorter : (m n : ℕ) → length (listAfter t plan m) ≤ length (listAfter t plan (m + n))
+  no-shorter m n =
+      let more = rows-later m n in
+      omega (
+        arith,
+        ap (λ l. length (gathered (q .ending) [] l)) (more .1),
+        longer-by (q .ending) (list-grows t plan a) (after t q m .delivered) (more .0),
+      )
 
   -- and none is longer than the whole one
   pub whole-longest : (n : ℕ) → EndsAt t q n → (m : ℕ) → length (listAfter t plan m) ≤ length (listAfter t plan n)

@@ -21,7 +21,9 @@ go-on-requires : tie.Need-go-on-requires
 go-on-requires c κs =
     let o = c .before .before .before .before .before .before .before .before in
     let s = o .before .before .before .before .before .before .before .before .before in
-    started (tablesOf (s .args .rows .now) (s .args .pos .now) (s .args .osp .now)) (s .args .plan .now) (s .args .state .now) (o .«open» .result) (ap (λ (r : Opened). r .answer) (o .«open» .ensures)) _ (ap (λ (r : Opened). r .state) (o .«open» .ensures)) _ (c .before .before .before .before .opened .given .1)
+    started (tablesOf (s .args .rows .now) (s .args .pos .now) (s .args .osp .now)) (s .args .plan .now) (s .args .state .now) (o .«open» .result)
+    (ap (λ (r : Opened). r .answer) (o .«open» .ensures)) _ (ap (λ (r : Opened). r .state) (o .«open» .ensures)) _
+    (c .before .before .before .before .opened .given .1)
 
 same-length : tie.Need-same-length
 same-length c = search needs
@@ -30,7 +32,9 @@ returns : tie.Need-returns
 returns c =
     let o = c .before .before .before .before .before in
     let s = o .before .before .before .before .before .before .before .before .before in
-    inl (not-opened (tablesOf (s .args .rows .now) (s .args .pos .now) (s .args .osp .now)) (s .args .plan .now) (s .args .state .now) (o .«open» .result) (ap (λ (r : Opened). r .answer) (o .«open» .ensures)) (o .«open» .last .1 .1 .1 .1 .0) (s .args .output .now) (s .args .kept .now) (ap (λ (r : Opened). r .state) (o .«open» .ensures)) _ (c .before .x .given .1))
+    inl (not-opened (tablesOf (s .args .rows .now) (s .args .pos .now) (s .args .osp .now)) (s .args .plan .now) (s .args .state .now)
+    (o .«open» .result) (ap (λ (r : Opened). r .answer) (o .«open» .ensures)) (o .«open» .last .1 .1 .1 .1 .0) (s .args .output .now)
+    (s .args .kept .now) (ap (λ (r : Opened). r .state) (o .«open» .ensures)) _ (c .before .x .given .1))
 
 same-length-2 : tie.Need-same-length-2
 same-length-2 c = search needs
@@ -46,10 +50,13 @@ returns-2 c =
     let g = c .before .before .before .before .before .before in
     let o = g .before .before .before .before .before .before .before .before .before in
     let s = o .before .before .before .before .before .before .before .before .before in
+    let l = g .go-on .last in
     plays (tablesOf (s .args .rows .now) (s .args .pos .now) (s .args .osp .now)) (s .args .plan .now) (s .args .quantum) (s .args .most)
     (record { state = s .args .state .now; output = s .args .output .now; kept = s .args .kept .now })
-    (record { state = g .go-on .last .1 .1 .1 .1 .1 .1 .0; output = g .go-on .last .1 .1 .1 .1 .1 .1 .1 .1 .0; kept = g .go-on .last .1 .1 .1 .1 .1 .1 .1 .1 .1 .0 })
-    (opens (tablesOf (s .args .rows .now) (s .args .pos .now) (s .args .osp .now)) (s .args .plan .now) (s .args .state .now) (o .«open» .result) (ap (λ (r : Opened). r .answer) (o .«open» .ensures)) _ (g .before .before .before .before .before .opened .given .1)) (g .go-on .result) (g .go-on .ensures)
+    (record { state = l .1 .1 .1 .1 .1 .1 .0; output = l .1 .1 .1 .1 .1 .1 .1 .1 .0; kept = l .1 .1 .1 .1 .1 .1 .1 .1 .1 .0 })
+    (opens (tablesOf (s .args .rows .now) (s .args .pos .now) (s .args .osp .now)) (s .args .plan .now) (s .args .state .now) (o .«open» .result)
+    (ap (λ (r : Opened). r .answer) (o .«open» .ensures)) _ (g .before .before .before .before .before .opened .given .1))
+    (g .go-on .result) (g .go-on .ensures)
 
 pub play-spec : {M : Type 1} → statement M
 play-spec =

@@ -1,0 +1,118 @@
+-- The turns of the uncut run are fixed by their quantum and their output: from one place on there is one turn, and so many turns from the
+-- start end at one place. So what a play that pauses leaves is fixed too, and it is not one that finishes.
+use Prim.Native.Nat.{ℕ, _+_, _-_, _≤_, _<_}
+use native.Mathlib.Omega.{arith}
+use native.Mathlib.Decide.{decLt}
+use mathlib.Core.Path.{_≡_, refl, sym, _∙_, ap, ap₂, subst}
+use mathlib.Core.List.{List, []}
+use lib.ListN.{length, take, drop, length-append}
+use lib.Seq.{drop-append-le}
+use Rattle.words.specs.Sequences.{over}
+use Rattle.tables.specs.Tables.{Tables}
+use Rattle.plans.specs.Plans.{Plan, planOf}
+use Rattle.steps.specs.Steps.{Run, after}
+use Rattle.steps.specs.Saved.{savedWords}
+use Rattle.steps.proofs.Runs.{done-stays}
+use Rattle.lists.specs.Gathering.{gathered}
+use Rattle.cuts.specs.Uncut.{EndsAt}
+use Rattle.cuts.proofs.Accepting.{Accepted}
+use Rattle.queries.specs.Playing.{listAfter, listBetween, TurnEnds, spent, full, done, Turn, Turns, none-made, one-more, Finishes, Pauses}
+use Rattle.queries.proofs.Advancing.{longer-by, list-grows}
+use Rattle.queries.proofs.Room.{rows-later}
+
+module _ (t : Tables) (plan : List ℕ) (a : Accepted t plan) where
+  abbrev q : Plan
+  q = planOf plan
+
+  -- more steps make no shorter list
+  between-grows : (from m n : ℕ) → from ≤ m → length (listBetween t plan from m) ≤ length (listBetween t plan from (m + n))
+  between-grows from m n l =
+      let k = length (after t q from .delivered) in
+      let rows = after t q m .delivered in
+      let first = rows-later t plan a from (m - from) in
+      let more = rows-later t plan a m n in
+      let d : from + (m - from) ≡ m = omega arith in
+      let f = ap length (first .1) ∙ length-append (after t q from .delivered) (first .0) in
+      let long : k ≤ length rows = omega (arith, ap (λ j. length (after t q j .delivered)) d, f) in
+      let e = ap (λ rs. gathered (q .ending) [] (drop k rs)) (more .1) ∙ ap (gathered (q .ending) []) (drop-append-le k rows (more .0) long) in
+      omega (arith, ap length e, longer-by (q .ending) (list-grows t plan a) (drop k rows) (more .0))
+
+  module _ (quantum room : ℕ) where
+    -- no turn goes past the end of the run
+    not-past : (m from n : ℕ) → EndsAt t q m → m < n → Turn t plan quantum room from n → ⊥
+    not-past m from n e l y = go (y .ending)
+      where
+        stays : (j : ℕ) → m ≤ j → after t q j ≡ after t q m
+        stays j g =
+            let d : j ≡ m + (j - m) = omega arith in
+            ap (after t q) d ∙ done-stays t q m (j - m) (e .over)
+
+        go : TurnEnds t plan quantum room from n → ⊥
+        go (spent g f) = f (ap (λ (r : Run). r .state) (stays n (omega arith)) ∙ e .over)
+        go (full g f) =
+            let k = length (after t q from .delivered) in
+            let same = stays (n + 1) (omega arith) ∙ sym (stays n (omega arith)) in
+            omega (arith, f, y .fits, ap (λ (r : Run). length (gathered (q .ending) [] (drop k (r .delivered)))) same)
+        go (done g) = g .not-before m l (e .over)
+
+    -- and none ends before another from the same place
+    not-sooner : (from m n : ℕ) → Turn t plan quantum room from m → Turn t plan quantum room from n → m < n → ⊥
+    not-sooner from m n x y l = go (x .ending)
+      where
+        go : TurnEnds t plan quantum room from m → ⊥
+        go (spent e f) = omega (arith, e, y .within)
+        go (full e f) =
+            let d : (m + 1) + (n - (m + 1)) ≡ n = omega arith in
+            let grows = between-grows from (m + 1) (n - (m + 1)) (omega (arith, x .further)) in
+            omega (arith, f, grows, ap (λ j. length (listBetween t plan from j)) d, y .fits)
+        go (done e) = not-past m from n e l y
+
+    pub turn-once : (from m n : ℕ) → Turn t plan quantum room from m → Turn t plan quantum room from n → m ≡ n
+    turn-once from m n x y =
+        elim (decLt m n) [
+          | yes l ↦ absurd (not-sooner from m n x y l)
+          | no f ↦ elim (decLt n m) [
+            | yes l ↦ absurd (not-sooner from n m y x l)
+            | no g ↦ omega arith
+          ]
+        ]
+
+    pub turns-once : (c d m n : ℕ) → Turns t plan quantum room c m → Turns t plan quantum room d n → c ≡ d → m ≡ n
+    turns-once c d m n none-made none-made e = refl
+    turns-once c d m n none-made (one-more k from to ts x) e = absurd (omega arith)
+    turns-once c d m n (one-more k from to ts x) none-made e = absurd (omega arith)
+    turns-once c d m n (one-more k from to ts x) (one-more l from₁ to₁ us y) e =
+        let p : from ≡ from₁ = turns-once k l from from₁ ts us (omega arith) in
+        turn-once from₁ to to₁ (subst (λ f. Turn t plan quantum room f to) p x) y
+
+    -- where so many turns end the run, no more are made
+    no-further : (c d m n : ℕ) → Turns t plan quantum room c m → EndsAt t q m → Turns t plan quantum room d n → c < d → ⊥
+    no-further c d m n ts e none-made l = omega arith
+    no-further c d m n ts e (one-more k from to us y) l =
+        elim (decLt c k) [
+          | yes f ↦ no-further c k m from ts e us f
+          | no f ↦ let p : m ≡ from = turns-once c k m from ts us (omega arith) in not-past m from to e (omega (arith, y .further)) y
+        ]
+
+    -- ---- of plays
+    module _ (most : ℕ) (before : List ℕ) where
+      pub finished-or-paused : (kept : List ℕ) (words : ℕ) → Finishes t plan quantum most room before kept words
+          → (state kept₁ : List ℕ) (saved words₁ : ℕ) → ¬ Pauses t plan quantum most room before state kept₁ saved words₁
+      finished-or-paused kept words f state kept₁ saved words₁ p =
+          elim (decLt (f .count) most) [
+            | yes l ↦ no-further (f .count) most (f .steps) (p .steps) (f .made) (f .ends) (p .made) l
+            | no l ↦
+                let e : p .steps ≡ f .steps = turns-once most (f .count) (p .steps) (f .steps) (p .made) (f .made) (omega (arith, f .allowed)) in
+                p .going (ap (λ n. after t q n .state) e ∙ f .ends .over)
+          ]
+
+      pub paused-once : (state kept : List ℕ) (saved words : ℕ) → Pauses t plan quantum most room before state kept saved words
+          → (state₁ kept₁ : List ℕ) (saved₁ words₁ : ℕ) → Pauses t plan quantum most room before state₁ kept₁ saved₁ words₁
+          → (saved ≡ saved₁) × (take saved state ≡ take saved₁ state₁) × (words ≡ words₁) × (kept ≡ kept₁)
+      paused-once state kept saved words p state₁ kept₁ saved₁ words₁ r =
+          let e : p .steps ≡ r .steps = turns-once most most (p .steps) (r .steps) (p .made) (r .made) refl in (
+            p .state-count ∙ ap (λ n. length (savedWords (after t q n .state))) e ∙ sym (r .state-count),
+            p .state-words ∙ ap (λ n. savedWords (after t q n .state)) e ∙ sym (r .state-words),
+            p .list .counted ∙ ap (λ n. length (listAfter t plan n)) e ∙ sym (r .list .counted),
+            p .list .whole ∙ ap (λ n. over (listAfter t plan n) before) e ∙ sym (r .list .whole),
+          )
