@@ -10,7 +10,7 @@ use lib.Dec.{leb, eqb}
 use lib.ListN.{length, take, length-append}
 use lib.Seq.{take-append-seam}
 use borrow.Author.Tests.{le-leb, leb-false}
-use Rattle.words.specs.declared.Written.the-variants.{Refused}
+use Rattle.words.specs.declared.Written.the-variants.{Words, Refused}
 use Rattle.words.specs.Words.{isValue}
 use Rattle.words.specs.Bindings.{Bindings, variableCount}
 use Rattle.words.specs.Sequences.{all}
@@ -31,7 +31,7 @@ use Rattle.lists.proofs.GroupLists.{groups-in-gathered, groups-append}
 use Rattle.lists.proofs.Gatherings.{Gathering, Valid}
 use Rattle.turns.specs.Opening.{openOf, Opens}
 use Rattle.merges.specs.Merging.{MergeInput, mergeTests, mergedWords, mergeOf}
-use Rattle.merges.proofs.Refusals.{merge-refusals}
+use Rattle.merges.proofs.Refusals.{Merges, merge-refusals}
 use Rattle.cuts.specs.Histories.{Event, Held, Served, stepsIn, mergeInputOf, history, fresh}
 use Rattle.cuts.specs.Premises.{Premises}
 use Rattle.cuts.specs.Uncut.{runList, runFits, NotTaken, totals-pass, no-room}
@@ -150,6 +150,12 @@ module _ (t : Tables) (plan : List ℕ) (a : Accepted t plan) (h : Held) (k : Ke
           | inr f ↦ subst (NotTaken t q (n + x .steps) (length (h .kept ++ behind))) (sym (f .0))
               (no-room (sym fits ∙ f .1) (omega (arith, long, leb-false (length (mergedWords i)) (length (i .kept)) (f .2))))
         ]
+
+    -- and of one that is served no total of the uncut run up to there passes 2^64 - 1
+    pub merge-fits : (words : ℕ) → mergeOf i .answer ≡ Words words → runFits (q .ending) (after t q (n + x .steps)) ≡ true
+    merge-fits words e =
+        let serve : Merges i = λ y f. let z : _≡_ {A = ℕ} 0 1 = cc in omega arith in
+        sym totals-are ∙ ap (λ l. totalsFit (q .ending) l (x .list)) (sym given-kept) ∙ merge-refusals i .serves .0 serve .1 .1 .1 .0
 
 -- in every history under the premises
 pub refused-by-13-or-14 : (t : Tables) (plan state : List ℕ) → Opens t plan state → Merged (planOf plan .ending)

@@ -27,7 +27,7 @@ use Rattle.runs.proofs.Growing.{Grows, grows}
 use Rattle.cuts.specs.Histories.{Event, turns, Held, Served, servedIn, stepsIn, doneIn, isDone, turnInputOf, servedOf, afterServed, afterTurn}
 use Rattle.cuts.specs.Histories.{afterTaking, happens, history}
 use Rattle.cuts.specs.Premises.{Asked, Premises}
-use Rattle.cuts.specs.Uncut.{AsUncut, runList}
+use Rattle.cuts.specs.Uncut.{AsUncut, runList, runFits}
 use Rattle.cuts.proofs.Accepting.{Accepted, accepted-form}
 use Rattle.cuts.proofs.Chains.{steps-more, done-more, Piece}
 use Rattle.cuts.proofs.Turning.{Kept}
@@ -195,7 +195,8 @@ module _ (t : Tables) (plan : List ℕ) (a : Accepted t plan) (first : Held) (k 
               let new : list ≡ gathered (q .ending) [] (rows ++ piece .rows) = now-list ∙ ap (gathered (q .ending) []) (piece .more) in
               omega (arith, ap length new, ap length (held-keeps .list), longer-by (q .ending) (list-grows t plan a) rows (piece .rows))
 
-          module _ (new : List ℕ) (words : ℕ) (whole : new ≡ over list kept) (counted : words ≡ length list) (room : words ≤ length kept) where
+          module _ (fits : runFits (q .ending) (after t q (stepsIn (h .taken) + x .steps)) ≡ true)
+              (new : List ℕ) (words : ℕ) (whole : new ≡ over list kept) (counted : words ≡ length list) (room : words ≤ length kept) where
             -- done was answered exactly by a turn that was done
             done-then : ¬ (saved ≡ 0) → doneIn (servedIn now) ≡ isDone (turnOf i .answer .ending)
             done-then f =
@@ -219,6 +220,7 @@ module _ (t : Tables) (plan : List ℕ) (a : Accepted t plan) (first : Held) (k 
                     state-words = refl;
                     state-count = s .state .counted ∙ ap length (sym (s .state .front));
                     state-room = omega (arith, keeps-lengths i (is-served i served) .state, u .state-room);
+                    fits = ap (λ d. runFits (q .ending) (after t q d)) (steps-more (h .taken) x) ∙ fits;
                     list = whole ∙ over-over list (h .kept) before kept no-shorter (u .list);
                     words = counted;
                     room = omega (arith, kept-length, room);

@@ -28,7 +28,7 @@ use Rattle.cuts.specs.Histories.{afterMerge, afterMerging, afterJoin, afterJoin
 use Rattle.cuts.specs.Uncut.{EndsAt, AsUncut, runList, runFits, NotTaken, no-room}
 use Rattle.cuts.proofs.Accepting.{Accepted}
 use Rattle.cuts.proofs.Turning.{Kept}
-use Rattle.cuts.proofs.MergeRefusals.{Merged, merge-refused}
+use Rattle.cuts.proofs.MergeRefusals.{Merged, merge-refused, merge-fits}
 use Rattle.queries.specs.declared.Went.{Went}
 use Rattle.queries.specs.declared.Went.the-variants.{On, Over, Stopped}
 use Rattle.queries.specs.Stepping.{isServed, isRows, joinOf, mergedBy, takenBy, takeTurnOf, wentAs, leftAsIs, Advances}
@@ -72,6 +72,7 @@ module _ (t : Tables) (plan : List ℕ) (a : Accepted t plan) (first : Held) (k 
     holds : Holds t plan (stepsIn (h .taken)) before kept used
     holds =
         record {
+          fits = u .fits;
           whole = u .list ∙ ap (λ l. over l before) (keeps .list);
           counted = u .words ∙ ap length (keeps .list);
           room = u .room;
@@ -186,18 +187,21 @@ module _ (t : Tables) (plan : List ℕ) (a : Accepted t plan) (first : Held) (k 
         run-length =
             ap length (advancing.now-list t plan a first k before count state saved kept used u quantum output served joins tt both joins-made)
 
+        rows-fit : runFits (q .ending) (after t q (n + x .steps)) ≡ true
+        rows-fit = ap (λ d. runFits d (after t q (n + x .steps))) e
+
         by-join : (b : Bool) → leb (used + length (x .list)) (length kept) ≡ b
             → TakenAs (joinOf kept used (x .list) .kept) (joinOf kept used (x .list) .answer)
         by-join false f =
             let l = leb-false (used + length (x .list)) (length kept) f in
             rw f (
               refl,
-              left-list 14 (no-room (ap (λ d. runFits d (after t q (n + x .steps))) e) (omega (arith, run-length, both-length, kept-length, l))),
+              left-list 14 (no-room rows-fit (omega (arith, run-length, both-length, kept-length, l))),
             )
         by-join true f =
             let front = advancing.kept-front t plan a first k before count state saved kept used u in
             rw f
-            (advancing.goes-on t plan a first k before count state saved kept used u quantum output served joins tt both joins-made
+            (advancing.goes-on t plan a first k before count state saved kept used u quantum output served joins tt both joins-made rows-fit
             (over (take used kept ++ x .list) kept) (used + length (x .list)) (ap (λ l. over (l ++ x .list) kept) front)
             both-length (leb-true (used + length (x .list)) (length kept) f) (g .alive))
 
@@ -239,9 +243,11 @@ module _ (t : Tables) (plan : List ℕ) (a : Accepted t plan) (first : Held) (k 
             let w = merge-writes j (λ y f. let z : _≡_ {A = ℕ} 0 1 = cc in omega arith) in
             let count-is : wordsIn (mergeOf j .answer) ≡ words = ap wordsIn e in
             let list = take words (mergeOf j .kept) in
+            let fits = merge-fits t plan a turned turned-keeps others x [] one-waits (drop used kept) words
+            (ap (λ d. mergeOf d .answer) same-input ∙ e) in
             let front : list ≡ _ = ap (λ d. take d (mergeOf j .kept)) (sym count-is) ∙ w .kept .front in
             advancing.goes-on t plan a first k before count state saved kept used u quantum output served (merges (drop used kept)) tt list
-            (merges-made words e) (mergeOf j .kept) words (w .kept .whole ∙ ap (λ l. over l kept) (sym front))
+            (merges-made words e) fits (mergeOf j .kept) words (w .kept .whole ∙ ap (λ l. over l kept) (sym front))
             (sym count-is ∙ w .kept .counted ∙ ap length (sym front)) (omega (arith, w .room, count-is)) (g .alive)
 
         by-others : TakenAs (m .kept) (m .answer)

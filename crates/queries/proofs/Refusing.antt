@@ -8,9 +8,9 @@ use mathlib.Core.Option.{Option, none, some}
 use mathlib.Core.List.{List, [], _++_}
 use lib.Dec.{leb}
 use lib.ListN.{length}
-use borrow.Author.Tests.{leb-false, le-leb}
+use borrow.Author.Tests.{leb-true, leb-false, le-leb}
 use Rattle.words.specs.Tests.{firstFailing}
-use Rattle.words.proofs.Booleans.{absurd-true, and-both}
+use Rattle.words.proofs.Booleans.{absurd-true, and-right, and-both}
 use Rattle.words.proofs.Testing.{none-some, some-injective, fails-first, all-passes, first-append, orElse}
 use Rattle.tables.specs.Tables.{Tables, tableTests}
 use Rattle.plans.specs.Endings.{Ending}
@@ -29,12 +29,12 @@ use Rattle.queries.specs.Playing.{Sized, Turns, none-made, one-more, Cau
 -- where the tests on the state and the threshold pass, 7 or 8 fails first
 seven-or-eight : (a b c d e : Bool) (y : ℕ) → c ≡ true → d ≡ true → e ≡ true
     → cond a (cond b (cond c (cond d (cond e none (some 11)) (some 10)) (some 9)) (some 8)) (some 7) ≡ some y
-    → ((y ≡ 7) × (a ≡ false)) ⊎ ((y ≡ 8) × (b ≡ false))
+    → ((y ≡ 7) × (a ≡ false)) ⊎ ((y ≡ 8) × (a ≡ true) × (b ≡ false))
 seven-or-eight true true true true true y p q r h = absurd (none-some h)
 seven-or-eight true true true true false y p q r h = absurd-true r refl
 seven-or-eight true true true false e y p q r h = absurd-true q refl
 seven-or-eight true true false d e y p q r h = absurd-true p refl
-seven-or-eight true false c d e y p q r h = inr (sym (some-injective h), refl)
+seven-or-eight true false c d e y p q r h = inr (sym (some-injective h), refl, refl)
 seven-or-eight false b c d e y p q r h = inl (sym (some-injective h), refl)
 
 -- the second of two tests fails where the first passes
@@ -68,8 +68,11 @@ module _ (i : TurnInput) (a : Accepted (i .tables) (i .plan)) (p : Passed i) (ro
       let o = second-fails _ _ (le-leb leastStateWords (length (i .state)) room) h in
       output-short (leb-false (leastOutput (givenPlan i .ending)) (length (i .output)) o)
 
-  wrong : leb 1 (i .quantum) && leb (i .quantum) mostSteps ≡ false → Caused 8
-  wrong h = quantum-wrong (λ b. absurd-true (and-both _ _ (le-leb 1 (i .quantum) (b .0)) (le-leb (i .quantum) mostSteps (b .1))) h)
+  wrong : leb leastStateWords (length (i .state)) && leb (leastOutput (givenPlan i .ending)) (length (i .output)) ≡ true
+      → leb 1 (i .quantum) && leb (i .quantum) mostSteps ≡ false → Caused 8
+  wrong o h =
+      let long = leb-true (leastOutput (givenPlan i .ending)) (length (i .output)) (and-right (leb leastStateWords (length (i .state))) _ o) in
+      quantum-wrong long (λ b. absurd-true (and-both _ _ (le-leb 1 (i .quantum) (b .0)) (le-leb (i .quantum) mostSteps (b .1))) h)
 
   pub turn-stopped : (y : ℕ) → turnOf i .answer .ending ≡ Refused y → Caused y
   unfolding firstFailing
@@ -81,7 +84,7 @@ module _ (i : TurnInput) (a : Accepted (i .tables) (i .plan)) (p : Passed i) (ro
       (accepted-when-passed i a .1 p .0) (accepted-when-passed i a .1 p .1)
       (ap (thresholdRight (givenPlan i .ending)) none-sent ∙ empty-right (givenPlan i .ending)) (late y e)) [
         | inl x ↦ subst Caused (sym (x .0)) (short (x .1))
-        | inr x ↦ subst Caused (sym (x .0)) (wrong (x .1))
+        | inr x ↦ subst Caused (sym (x .0)) (wrong (x .1) (x .2))
       ]
 
 -- ---- a turn that was served has an output and a quantum that every turn has
@@ -92,7 +95,7 @@ served-sized i s = let l = turn-limits i s in record { output = l .output-room; 
 not-sized : (t : Tables) (plan : List ℕ) (quantum room : ℕ) (before : List ℕ) (steps y : ℕ) → Cause t plan quantum room before steps y → y ≤ 8
     → Sized plan quantum room → ⊥
 not-sized t plan quantum room before steps y (output-short l) m z = omega (arith, l, z .output)
-not-sized t plan quantum room before steps y (quantum-wrong f) m z = f (z .least, z .most)
+not-sized t plan quantum room before steps y (quantum-wrong o f) m z = f (z .least, z .most)
 not-sized t plan quantum room before steps y (list-left later f x (totals-pass p)) m z = omega arith
 not-sized t plan quantum room before steps y (list-left later f x (no-room p l)) m z = omega arith
 

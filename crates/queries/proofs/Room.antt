@@ -58,6 +58,6 @@ room-enough t plan state o n ends quantum most room before kept fits x s = go x 
   where
     go : (y : ℕ) → Cause t plan quantum room before (s .steps) y → ¬ (y ≡ 14)
     go y (output-short l) e = omega arith
-    go y (quantum-wrong f) e = omega arith
+    go y (quantum-wrong l f) e = omega arith
     go y (list-left m f z (totals-pass p)) e = omega arith
     go y (list-left m f z (no-room p l)) e = omega (arith, whole-longest t plan (opening-accepts t plan state o) n ends m)

@@ -3,21 +3,28 @@ use Prim.Native.Nat.{ℕ, _<_}
 use native.Mathlib.Omega.{arith}
 use mathlib.Core.Path.{_≡_, refl, sym, _∙_, ap, ap₂, subst, subst⁻¹}
 use mathlib.Core.Logic.{inr}
+use mathlib.Core.Bool.{true}
 use mathlib.Core.List.{List, []}
 use lib.ListN.{length, take}
 use borrow.Author.Tests.{leb-true}
 use Rattle.words.specs.declared.Written.{Written}
 use Rattle.words.specs.declared.Written.the-variants as written
 use Rattle.words.specs.Answers.{wordsIn}
+use Rattle.words.specs.Sequences.{all}
 use Rattle.words.proofs.Buffers.{length-over}
 use Rattle.tables.specs.Tables.{Tables}
+use Rattle.plans.specs.Endings.{Ending, rows, top, group}
 use Rattle.plans.specs.Plans.{planOf}
-use Rattle.steps.specs.Steps.{after}
+use Rattle.steps.specs.Steps.{Run, after}
 use Rattle.steps.specs.Saved.{savedWords, leastStateWords}
+use Rattle.steps.proofs.Runs.{after-none}
+use Rattle.lists.specs.Groups.{addAllBy, groupsOf}
+use Rattle.lists.specs.Gathering.{groupFits}
 use Rattle.turns.specs.Opening.{openOf, Opens}
 use Rattle.turns.proofs.Refusals.{open-refusals}
 use Rattle.turns.proofs.Follows.{starts-run}
 use Rattle.cuts.specs.Histories.{stepsIn, doneIn, history, fresh}
+use Rattle.cuts.specs.Uncut.{runFits}
 use Rattle.cuts.proofs.Accepting.{Accepted, opening-accepts}
 use Rattle.cuts.proofs.Turning.{Kept}
 use Rattle.cuts.proofs.AnyCut.{fresh-keeps}
@@ -27,6 +34,13 @@ use Rattle.queries.specs.declared.Went.{Went}
 use Rattle.queries.specs.Stepping.{takeTurnOf, Advances}
 use Rattle.queries.specs.Playing.{none-made, Leaves, Lent, NotOpened, Plays, startAt, Started, UnderWay}
 use Rattle.queries.proofs.Leaving.{not-over, Going, Becomes, becomes}
+
+-- no row has no total
+no-rows-fit : (e : Ending) (r : Run) → r .delivered ≡ [] → runFits e r ≡ true
+unfolding addAllBy all
+no-rows-fit (rows vs) r e = refl
+no-rows-fit (top k vs keys) r e = refl
+no-rows-fit (group vs m) r e = ap (λ l. all groupFits (groupsOf vs m l)) e
 
 module _ (t : Tables) (plan state : List ℕ) (saved : ℕ) (s : Started t plan state saved) where
   pub start-accepts : Accepted t plan
@@ -39,7 +53,7 @@ module _ (t : Tables) (plan state : List ℕ) (saved : ℕ) (s : Started t plan 
   start-keeps = subst⁻¹ (Kept t (planOf plan)) same-start (fresh-keeps t plan start-accepts (s .lent) (s .opens))
 
   starts : (kept : List ℕ) → UnderWay t plan (startAt state saved) kept 0 state saved kept 0
-  unfolding history
+  unfolding history stepsIn
   starts kept =
       let r = starts-run t plan (s .lent) (s .opens) in
       let l = leb-true leastStateWords (length (s .lent)) (open-refusals t plan (s .lent) .serves .0 (s .opens) .1 .1 .1 .1 .1 .1 .0) in
@@ -58,6 +72,7 @@ module _ (t : Tables) (plan state : List ℕ) (saved : ℕ) (s : Started t plan 
             ∙ ap length (sym (r .buffer .front))
             ∙ sym (ap₂ (λ n l. length (take n l)) (s .counted) (s .left));
         state-room = omega (arith, l, n, ap length (r .buffer .whole), ap length (s .left));
+        fits = no-rows-fit (planOf plan .ending) (after t (planOf plan) 0) (ap (λ (r : Run). r .delivered) (after-none t (planOf plan)));
         list = refl;
         words = refl;
         room = omega arith;

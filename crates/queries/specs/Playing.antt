@@ -2,6 +2,7 @@
 use Prim.Native.Nat.{ℕ, _+_, _≤_, _<_}
 use mathlib.Core.Path.{_≡_}
 use mathlib.Core.Logic.{_⊎_}
+use mathlib.Core.Bool.{true}
 use mathlib.Core.List.{List, []}
 use mathlib.Core.Option.{none}
 use lib.ListN.{length, take, drop}
@@ -15,9 +16,9 @@ use Rattle.steps.specs.Saved.{savedWords, leastStateWords}
 use Rattle.lists.specs.Gathering.{gathered, leastOutput}
 use Rattle.turns.specs.Opening.{openOf, Opens}
 use Rattle.turns.specs.Turns.{mostSteps}
-use Rattle.cuts.specs.Histories.{Event, Held, history}
+use Rattle.cuts.specs.Histories.{Event, Held, stepsIn, history}
 use Rattle.cuts.specs.Premises.{Premises}
-use Rattle.cuts.specs.Uncut.{EndsAt, runList, NotTaken}
+use Rattle.cuts.specs.Uncut.{EndsAt, runList, runFits, NotTaken}
 use Rattle.queries.specs.declared.Played.{Played}
 use Rattle.queries.specs.declared.Played.the-variants.{Finished, Unfinished, Refused}
 
@@ -25,8 +26,9 @@ use Rattle.queries.specs.declared.Played.the-variants.{Finished, Unfinis
 abbrev pub listAfter : Tables → List ℕ → ℕ → List ℕ
 listAfter t plan steps = runList (planOf plan .ending) (after t (planOf plan) steps)
 
--- a buffer holds that list over what it held before, and the list has so many words
+-- a buffer holds that list over what it held before: no total of it passes 2^64 - 1, and it has so many words
 pub record Holds (t : Tables) (plan : List ℕ) (steps : ℕ) (before now : List ℕ) (words : ℕ) : Type 0 where
+  pub fits : runFits (planOf plan .ending) (after t (planOf plan) steps) ≡ true
   pub whole : now ≡ over (listAfter t plan steps) before
   pub counted : words ≡ length (listAfter t plan steps)
   pub room : words ≤ length before
@@ -82,11 +84,11 @@ pub record Pauses (t : Tables) (plan : List ℕ) (quantum most room : ℕ) (befo
   pub state-count : saved ≡ length (savedWords (after t (planOf plan) steps .state))
   pub list : Holds t plan steps before kept words
 
--- why a query that was opened is stopped, its lists taken up to so many steps. By a turn: for an output of so many words, or for the quantum.
+-- why a query that was opened is stopped, its lists taken up to so many steps. By a turn: for an output of so many words, else for the quantum.
 -- Where the list of the next turn is taken: for its totals, or for a kept buffer in which it has no room
 pub data Cause (t : Tables) (plan : List ℕ) (quantum room : ℕ) (before : List ℕ) (steps : ℕ) : ℕ → Type 0 where
   output-short : room < leastOutput (planOf plan .ending) → Cause t plan quantum room before steps 7
-  quantum-wrong : ¬ ((1 ≤ quantum) × (quantum ≤ mostSteps)) → Cause t plan quantum room before steps 8
+  quantum-wrong : leastOutput (planOf plan .ending) ≤ room → ¬ ((1 ≤ quantum) × (quantum ≤ mostSteps)) → Cause t plan quantum room before steps 8
   list-left : (later : ℕ) → Turn t plan quantum room steps later → (x : ℕ) → NotTaken t (planOf plan) later (length before) x
       → Cause t plan quantum room before steps x
 
@@ -151,6 +153,7 @@ pub record UnderWay (t : Tables) (plan : List ℕ) (first : Held) (before : List
   pub state-words : take saved state ≡ held .saved
   pub state-count : saved ≡ length (held .saved)
   pub state-room : leastStateWords ≤ length state
+  pub fits : runFits (planOf plan .ending) (after t (planOf plan) (stepsIn (held .taken))) ≡ true
   pub list : kept ≡ over (held .kept) before
   pub words : used ≡ length (held .kept)
   pub room : used ≤ length before
