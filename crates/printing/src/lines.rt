@@ -18,7 +18,8 @@ ghost use Rattle.printing.specs.Placing.{Placed};
 // A row's line.
 pub fn row_line(line: &mut [u8], row: &[u32]) -> usize
     requires { ⌜ (length (now row) ≤ mostRowVariables) × (rowLineRoom ≤ length (now line)) ⌝ }
-    ensures { λ r. ⌜ Listed (rowLine (now (row .entry))) (now (line .entry)) (now (line .exit)) r ⌝ }
+    ensures line { λ r. ⌜ Listed (rowLine (now (row .entry))) (now (line .entry)) (now (line .exit)) r ⌝ }
+    ensures room { λ r. ⌜ r ≤ rowLineRoom ⌝ }
 {
     let next = put_bytes(line, 0, b"row");
     let end = put_terms(line, next, row);
@@ -68,7 +69,8 @@ fn put_fields(line: &mut [u8], at: usize, keys: usize, group: &[u32]) -> usize
 // The line of a group's record of so many keys.
 pub fn group_line(line: &mut [u8], keys: usize, group: &[u32]) -> usize
     requires { ⌜ (keys ≤ mostGroupVariables) × ((keys + totalsWidth ≤ length (now group)) × (groupLineRoom ≤ length (now line))) ⌝ }
-    ensures { λ r. ⌜ Listed (groupLine (groupIn keys (now (group .entry)))) (now (line .entry)) (now (line .exit)) r ⌝ }
+    ensures line { λ r. ⌜ Listed (groupLine (groupIn keys (now (group .entry)))) (now (line .entry)) (now (line .exit)) r ⌝ }
+    ensures room { λ r. ⌜ r ≤ groupLineRoom ⌝ }
 {
     let next = put_bytes(line, 0, b"group");
     let end = put_fields(line, next, keys, group);
@@ -78,7 +80,8 @@ pub fn group_line(line: &mut [u8], keys: usize, group: &[u32]) -> usize
 // The line of a refusal.
 pub fn refused_line(line: &mut [u8], number: u32) -> usize
     requires { ⌜ turnLineRoom ≤ length (now line) ⌝ }
-    ensures { λ r. ⌜ Listed (refusedLine number) (now (line .entry)) (now (line .exit)) r ⌝ }
+    ensures line { λ r. ⌜ Listed (refusedLine number) (now (line .entry)) (now (line .exit)) r ⌝ }
+    ensures room { λ r. ⌜ r ≤ turnLineRoom ⌝ }
 {
     let next = put_bytes(line, 0, b"refused");
     let end = put_number(line, next, group_lists::long(number));
@@ -97,7 +100,8 @@ fn put_named(line: &mut [u8], at: usize, name: &[u8], x: u64) -> usize
 // The line of a served turn, whose ending is a word with the end of the line.
 fn served_line(line: &mut [u8], number: u64, steps: u32, ending: &[u8]) -> usize
     requires { ⌜ (length (now ending) ≤ 7) × (turnLineRoom ≤ length (now line)) ⌝ }
-    ensures { λ r. ⌜ Listed (servedLine number steps (now (ending .entry))) (now (line .entry)) (now (line .exit)) r ⌝ }
+    ensures line { λ r. ⌜ Listed (servedLine number steps (now (ending .entry))) (now (line .entry)) (now (line .exit)) r ⌝ }
+    ensures room { λ r. ⌜ r ≤ turnLineRoom ⌝ }
 {
     let after_number = put_named(line, 0, b"turn", number);
     let after_steps = put_named(line, after_number, b" steps", group_lists::long(steps));
@@ -107,7 +111,8 @@ fn served_line(line: &mut [u8], number: u64, steps: u32, ending: &[u8]) -> usize
 // The line of a turn, by its ending.
 pub fn turn_line(line: &mut [u8], number: u64, steps: u32, ending: TurnEnding) -> usize
     requires { ⌜ turnLineRoom ≤ length (now line) ⌝ }
-    ensures { λ r. ⌜ Listed (turnLine number steps ending) (now (line .entry)) (now (line .exit)) r ⌝ }
+    ensures line { λ r. ⌜ Listed (turnLine number steps ending) (now (line .entry)) (now (line .exit)) r ⌝ }
+    ensures room { λ r. ⌜ r ≤ turnLineRoom ⌝ }
 {
     match ending {
         TurnEnding::Done => served_line(line, number, steps, b" done\n"),

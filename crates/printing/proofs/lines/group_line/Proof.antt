@@ -43,11 +43,13 @@ returns c =
     let three = c .before .before .put-byte in
     let word = c .before .before .before .before .before .before .before .before .before .before .before .before .before .shared-slice-known .given in
     let a = s .args in
-    let e = group-fields-most (a .keys) (a .group .now) (omega (arith, s .pre)) (omega (arith, s .pre)) (λ i. word i .fits) in
-    rw (group-text (groupIn (a .keys) (a .group .now)))
-    (whole-line groupWord (groupFields (groupIn (a .keys) (a .group .now)))
-    (one .result) (two .result) (three .result) (a .line .now) (one .last .0) (two .last .0) (three .last .0)
-    (omega (arith, s .pre)) (one .ensures) (two .ensures) (three .ensures))
+    let e = group-fields-most (a .keys) (a .group .now) (omega (arith, s .pre)) (omega (arith, s .pre)) (λ i. word i .fits) in (
+      rw (group-text (groupIn (a .keys) (a .group .now)))
+          (whole-line groupWord (groupFields (groupIn (a .keys) (a .group .now)))
+          (one .result) (two .result) (three .result) (a .line .now) (one .last .0) (two .last .0) (three .last .0)
+          (omega (arith, s .pre)) (one .ensures) (two .ensures) (three .ensures)),
+      omega (arith, one .ensures .0, two .ensures .0, three .ensures .0),
+    )
 
 pub group-line-spec : {M : Type 1} → statement M
 group-line-spec =

@@ -37,10 +37,12 @@ returns c =
     let one = c .before .before .before .before .before .before .before .before .before .before .before .put-bytes in
     let two = c .before .before .before .before .before .before .put-number in
     let three = c .before .before .put-byte in
-    let e = length-word x (omega (arith, long-done .ensures)) in
-    rw (refused-text (a .number) x (long-done .ensures .0))
-    (whole-line refusedWord (numberField x) (one .result) (two .result) (three .result) (a .line .now) (one .last .0) (two .last .0)
-    (three .last .0) (omega (arith, s .pre)) (one .ensures) (two .ensures) (three .ensures))
+    let e = length-word x (omega (arith, long-done .ensures)) in (
+      rw (refused-text (a .number) x (long-done .ensures .0))
+          (whole-line refusedWord (numberField x) (one .result) (two .result) (three .result) (a .line .now) (one .last .0) (two .last .0)
+          (three .last .0) (omega (arith, s .pre)) (one .ensures) (two .ensures) (three .ensures)),
+      omega (arith, one .ensures .0, two .ensures .0, three .ensures .0),
+    )
 
 pub refused-line-spec : {M : Type 1} → statement M
 refused-line-spec =

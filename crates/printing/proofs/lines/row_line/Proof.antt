@@ -36,11 +36,13 @@ returns c =
     let one = c .before .before .before .before .before .before .before .before .before .before .put-bytes in
     let two = c .before .before .before .before .before .before .put-terms in
     let three = c .before .before .put-byte in
-    let e = terms-most (s .args .row .now) in
-    rw (row-text (a .row .now))
-    (whole-line rowWord (termFields (a .row .now))
-    (one .result) (two .result) (three .result) (a .line .now) (one .last .0) (two .last .0) (three .last .0)
-    (omega (arith, s .pre)) (one .ensures) (two .ensures) (three .ensures))
+    let e = terms-most (s .args .row .now) in (
+      rw (row-text (a .row .now))
+          (whole-line rowWord (termFields (a .row .now))
+          (one .result) (two .result) (three .result) (a .line .now) (one .last .0) (two .last .0) (three .last .0)
+          (omega (arith, s .pre)) (one .ensures) (two .ensures) (three .ensures)),
+      omega (arith, s .pre, one .ensures .0, two .ensures .0, three .ensures .0),
+    )
 
 pub row-line-spec : {M : Type 1} → statement M
 row-line-spec =

@@ -57,14 +57,16 @@ returns c =
     let e = length-word steps (omega (arith, long-done .ensures)) in
     let named = turnWord ++ numberField (a .number) in
     let counted = stepsWord ++ numberField steps in
-    let n = length-append named counted in
-    served-text (a .number) (a .steps) steps (a .ending .now) (a .line .now) (three .last .0) (three .result) (long-done .ensures .0)
-    (placed-front (named ++ counted ++ a .ending .now) (a .line .now) (three .last .0) (three .result)
-    (placed-then (named ++ counted) (a .ending .now) 0 (two .result) (three .result) (a .line .now) (two .last .0) (three .last .0)
-    (omega arith)
-    (placed-then named counted 0 (one .result) (two .result) (a .line .now) (one .last .0) (two .last .0) (omega arith)
-    (one .ensures) (two .ensures))
-    (three .ensures)))
+    let n = length-append named counted in (
+      served-text (a .number) (a .steps) steps (a .ending .now) (a .line .now) (three .last .0) (three .result) (long-done .ensures .0)
+          (placed-front (named ++ counted ++ a .ending .now) (a .line .now) (three .last .0) (three .result)
+          (placed-then (named ++ counted) (a .ending .now) 0 (two .result) (three .result) (a .line .now) (two .last .0) (three .last .0)
+          (omega arith)
+          (placed-then named counted 0 (one .result) (two .result) (a .line .now) (one .last .0) (two .last .0) (omega arith)
+          (one .ensures) (two .ensures))
+          (three .ensures))),
+      omega (arith, pre, one .ensures .0, two .ensures .0, three .ensures .0),
+    )
 
 pub served-line-spec : {M : Type 1} → statement M
 served-line-spec =

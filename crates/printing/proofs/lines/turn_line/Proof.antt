@@ -43,7 +43,7 @@ same-length c = search needs
 returns : tie.Need-returns
 unfolding turnLine
 returns c =
-    rw (c .before .before .before .before .before .enum-told .given .1) (c .before .before .served-line .ensures)
+    (rw (c .before .before .before .before .before .enum-told .given .1) (c .before .before .served-line .ensures .0), c .before .before .served-line .ensures .1)
 
 same-length-2 : tie.Need-same-length-2
 same-length-2 c = search needs
@@ -51,7 +51,7 @@ same-length-2 c = search needs
 returns-2 : tie.Need-returns-2
 unfolding turnLine
 returns-2 c =
-    rw (c .before .before .before .before .before .enum-told2 .given .1) (c .before .before .served-line2 .ensures)
+    (rw (c .before .before .before .before .before .enum-told2 .given .1) (c .before .before .served-line2 .ensures .0), c .before .before .served-line2 .ensures .1)
 
 same-length-3 : tie.Need-same-length-3
 same-length-3 c = search needs
@@ -59,7 +59,7 @@ same-length-3 c = search needs
 returns-3 : tie.Need-returns-3
 unfolding turnLine
 returns-3 c =
-    rw (c .before .before .before .before .before .enum-told3 .given .1) (c .before .before .served-line3 .ensures)
+    (rw (c .before .before .before .before .before .enum-told3 .given .1) (c .before .before .served-line3 .ensures .0), c .before .before .served-line3 .ensures .1)
 
 same-length-4 : tie.Need-same-length-4
 same-length-4 c = search needs
@@ -67,7 +67,7 @@ same-length-4 c = search needs
 returns-4 : tie.Need-returns-4
 unfolding turnLine
 returns-4 c =
-    rw (c .before .before .before .before .before .ending .given .1) (c .before .before .refused-line .ensures)
+    (rw (c .before .before .before .before .before .ending .given .1) (c .before .before .refused-line .ensures .0), c .before .before .refused-line .ensures .1)
 
 pub turn-line-spec : {M : Type 1} → statement M
 turn-line-spec =

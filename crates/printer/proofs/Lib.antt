@@ -1,0 +1,5 @@
+pub mod Widths
+pub mod TurnLists
+pub mod KeptLists
+pub mod Steps
+pub mod Openings

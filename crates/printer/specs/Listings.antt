@@ -1,0 +1,58 @@
+-- What the printer knows of a plan's lists: what they hold, in how many words, and how many words of the kept one are used.
+-- Assumes nothing: these are definitions.
+use Prim.Native.Nat.{ℕ, _+_, _%_, _≤_}
+use mathlib.Core.Path.{_≡_}
+use mathlib.Core.Bool.{true}
+use mathlib.Core.List.{List}
+use Rattle.plans.specs.declared.Last.{Last}
+use Rattle.plans.specs.declared.Last.the-variants.{Rows, Top, Group, Neither}
+use Rattle.plans.specs.Endings.{Ending, mostRowVariables, mostGroupVariables}
+use Rattle.plans.specs.Plans.{readPlan, hasForm, planOf}
+use Rattle.plans.specs.Reading.{lastIn}
+use Rattle.lists.specs.Groups.{totalsWidth}
+use Rattle.lists.specs.Gathering.{width}
+use Rattle.queries.specs.declared.Went.{Went}
+use Rattle.queries.specs.declared.Went.the-variants.{On, Over, Stopped}
+use Rattle.printer.specs.declared.Listing.{Listing}
+
+-- what the lists of an ending hold
+abbrev pub listingOf : Ending → Listing
+listingOf e = record { kind = lastIn e; width = width e }
+
+-- of a plan that has the form
+abbrev pub ListsOf : List ℕ → Listing → Type 0
+ListsOf plan lists = (hasForm (readPlan plan) ≡ true) × (lists ≡ listingOf (planOf plan .ending))
+
+-- the words of a row or record with so many variables
+abbrev pub widthOf : Last → ℕ → ℕ
+widthOf Rows n = n
+widthOf Top n = n
+widthOf Group n = n + totalsWidth
+widthOf Neither n = 0
+
+-- ---- how wide a row or record is
+-- a row of 1 to 16 terms
+abbrev pub IsRow : ℕ → Type 0
+IsRow n = (1 ≤ n) × (n ≤ mostRowVariables)
+
+-- a record of at most 4 keys
+abbrev pub IsRecord : ℕ → Type 0
+IsRecord n = (totalsWidth ≤ n) × (n ≤ mostGroupVariables + totalsWidth)
+
+-- by what a list holds; no list holds neither
+abbrev pub HasWidth : Last → ℕ → Type 0
+HasWidth Rows n = IsRow n
+HasWidth Top n = IsRow n
+HasWidth Group n = IsRecord n
+HasWidth Neither n = ⊥
+
+-- ---- the kept list
+-- so many words: within its buffer, and whole rows or records
+abbrev pub Holds : ℕ → ℕ → ℕ → Type 0
+Holds room wide used = (used ≤ room) × (used % wide ≡ 0)
+
+-- the words that it has after a turn, none where the query is stopped
+abbrev pub keptIn : Went → ℕ
+keptIn (On saved used) = used
+keptIn (Over used) = used
+keptIn (Stopped x) = 0
