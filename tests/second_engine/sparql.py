@@ -188,10 +188,26 @@ def jars():
     return sorted(jena) + [j for j in (f'{JARS}/{name}.jar' for name in LIBRARIES) if os.path.exists(j)]
 
 
+class JenaMissing(Exception):
+    """Jena is not there, and could not be installed."""
+
+
+def is_installed():
+    return os.path.exists(f'{JARS}/jena-arq.jar') and shutil.which('java') and shutil.which('javac')
+
+
 def install():
-    if not os.path.exists(f'{JARS}/jena-arq.jar') or not shutil.which('javac'):
-        print('installing', ' '.join(PACKAGES), file=sys.stderr)
-        subprocess.run(['apt-get', 'install', '-y', '-q', *PACKAGES], check=True, stdout=sys.stderr)
+    """Installs Jena where it is missing; the list of packages may have to be fetched first."""
+    for first in ([], ['update'], []):
+        if is_installed():
+            return
+        if not shutil.which('apt-get'):
+            break
+        command = ['apt-get', '-q', *(first or ['install', '-y', *PACKAGES])]
+        print(' '.join(command), file=sys.stderr, flush=True)
+        subprocess.run(command, stdout=sys.stderr, stdin=subprocess.DEVNULL)
+    if not is_installed():
+        raise JenaMissing(f"Apache Jena and Java are missing: install them (Debian 12, as root: apt-get install {' '.join(PACKAGES)})")
 
 
 def prepared(folder):

@@ -1,0 +1,73 @@
+-- `read_wood` is safe: the parts of a wood that is not refused lie within its words.
+use borrow.Author.Needs.{needs}
+use native.Mathlib.Omega.{arith}
+use mathlib.Core.Path.{sym, _∙_}
+use Rattle.printing.proofs.LaidOut.{laid-out}
+use Rattle.stored_plans.proofs.read_wood.Statement.{statement}
+use Rattle.stored_plans.proofs.read_wood.Tie as tie
+
+read-full-requires : tie.Need-read-full-requires
+read-full-requires c κs = search needs
+
+slice-reshare-prefix-read-file : tie.Need-slice-reshare-prefix-read-file
+slice-reshare-prefix-read-file c = search needs
+
+slice-aggregate-read-file : tie.Need-slice-aggregate-read-file
+slice-aggregate-read-file c = search needs
+
+slice-aggregate-read-file-2 : tie.Need-slice-aggregate-read-file-2
+slice-aggregate-read-file-2 c = search needs
+
+read-file-requires : tie.Need-read-file-requires
+read-file-requires c κs = search needs
+
+enum-known-layout : tie.Need-enum-known-layout
+enum-known-layout c = search needs
+
+slice-aggregate-play-wood : tie.Need-slice-aggregate-play-wood
+slice-aggregate-play-wood c = search needs
+
+play-wood-requires : tie.Need-play-wood-requires
+play-wood-requires c κs =
+    let l = c .before .before in
+    let p = l .layout .given .0 .0 in
+    let x = l .before .before .before .read-file in
+    let laid = laid-out _ p (sym (x .ensures .0) ∙ l .layout .given .1) in
+    (laid .0, omega arith)
+
+enum-known-layout-2 : tie.Need-enum-known-layout-2
+enum-known-layout-2 c = search needs
+
+print-refused-requires : tie.Need-print-refused-requires
+print-refused-requires c κs = search needs
+
+same-length : tie.Need-same-length
+same-length c = search needs
+
+returns : tie.Need-returns
+returns c = search needs
+
+same-length-2 : tie.Need-same-length-2
+same-length-2 c = search needs
+
+returns-2 : tie.Need-returns-2
+returns-2 c = search needs
+
+pub read-wood-spec : {M : Type 1} → statement M
+read-wood-spec =
+    tie.close
+    (tie.spec
+    read-full-requires
+    slice-reshare-prefix-read-file
+    slice-aggregate-read-file
+    slice-aggregate-read-file-2
+    read-file-requires
+    enum-known-layout
+    slice-aggregate-play-wood
+    play-wood-requires
+    enum-known-layout-2
+    print-refused-requires
+    same-length
+    returns
+    same-length-2
+    returns-2)
