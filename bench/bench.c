@@ -19,7 +19,7 @@ enum { STEMS = 32768, COUNT = 2 * STEMS, GROUPS = 10000, BEST = 64, OUTPUT = 400
 
 static uint32_t rows[3 * COUNT], pos[COUNT], osp[COUNT];
 static sqlite3 *db;
-static double seconds = 2; /* for each measure */
+static double seconds = 2; /* for each measure; with 0, one round of each */
 
 static void fail(const char *what)
 {
@@ -387,7 +387,8 @@ static void same_merged(size_t words)
 static void measure(const char *name, timer f, const struct query *q, uint32_t quantum)
 {
     double best[3] = {1e18, 1e18, 1e18}, start = now();
-    for (int round = 0; round < 12 || (now() - start < seconds * 1e9 && round < 2000); round++)
+    int least = seconds > 0 ? 12 : 1;
+    for (int round = 0; round < least || (now() - start < seconds * 1e9 && round < 2000); round++)
         for (int i = 0; i < 6; i++) { /* each twice, so that the second finds its own words in the caches */
             double t = f((enum who)(i / 2), q, quantum);
             if (t < best[i / 2])
