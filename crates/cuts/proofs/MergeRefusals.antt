@@ -1,10 +1,10 @@
 -- Under demand 3's premises a merge of a best-of or group query is refused only for the uncut run's totals or its list's room, by 13 or 14.
-use Prim.Native.Nat.{ℕ, _+_, _≤_}
+use Prim.Native.Nat.{ℕ, _+_}
 use native.Mathlib.Omega.{arith}
 use mathlib.Core.Path.{_≡_, refl, sym, _∙_, ap, ap₂, subst}
 use mathlib.Core.Logic.{_⊎_, inl, inr}
 use mathlib.Core.Bool.{Bool, true, false, cond, _&&_}
-use mathlib.Core.Option.{Option, none, some}
+use mathlib.Core.Option.{none, some}
 use mathlib.Core.List.{List, [], _∷_, _++_}
 use lib.Dec.{leb, eqb}
 use lib.ListN.{length, take, length-append}
@@ -28,7 +28,7 @@ use Rattle.lists.proofs.Each.{Each, all-each}
 use Rattle.lists.proofs.EachMore.{each-weaken}
 use Rattle.lists.proofs.Values.{AllValues}
 use Rattle.lists.proofs.GroupLists.{groups-in-gathered, groups-append}
-use Rattle.lists.proofs.Gatherings.{Gathering, Valid}
+use Rattle.lists.proofs.Gatherings.{Valid}
 use Rattle.turns.specs.Opening.{openOf, Opens}
 use Rattle.merges.specs.Merging.{MergeInput, mergeTests, mergedWords, mergeOf}
 use Rattle.merges.proofs.Refusals.{Merges, merge-refusals}

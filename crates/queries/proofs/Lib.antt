@@ -5,4 +5,6 @@ pub mod Making
 pub mod Leaving
 pub mod Starting
 pub mod Room
+pub mod Totals
 pub mod Once
+pub mod Fixed

@@ -1,22 +1,20 @@
 -- The turns of the uncut run are fixed by their quantum and their output: from one place on there is one turn, and so many turns from the
--- start end at one place. So what a play that pauses leaves is fixed too, and it is not one that finishes.
+-- start end at one place.
 use Prim.Native.Nat.{ℕ, _+_, _-_, _≤_, _<_}
 use native.Mathlib.Omega.{arith}
 use native.Mathlib.Decide.{decLt}
-use mathlib.Core.Path.{_≡_, refl, sym, _∙_, ap, ap₂, subst}
+use mathlib.Core.Path.{_≡_, refl, sym, _∙_, ap, subst}
 use mathlib.Core.List.{List, []}
-use lib.ListN.{length, take, drop, length-append}
+use lib.ListN.{length, drop, length-append}
 use lib.Seq.{drop-append-le}
-use Rattle.words.specs.Sequences.{over}
 use Rattle.tables.specs.Tables.{Tables}
 use Rattle.plans.specs.Plans.{Plan, planOf}
 use Rattle.steps.specs.Steps.{Run, after}
-use Rattle.steps.specs.Saved.{savedWords}
 use Rattle.steps.proofs.Runs.{done-stays}
 use Rattle.lists.specs.Gathering.{gathered}
 use Rattle.cuts.specs.Uncut.{EndsAt}
 use Rattle.cuts.proofs.Accepting.{Accepted}
-use Rattle.queries.specs.Playing.{listAfter, listBetween, TurnEnds, spent, full, done, Turn, Turns, none-made, one-more, Finishes, Pauses}
+use Rattle.queries.specs.Playing.{listBetween, TurnEnds, spent, full, done, Turn, Turns, none-made, one-more}
 use Rattle.queries.proofs.Advancing.{longer-by, list-grows}
 use Rattle.queries.proofs.Room.{rows-later}
 
@@ -39,7 +37,7 @@ module _ (t : Tables) (plan : List ℕ) (a : Accepted t plan) where
 
   module _ (quantum room : ℕ) where
     -- no turn goes past the end of the run
-    not-past : (m from n : ℕ) → EndsAt t q m → m < n → Turn t plan quantum room from n → ⊥
+    pub not-past : (m from n : ℕ) → EndsAt t q m → m < n → Turn t plan quantum room from n → ⊥
     not-past m from n e l y = go (y .ending)
       where
         stays : (j : ℕ) → m ≤ j → after t q j ≡ after t q m
@@ -86,7 +84,7 @@ module _ (t : Tables) (plan : List ℕ) (a : Accepted t plan) where
         turn-once from₁ to to₁ (subst (λ f. Turn t plan quantum room f to) p x) y
 
     -- where so many turns end the run, no more are made
-    no-further : (c d m n : ℕ) → Turns t plan quantum room c m → EndsAt t q m → Turns t plan quantum room d n → c < d → ⊥
+    pub no-further : (c d m n : ℕ) → Turns t plan quantum room c m → EndsAt t q m → Turns t plan quantum room d n → c < d → ⊥
     no-further c d m n ts e none-made l = omega arith
     no-further c d m n ts e (one-more k from to us y) l =
         elim (decLt c k) [
@@ -94,25 +92,11 @@ module _ (t : Tables) (plan : List ℕ) (a : Accepted t plan) where
           | no f ↦ let p : m ≡ from = turns-once c k m from ts us (omega arith) in not-past m from to e (omega (arith, y .further)) y
         ]
 
-    -- ---- of plays
-    module _ (most : ℕ) (before : List ℕ) where
-      pub finished-or-paused : (kept : List ℕ) (words : ℕ) → Finishes t plan quantum most room before kept words
-          → (state kept₁ : List ℕ) (saved words₁ : ℕ) → ¬ Pauses t plan quantum most room before state kept₁ saved words₁
-      finished-or-paused kept words f state kept₁ saved words₁ p =
-          elim (decLt (f .count) most) [
-            | yes l ↦ no-further (f .count) most (f .steps) (p .steps) (f .made) (f .ends) (p .made) l
-            | no l ↦
-                let e : p .steps ≡ f .steps = turns-once most (f .count) (p .steps) (f .steps) (p .made) (f .made) (omega (arith, f .allowed)) in
-                p .going (ap (λ n. after t q n .state) e ∙ f .ends .over)
-          ]
-
-      pub paused-once : (state kept : List ℕ) (saved words : ℕ) → Pauses t plan quantum most room before state kept saved words
-          → (state₁ kept₁ : List ℕ) (saved₁ words₁ : ℕ) → Pauses t plan quantum most room before state₁ kept₁ saved₁ words₁
-          → (saved ≡ saved₁) × (take saved state ≡ take saved₁ state₁) × (words ≡ words₁) × (kept ≡ kept₁)
-      paused-once state kept saved words p state₁ kept₁ saved₁ words₁ r =
-          let e : p .steps ≡ r .steps = turns-once most most (p .steps) (r .steps) (p .made) (r .made) refl in (
-            p .state-count ∙ ap (λ n. length (savedWords (after t q n .state))) e ∙ sym (r .state-count),
-            p .state-words ∙ ap (λ n. savedWords (after t q n .state)) e ∙ sym (r .state-words),
-            p .list .counted ∙ ap (λ n. length (listAfter t plan n)) e ∙ sym (r .list .counted),
-            p .list .whole ∙ ap (λ n. over (listAfter t plan n) before) e ∙ sym (r .list .whole),
-          )
+    -- fewer turns are no more steps
+    pub turns-grow : (c d m n : ℕ) → Turns t plan quantum room c m → Turns t plan quantum room d n → c ≤ d → m ≤ n
+    turns-grow c d m n ts none-made l = let e = turns-once c 0 m 0 ts none-made (omega arith) in omega arith
+    turns-grow c d m n ts (one-more k from to us y) l =
+        elim (decLt k c) [
+          | yes f ↦ let e = turns-once c (k + 1) m to ts (one-more k from to us y) (omega arith) in omega arith
+          | no f ↦ omega (arith, turns-grow c k m from ts us (omega arith), y .further)
+        ]

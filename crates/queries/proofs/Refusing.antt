@@ -1,10 +1,10 @@
 -- A turn that goes on a query is refused for its output or its quantum alone, and before the first step.
-use Prim.Native.Nat.{ℕ, _≤_, _<_}
+use Prim.Native.Nat.{ℕ, _≤_}
 use native.Mathlib.Omega.{arith}
 use mathlib.Core.Path.{_≡_, refl, sym, _∙_, ap, subst}
 use mathlib.Core.Logic.{_⊎_, inl, inr}
 use mathlib.Core.Bool.{Bool, true, false, cond, _&&_}
-use mathlib.Core.Option.{Option, none, some}
+use mathlib.Core.Option.{none, some}
 use mathlib.Core.List.{List, [], _++_}
 use lib.Dec.{leb}
 use lib.ListN.{length}
@@ -14,7 +14,7 @@ use Rattle.words.proofs.Booleans.{absurd-true, and-right, and-both}
 use Rattle.words.proofs.Testing.{none-some, some-injective, fails-first, all-passes, first-append, orElse}
 use Rattle.tables.specs.Tables.{Tables, tableTests}
 use Rattle.plans.specs.Endings.{Ending}
-use Rattle.plans.specs.Plans.{planOf, hasForm, planTests}
+use Rattle.plans.specs.Plans.{hasForm, planTests}
 use Rattle.steps.specs.Saved.{leastStateWords, shapeRight, placesRight}
 use Rattle.lists.specs.Gathering.{leastOutput, thresholdRight}
 use Rattle.turns.specs.declared.TurnEnding.the-variants.{Refused}
