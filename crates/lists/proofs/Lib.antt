@@ -15,6 +15,7 @@ pub mod Extremes
 pub mod AddingKeeps
 pub mod GroupsAdded
 pub mod GroupLists
+pub mod GroupFits
 pub mod LastRows
 pub mod Chosen
 pub mod FullLists
