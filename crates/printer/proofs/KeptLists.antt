@@ -1,9 +1,9 @@
 -- The kept list after a turn and its merge: within its buffer, and whole rows or records.
-use Prim.Native.Nat.{ℕ, _+_, _%_, _≤_}
+use Prim.Native.Nat.{ℕ, _+_, _%_}
 use native.Mathlib.Omega.{arith}
 use native.Mathlib.Nat.{zero-mod}
 use mathlib.Core.Path.{_≡_, refl, sym, _∙_, ap, subst, subst⁻¹}
-use mathlib.Core.Bool.{Bool, true, false, cond, _&&_}
+use mathlib.Core.Bool.{Bool, true, false, cond}
 use mathlib.Core.List.{List}
 use lib.Dec.{eqb, leb}
 use lib.ListN.{length}
@@ -20,13 +20,13 @@ use Rattle.lists.specs.Gathering.{width, listRight, merged}
 use Rattle.lists.proofs.Gatherings.{gathering}
 use Rattle.turns.specs.declared.TurnEnding.{TurnEnding}
 use Rattle.turns.specs.declared.TurnEnding.the-variants as ending
-use Rattle.turns.specs.Turns.{TurnInput, TurnResult, givenPlan, turnOf}
-use Rattle.merges.specs.Merging.{MergeInput, MergeResult, givenKept, givenEnding, mergedWords, mergeOf}
-use Rattle.merges.proofs.Refusals.{Merges, merged-so, merge-refusals}
+use Rattle.turns.specs.Turns.{TurnInput, givenPlan, turnOf}
+use Rattle.merges.specs.Merging.{MergeInput, givenKept, givenEnding, mergedWords, mergeOf}
+use Rattle.merges.proofs.Refusals.{Merges, merge-refusals}
 use Rattle.merges.proofs.Writes.{merge-writes}
 use Rattle.queries.specs.declared.Step.{Step}
 use Rattle.queries.specs.declared.Went.{Went}
-use Rattle.queries.specs.Stepping.{Stepped, toMerge, listOf, leftAsIs, mergedBy, playTurnOf, wentBy, wentAs, wentOf}
+use Rattle.queries.specs.Stepping.{Stepped, toMerge, listOf, leftAsIs, playTurnOf, wentAs, wentOf}
 use Rattle.printer.specs.Listings.{Holds, keptIn}
 
 -- a list that test 12 passes is whole rows or records

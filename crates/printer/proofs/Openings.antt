@@ -5,7 +5,7 @@ use mathlib.Core.Path.{_≡_, sym, _∙_, ap}
 use mathlib.Core.Bool.{true}
 use mathlib.Core.List.{List}
 use Rattle.words.specs.declared.Written.{Written}
-use Rattle.words.specs.declared.Written.the-variants.{Words, Refused}
+use Rattle.words.specs.declared.Written.the-variants.{Words}
 use Rattle.tables.specs.Tables.{Tables}
 use Rattle.plans.specs.Plans.{readPlan, hasForm}
 use Rattle.turns.specs.Opening.{Opened, openOf, Opens}

@@ -1,9 +1,8 @@
 -- A turn and its merge, as the printer uses them: the list that it prints lies in the output, and what is kept is whole.
 use Prim.Native.Nat.{ℕ, _%_, _≤_}
-use mathlib.Core.Path.{_≡_, sym, _∙_, ap, subst⁻¹}
+use mathlib.Core.Path.{_≡_, sym, _∙_, ap}
 use mathlib.Core.List.{List}
 use lib.ListN.{length}
-use Rattle.words.specs.Answers.{wordsIn}
 use Rattle.plans.specs.declared.Last.the-variants.{Rows}
 use Rattle.lists.specs.Gathering.{width}
 use Rattle.turns.specs.declared.Turned.{Turned}

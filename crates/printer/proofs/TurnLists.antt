@@ -1,9 +1,8 @@
 -- A turn's list lies in its output; that of a row query is whole rows.
-use Prim.Native.Nat.{ℕ, _*_, _%_, _≤_}
+use Prim.Native.Nat.{ℕ, _%_, _≤_}
 use native.Mathlib.Omega.{arith}
 use native.Mathlib.Nat.{zero-mod, mul-mod-left}
-use mathlib.Core.Path.{_≡_, refl, sym, _∙_, ap, subst⁻¹}
-use mathlib.Core.Bool.{Bool, true, false}
+use mathlib.Core.Path.{_≡_, refl, sym, _∙_, ap}
 use mathlib.Core.Option.{Option, none, some}
 use mathlib.Core.List.{List, map}
 use lib.ListN.{length}
@@ -18,10 +17,10 @@ use Rattle.lists.proofs.Records.{wide-project, length-flatten}
 use Rattle.turns.specs.declared.TurnEnding.{TurnEnding}
 use Rattle.turns.specs.declared.TurnEnding.the-variants.{Done, Spent, Full, Refused}
 use Rattle.turns.specs.declared.Turned.{Turned}
-use Rattle.turns.specs.Turns.{TurnInput, TurnResult, Progress, going, stopped, givenPlan, turnedAs, finished, served, turnTests, turnOf}
+use Rattle.turns.specs.Turns.{TurnInput, Progress, going, stopped, givenPlan, turnedAs, finished, served, turnTests, turnOf}
 use Rattle.turns.proofs.Refusals.{turn-refusals}
 use Rattle.queries.specs.Stepping.{isServed}
-use Rattle.queries.proofs.Taking.{is-served, served-room}
+use Rattle.queries.proofs.Taking.{served-room}
 
 -- ---- it lies in its output
 module _ (i : TurnInput) (r : Turned) (out : List ℕ) (er : r ≡ turnOf i .answer) (eo : out ≡ turnOf i .output) where

@@ -1,5 +1,5 @@
 -- How wide the rows or records of a plan's lists are.
-use Prim.Native.Nat.{ℕ, _+_, _%_, _≤_, _<_}
+use Prim.Native.Nat.{ℕ, _%_, _≤_, _<_}
 use native.Mathlib.Omega.{arith}
 use native.Mathlib.Nat.{mod-eq-of-lt}
 use mathlib.Core.Path.{_≡_, refl, sym, _∙_, subst⁻¹}
@@ -16,7 +16,7 @@ use Rattle.plans.specs.Reading.{lastIn, variablesIn}
 use Rattle.plans.proofs.Bounds.{EndingForm, plan-form, was-read}
 use Rattle.lists.specs.Gathering.{width}
 use Rattle.printer.specs.declared.Listing.{Listing}
-use Rattle.printer.specs.Listings.{listingOf, ListsOf, widthOf, HasWidth}
+use Rattle.printer.specs.Listings.{ListsOf, widthOf, HasWidth}
 
 pub ending-form : (plan : List ℕ) → hasForm (readPlan plan) ≡ true → EndingForm (planOf plan .ending)
 ending-form plan h = plan-form plan (planOf plan) (was-read (readPlan plan) h) .ending

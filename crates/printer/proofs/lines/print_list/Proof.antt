@@ -3,7 +3,7 @@ use Prim.Native.Nat.{_+_, _-_, _%_, _≤_}
 use native.Mathlib.Omega.{arith}
 use native.Mathlib.Nat.{mod-eq-sub-mod}
 use mathlib.Core.Path.{_≡_, sym, _∙_, ap, subst⁻¹}
-use lib.ListN.{length, take, drop, length-drop}
+use lib.ListN.{length, drop, length-drop}
 use lib.Seq.{length-take-le}
 use Rattle.printer.specs.Listings.{HasWidth}
 use Rattle.printer.proofs.Widths.{some-words, one-more}

@@ -28,7 +28,9 @@ add-number : tie.Need-add-number Inv-loop μ-loop
 add-number c = omega arith
 
 print-step-requires : tie.Need-print-step-requires Inv-loop μ-loop
-print-step-requires c κs = (c .before .before .before .before .before .before .before .before .before .before .before .before .pre, c .before .before .before .before .loop .inv .4)
+print-step-requires c κs =
+    let l = c .before .before .before .before in
+    (l .before .before .before .before .before .before .before .before .pre, l .loop .inv .4)
 
 enum-known-went : tie.Need-enum-known-went Inv-loop μ-loop
 enum-known-went c = search needs
@@ -38,7 +40,8 @@ loop-less c = omega arith
 
 loop-again : tie.Need-loop-again Inv-loop μ-loop
 loop-again c =
-    let h = same-holds _ _ _ _ (c .before .went .given .1) (c .before .before .before .before .before .before .before .before .before .print-step .ensures) in
+    let p = c .before .before .before .before .before .before .before .before .before .print-step in
+    let h = same-holds _ _ _ _ (c .before .went .given .1) (p .ensures) in
     (omega arith, omega arith, omega arith, omega arith, h)
 
 enum-known-went-2 : tie.Need-enum-known-went-2 Inv-loop μ-loop
@@ -46,18 +49,21 @@ enum-known-went-2 c = search needs
 
 slice-reshare-prefix-print-list : tie.Need-slice-reshare-prefix-print-list Inv-loop μ-loop
 slice-reshare-prefix-print-list c =
-    (same-holds _ _ _ _ (c .before .went2 .given .1) (c .before .before .before .before .before .before .before .before .before .print-step .ensures)) .0
+    let p = c .before .before .before .before .before .before .before .before .before .print-step in
+    (same-holds _ _ _ _ (c .before .went2 .given .1) (p .ensures)) .0
 
 slice-aggregate-print-list : tie.Need-slice-aggregate-print-list Inv-loop μ-loop
 slice-aggregate-print-list c =
-    let h = same-holds _ _ _ _ (c .before .before .went2 .given .1) (c .before .before .before .before .before .before .before .before .before .before .print-step .ensures) in
+    let p = c .before .before .before .before .before .before .before .before .before .before .print-step in
+    let h = same-holds _ _ _ _ (c .before .before .went2 .given .1) (p .ensures) in
     sym (length-take-le _ _ (h .0))
 
 print-list-requires : tie.Need-print-list-requires Inv-loop μ-loop
 print-list-requires c κs =
-    let s = c .before .before .before .before .before .before .before .before .before .before .before .before .before .before .before .before .before .before .before .before .before .before .before in
+    let t = c .before .before .before .before .before .before .before .before .before .before in
+    let s = t .before .before .before .before .before .before .before .before .before .before .before .before .before in
     let l = s .args .lists in
-    let h = same-holds _ _ _ _ (c .before .before .went2 .given .1) (c .before .before .before .before .before .before .before .before .before .before .print-step .ensures) in
+    let h = same-holds _ _ _ _ (c .before .before .went2 .given .1) (t .print-step .ensures) in
     (lists-width (s .args .plan .now) l (s .pre), ap (λ n. n % l .width) (length-take-le _ _ (h .0)) ∙ h .1)
 
 same-length : tie.Need-same-length Inv-loop μ-loop

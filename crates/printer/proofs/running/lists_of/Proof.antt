@@ -1,9 +1,8 @@
 -- `lists_of` meets its contract: the ending's kind, and its width by its variables.
 use borrow.Author.Needs.{needs}
 use native.Mathlib.Omega.{arith}
-use mathlib.Core.Path.{_≡_, _∙_, ap, ap₂}
+use mathlib.Core.Path.{_∙_, ap, ap₂}
 use lib.ListN.{length}
-use Rattle.plans.specs.Endings.{Ending}
 use Rattle.plans.specs.Plans.{planOf}
 use Rattle.plans.specs.Reading.{lastIn, variablesIn}
 use Rattle.printer.specs.Listings.{widthOf}

@@ -2,7 +2,6 @@
 use borrow.Author.Needs.{needs}
 use Prim.Native.Nat.{_%_}
 use mathlib.Core.Path.{sym, _∙_, ap}
-use lib.ListN.{length}
 use lib.Seq.{length-take-le}
 use Rattle.printer.proofs.Widths.{lists-width}
 use Rattle.printer.proofs.KeptLists.{same-holds}
@@ -26,8 +25,9 @@ slice-aggregate-print-delivered c =
 
 print-delivered-requires : tie.Need-print-delivered-requires
 print-delivered-requires c κs =
-    let p = c .before .before .before .before .before .before .before .before .before .play-turn in
-    let s = c .before .before .before .before .before .before .before .before .before .before .before .before .before .before .before .before .before .before .before .before in
+    let t = c .before .before .before .before .before .before .before .before .before in
+    let p = t .play-turn in
+    let s = t .before .before .before .before .before .before .before .before .before .before .before in
     let l = s .args .lists in (
       lists-width (s .args .plan .now) l (s .pre .0),
       λ e. ap (λ n. n % l .width) (length-take-le (p .result .turned .listed) _ (list-room _ _ _ _ _ _ _ (p .ensures)))
@@ -48,8 +48,9 @@ same-length-3 c = search needs
 
 returns : tie.Need-returns
 returns c =
-    let p = c .before .before .before .before .before .before .before .before .before .before .before .play-turn in
-    let s = c .before .before .before .before .before .before .before .before .before .before .before .before .before .before .before .before .before .before .before .before .before .before in
+    let t = c .before .before .before .before .before .before .before .before .before .before .before in
+    let p = t .play-turn in
+    let s = t .before .before .before .before .before .before .before .before .before .before .before in
     same-holds _ _ _ _ (sym (c .next-of .ensures))
     (kept-holds _ _ _ _ _ _ _ (p .ensures) (s .args .lists) (s .pre .0) (s .pre .1))
 
