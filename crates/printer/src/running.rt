@@ -22,6 +22,7 @@ ghost use Rattle.printer.specs.Listings.{listingOf, ListsOf, widthOf, Ha
 // The rows or records that the output holds.
 pub const OUTPUT_RECORDS: usize = 64;
 
+// Turns are counted in 64 bits. A query of more turns would not come to its end in any lifetime, so the loop's test always passes.
 pub const MOST_TURNS: u64 = 18446744073709551615;
 
 // The words of a row or record whose plan names so many variables.
@@ -51,7 +52,7 @@ fn lists_of(plan: &[u32]) -> Listing
     }
 }
 
-// The rows that a turn of a row query delivered; no other list is printed before it is merged.
+// The rows that a turn of a row query delivered; no other list is printed before it is merged. A refused turn's list has no words.
 fn print_delivered(lists: Listing, list: &[u32])
     requires { ⌜ HasWidth (lists .kind) (lists .width) ⌝ }
     requires { ⌜ (lists .kind ≡ Rows → length (now list) % lists .width ≡ 0) ⌝ }
