@@ -7,7 +7,6 @@ use crate::lines::print_turn;
 use plans::Last;
 use queries::Step;
 use queries::Went;
-use turns::TurnEnding;
 use words::Written;
 ghost use mathlib.Core.Path.{_≡_};
 ghost use mathlib.Core.Bool.{true};
@@ -66,31 +65,21 @@ fn print_delivered(lists: Listing, list: &[u32])
     }
 }
 
-// How the query goes on after a turn. A list that was not taken is refused; the refusal of a turn is its line.
+// The refusal of a list that was not taken; that of a turn is its line.
+fn print_taken(taken: Written) {
+    match taken {
+        Written::Refused(x) => print_refused(x),
+        Written::Words(_) => {}
+    }
+}
+
+// How the query goes on after a turn.
 fn next_of(step: Step) -> Went
     ensures { λ r. ⌜ r ≡ wentOf step ⌝ }
 {
-    let turned = step.turned;
-    let ending = turned.ending;
     let taken = step.taken;
-    match taken {
-        Written::Refused(x) => {
-            print_refused(x);
-            Went::Stopped(x)
-        }
-        Written::Words(words) => match ending {
-            TurnEnding::Done => Went::Over(words),
-            TurnEnding::Spent => Went::On {
-                saved: turned.saved,
-                words: words,
-            },
-            TurnEnding::Full => Went::On {
-                saved: turned.saved,
-                words: words,
-            },
-            TurnEnding::Refused(x) => Went::Stopped(x),
-        },
-    }
+    print_taken(taken);
+    queries::outcome(step)
 }
 
 // One turn and its list, printed.

@@ -3,6 +3,7 @@ mod playing;
 mod stepping;
 
 pub use playing::play;
+pub use stepping::outcome;
 pub use stepping::play_turn;
 use turns::Turned;
 use words::Written;

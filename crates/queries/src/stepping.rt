@@ -159,7 +159,7 @@ fn take_turn(
 }
 
 // How the query goes on after a turn whose list was taken, or not.
-fn outcome(step: Step) -> Went
+pub fn outcome(step: Step) -> Went
     ensures { λ r. ⌜ r ≡ wentOf step ⌝ }
 {
     let turned = step.turned;
