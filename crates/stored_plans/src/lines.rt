@@ -20,24 +20,22 @@ fn say(text: &[u8]) {
     io::write_all(STDOUT_FILENO, text);
 }
 
-fn say_number(x: u32) {
+// A number after its name.
+fn say_number(name: &[u8], x: u32) {
+    say(name);
     io::print_decimal(STDOUT_FILENO, x as u64);
 }
 
 // The plan's number, the quantum and the output's words.
 pub fn heading(number: u32, quantum: u32, room: u32) {
-    say(b"plan ");
-    say_number(number);
-    say(b" quantum ");
-    say_number(quantum);
-    say(b" output ");
-    say_number(room);
+    say_number(b"plan ", number);
+    say_number(b" quantum ", quantum);
+    say_number(b" output ", room);
     say(b"\n");
 }
 
 pub fn print_refused(x: u32) {
-    say(b"refused ");
-    say_number(x);
+    say_number(b"refused ", x);
     say(b"\n");
 }
 

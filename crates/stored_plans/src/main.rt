@@ -48,15 +48,20 @@ fn play_wood(file: &[u32], parts: FileParts)
     playing::play_plans(rows, pos, osp, plans);
 }
 
-// Reads so many bytes, a wood and its plans, and plays them.
-fn read_wood(bytes: &mut [u8]) {
-    let n = io::read_full(STDIN_FILENO, bytes);
+// A wood and its plans, from their bytes.
+fn play_bytes(bytes: &[u8]) {
     let mut file = [0u32; 16384];
-    let layout = printing::read_file(&bytes[..n], &mut file);
+    let layout = printing::read_file(bytes, &mut file);
     match layout {
         Layout::Parts(parts) => play_wood(&file, parts),
         Layout::Refused(x) => print_refused(x),
     }
+}
+
+// Reads so many bytes, a wood and its plans, and plays them.
+fn read_wood(bytes: &mut [u8]) {
+    let n = io::read_full(STDIN_FILENO, bytes);
+    play_bytes(&bytes[..n]);
 }
 
 // The next wood and its plans; whether there was one.

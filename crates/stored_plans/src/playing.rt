@@ -66,15 +66,19 @@ fn play_cuts(
     }
 }
 
+fn form_of(groups: u32, width: u32) -> Form {
+    Form {
+        groups: groups == 1,
+        width: wide(width),
+    }
+}
+
 // A plan with its cuts: an entry of the stored plans.
 fn play_entry(rows: &[u32], pos: &[u32], osp: &[u32], entry: &[u32]) {
     if entry.len() < HEAD_WORDS {
         return;
     }
-    let form = Form {
-        groups: entry[1] == 1,
-        width: wide(entry[2]),
-    };
+    let form = form_of(entry[1], entry[2]);
     let cuts = wide(entry[3]);
     if cuts > entry.len() - HEAD_WORDS {
         return;

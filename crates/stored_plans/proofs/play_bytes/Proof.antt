@@ -1,22 +1,13 @@
--- `read_wood` is safe: the parts of a wood that is not refused lie within its words.
+-- `play_bytes` is safe: the parts of a wood that is not refused lie within its words.
 use borrow.Author.Needs.{needs}
 use native.Mathlib.Omega.{arith}
 use mathlib.Core.Path.{sym, _∙_}
 use Rattle.printing.proofs.LaidOut.{laid-out}
-use Rattle.stored_plans.proofs.read_wood.Statement.{statement}
-use Rattle.stored_plans.proofs.read_wood.Tie as tie
-
-read-full-requires : tie.Need-read-full-requires
-read-full-requires c κs = search needs
-
-slice-reshare-prefix-read-file : tie.Need-slice-reshare-prefix-read-file
-slice-reshare-prefix-read-file c = search needs
+use Rattle.stored_plans.proofs.play_bytes.Statement.{statement}
+use Rattle.stored_plans.proofs.play_bytes.Tie as tie
 
 slice-aggregate-read-file : tie.Need-slice-aggregate-read-file
 slice-aggregate-read-file c = search needs
-
-slice-aggregate-read-file-2 : tie.Need-slice-aggregate-read-file-2
-slice-aggregate-read-file-2 c = search needs
 
 read-file-requires : tie.Need-read-file-requires
 read-file-requires c κs = search needs
@@ -41,33 +32,22 @@ enum-known-layout-2 c = search needs
 print-refused-requires : tie.Need-print-refused-requires
 print-refused-requires c κs = search needs
 
-same-length : tie.Need-same-length
-same-length c = search needs
-
 returns : tie.Need-returns
 returns c = search needs
-
-same-length-2 : tie.Need-same-length-2
-same-length-2 c = search needs
 
 returns-2 : tie.Need-returns-2
 returns-2 c = search needs
 
-pub read-wood-spec : {M : Type 1} → statement M
-read-wood-spec =
+pub play-bytes-spec : {M : Type 1} → statement M
+play-bytes-spec =
     tie.close
     (tie.spec
-    read-full-requires
-    slice-reshare-prefix-read-file
     slice-aggregate-read-file
-    slice-aggregate-read-file-2
     read-file-requires
     enum-known-layout
     slice-aggregate-play-wood
     play-wood-requires
     enum-known-layout-2
     print-refused-requires
-    same-length
     returns
-    same-length-2
     returns-2)
