@@ -22,15 +22,20 @@ fn byte(b: u8) -> usize
     b as usize
 }
 
+// The number in two bytes, the low one first.
+fn pair(low: u8, high: u8) -> usize
+    ensures { λ r. ⌜ r < 65536 ⌝ }
+{
+    byte(low) + 256 * byte(high)
+}
+
 // The words that follow, from the word that stands before them; 0 where there is none.
 fn words_ahead() -> usize {
     let mut head = [0u8; 4];
     if io::read_full(STDIN_FILENO, &mut head) < 4 {
         return 0;
     }
-    let low = byte(head[0]) + 256 * byte(head[1]);
-    let high = byte(head[2]) + 256 * byte(head[3]);
-    low + 65536 * high
+    pair(head[0], head[1]) + 65536 * pair(head[2], head[3])
 }
 
 // The wood in the first words of a file, and its plans behind it.
