@@ -1,4 +1,4 @@
--- Rows compared key by key: where a word stands among others, the rank by a key, and the side that the keys from one on give.
+-- Rows compared key by key: where a word stands among others, the rank by a key, and which comes first by the keys from one on.
 use Prim.Native.Nat.{ℕ, suc, _+_, _-_, _%_, _≤_, _<_}
 use native.Mathlib.Omega.{arith}
 use native.Mathlib.Numerals.{add-one}
@@ -16,9 +16,7 @@ use Rattle.words.proofs.Bound.{any-default}
 use Rattle.words.proofs.Elements.{all-at}
 use Rattle.words.proofs.Orders.{lex-less, lex-same, lex-more}
 use Rattle.plans.specs.Endings.{keyAmong}
-use Rattle.lists.specs.declared.Side.the-variants.{Before, Same, After}
 use Rattle.lists.specs.Rows.{indexOf, rankBy, keyValue, rowRanks, rowBefore}
-use Rattle.lists.specs.Sides.{sideBy}
 
 -- ---- where a word stands among others
 module _ (w : ℕ) (xs : List ℕ) (i : ℕ) where
@@ -80,8 +78,8 @@ by-none vs a b = refl
 
 -- ---- the keys from the one with a number on
 module _ (vs keys a b : List ℕ) (i : ℕ) where
-  pub side-end : length keys ≤ i → sideBy (rowBefore vs (drop i keys)) a b ≡ Same
-  side-end h = rw (drop-of-length-le keys h, by-none vs a b, by-none vs b a)
+  pub before-end : length keys ≤ i → rowBefore vs (drop i keys) a b ≡ false
+  before-end h = rw (drop-of-length-le keys h, by-none vs a b)
 
   module _ (h : i < length keys) where
     -- the key's column is there, where each key is among the variables
@@ -103,21 +101,20 @@ module _ (vs keys a b : List ℕ) (i : ℕ) where
       abbrev rest : List ℕ
       rest = drop (suc i) keys
 
-      pub side-before : x < y → sideBy (rowBefore vs (drop i keys)) a b ≡ Before
-      side-before l =
+      pub before-less : x < y → rowBefore vs (drop i keys) a b ≡ true
+      before-less l =
           let p = rank-of a x la ex in
           let q = rank-of b y lb ey in
           rw (drop-cons keys i 0 h, first-less vs key rest a b (omega arith))
 
-      pub side-after : y < x → sideBy (rowBefore vs (drop i keys)) a b ≡ After
-      side-after l =
+      pub before-more : y < x → rowBefore vs (drop i keys) a b ≡ false
+      before-more l =
           let p = rank-of a x la ex in
           let q = rank-of b y lb ey in
-          rw (drop-cons keys i 0 h, first-more vs key rest a b (omega arith), first-less vs key rest b a (omega arith))
+          rw (drop-cons keys i 0 h, first-more vs key rest a b (omega arith))
 
-      pub side-same : x ≤ y → y ≤ x
-          → sideBy (rowBefore vs (drop i keys)) a b ≡ sideBy (rowBefore vs (drop (i + 1) keys)) a b
-      side-same l m =
+      pub before-same : x ≤ y → y ≤ x → rowBefore vs (drop i keys) a b ≡ rowBefore vs (drop (i + 1) keys) a b
+      before-same l m =
           let p = rank-of a x la ex in
           let q = rank-of b y lb ey in
-          rw (add-one, drop-cons keys i 0 h, first-same vs key rest a b (omega arith), first-same vs key rest b a (omega arith))
+          rw (add-one, drop-cons keys i 0 h, first-same vs key rest a b (omega arith))

@@ -1,5 +1,4 @@
 // The order of rows by the keys of a best-of ending.
-use lists::Side;
 use words::PlanWord;
 use words::Term;
 ghost use mathlib.Core.Path.{_≡_};
@@ -10,7 +9,6 @@ ghost use Rattle.words.specs.Words.{variable, low};
 ghost use Rattle.words.specs.Sequences.{all};
 ghost use Rattle.plans.specs.Endings.{keyAmong};
 ghost use Rattle.lists.specs.Rows.{indexOf, rankBy, rowBefore};
-ghost use Rattle.lists.specs.Sides.{sideBy};
 
 // The place of a term by a key: a falling key reverses the order of keys.
 fn rank_by(key: u32, word: u32) -> u32
@@ -45,10 +43,10 @@ fn column_of(vars: &[u32], key: u32) -> usize
     index_of(variable.0, vars)
 }
 
-// Where row a stands against row b by the keys, the first key that tells them apart deciding.
-fn by_keys(vars: &[u32], keys: &[u32], a: &[u32], b: &[u32]) -> Side
+// Whether row a comes strictly before row b by the keys, the first key that tells them apart deciding.
+pub fn comes_before(vars: &[u32], keys: &[u32], a: &[u32], b: &[u32]) -> bool
     requires { ⌜ (all (keyAmong (now vars)) (now keys) ≡ true) × (length (now vars) ≤ length (now a)) × (length (now vars) ≤ length (now b)) ⌝ }
-    ensures { λ r. ⌜ r ≡ sideBy (rowBefore (now (vars .entry)) (now (keys .entry))) (now (a .entry)) (now (b .entry)) ⌝ }
+    ensures { λ r. ⌜ r ≡ rowBefore (now (vars .entry)) (now (keys .entry)) (now (a .entry)) (now (b .entry)) ⌝ }
 {
     let mut i: usize = 0;
     while i < keys.len() {
@@ -57,24 +55,12 @@ fn by_keys(vars: &[u32], keys: &[u32], a: &[u32], b: &[u32]) -> Side
         let x = rank_by(key, a[column]);
         let y = rank_by(key, b[column]);
         if x < y {
-            return Side::Before;
+            return true;
         }
         if y < x {
-            return Side::After;
+            return false;
         }
         i += 1;
     }
-    Side::Same
-}
-
-// Whether row a comes strictly before row b by the keys.
-pub fn comes_before(vars: &[u32], keys: &[u32], a: &[u32], b: &[u32]) -> bool
-    requires { ⌜ (all (keyAmong (now vars)) (now keys) ≡ true) × (length (now vars) ≤ length (now a)) × (length (now vars) ≤ length (now b)) ⌝ }
-    ensures { λ r. ⌜ r ≡ rowBefore (now (vars .entry)) (now (keys .entry)) (now (a .entry)) (now (b .entry)) ⌝ }
-{
-    match by_keys(vars, keys, a, b) {
-        Side::Before => true,
-        Side::Same => false,
-        Side::After => false,
-    }
+    false
 }
