@@ -17,7 +17,8 @@ use Rattle.tables.specs.Tables.{Tables}
 use Rattle.plans.specs.Branches.{mostPatterns, readBranch}
 use Rattle.plans.specs.Plans.{Plan, readPlan, hasForm, planOf, branchAt}
 use Rattle.plans.specs.Reading.{Gives}
-use Rattle.steps.specs.Levels.{hasLevel, bindings, Inside}
+use Rattle.steps.specs.declared.Fields.{Fields}
+use Rattle.steps.specs.Levels.{hasLevel, fieldsFixed, bindings, Inside}
 use Rattle.steps.specs.Steps.{State, stateRight}
 use Rattle.steps.specs.Saved.{positionRight, shapeRight, stateIn, placesRight}
 use Rattle.cursors.specs.declared.Cursor.{Cursor}
@@ -127,8 +128,10 @@ module _ (plan ws : List ℕ) (planned : hasForm (readPlan plan) ≡ true) (shap
       loads h = refused-none t q ws shape (places-are ∙ h)
 
       pub loads-held : r ≡ true → BeginsAt plan (branchOf (getD ws 0 0)) (c .at) → length (c .places) ≡ mostPatterns
-          → (b : Bindings) → b ≡ bindings t terms (upperOf (c .places) (c .level)) → Held t plan c b
-      loads-held h a l b eb =
+          → (b : Bindings) → b ≡ bindings t terms (upperOf (c .places) (c .level))
+          → (f : Fields) → f ≡ fieldsFixed terms (c .level) b
+          → Held t plan (record { branch = c .branch; at = c .at; level = c .level; places = c .places; fields = f }) b
+      loads-held h a l b eb f ef =
           record {
             planned = planned;
             branch = in-plan;
@@ -137,4 +140,5 @@ module _ (plan ws : List ℕ) (planned : hasForm (readPlan plan) ≡ true) (shap
             places = l;
             right = rw (← terms-are) (sym er ∙ h);
             agrees = rw (← terms-are, ← eb) (agrees-refl b (rw eb (bound-length t terms (upperOf (c .places) (c .level)))));
+            fields = rw (← terms-are) ef;
           }

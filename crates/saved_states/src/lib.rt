@@ -6,6 +6,7 @@ mod walks;
 
 use cursors::Cursor;
 pub use loading::load;
+pub use loading::refused;
 pub use saving::save;
 
 // A state's cursor. `refused` is 0, or the number of the test that the state's words fail.

@@ -1,8 +1,7 @@
 // The tests of opening and of a turn, in their order.
-use cursors::Cursor;
 use plans::Last;
 use saved_states::Loaded;
-use tables::Place;
+use saved_states::refused;
 ghost use mathlib.Core.Path.{_≡_};
 ghost use mathlib.Core.Bool.{true, _&&_};
 ghost use mathlib.Core.List.{_++_};
@@ -90,21 +89,6 @@ fn threshold_right(ending: &[u32], threshold: &[u32]) -> bool
         Last::Rows => lists::no_threshold(threshold),
         Last::Group => lists::no_threshold(threshold),
         Last::Neither => false,
-    }
-}
-
-// A refusal by number, in place of a state's cursor.
-fn refused(number: u32) -> Loaded
-    ensures { λ r. ⌜ r .refused ≡ number ⌝ }
-{
-    Loaded {
-        refused: number,
-        from: Cursor {
-            branch: 0,
-            at: 0,
-            level: 0,
-            places: [Place(0); 8],
-        },
     }
 }
 

@@ -48,12 +48,16 @@ terms-are c =
 has-form-requires : tie.Need-has-form-requires
 has-form-requires c κs = search needs
 
+refused-requires : tie.Need-refused-requires
+refused-requires c κs = search needs
+
 returns : tie.Need-returns
 returns c =
-    let f = c .before in
+    let f = c .before .before in
     let s = f .before .before .before .before .before .before in
-    let shape = sym (f .has-form .ensures) ∙ not-true _ (c .if1 .taken) in
-    (sym (refused-shape (lent s) (asked s) (s .args .state .now) shape), λ e. absurd (omega (arith, e)))
+    let shape = sym (f .has-form .ensures) ∙ not-true _ (c .before .if1 .taken) in
+    let e = c .refused .ensures in
+    (e ∙ sym (refused-shape (lent s) (asked s) (s .args .state .now) shape), λ z. absurd (omega (arith, z, e)))
 
 shared-slice-read-t16 : tie.Need-shared-slice-read-t16
 shared-slice-read-t16 c = let p = placed (asked (entry c)) (words (entry c)) (shape c) in omega (arith, p .long)
@@ -91,9 +95,19 @@ places-right-requires c κs =
       level-there (s .args .plan .now) (words s) (s .pre .1) (shape k) (f .cursor-in .result) (e .0) (e .2) _ (terms-are t),
     )
 
+level-of-requires : tie.Need-level-of-requires
+level-of-requires c κs =
+    let t = c .before .before .before .before .before in
+    let f = t .before in
+    let k = f .before .before .before in
+    let s = entry k in
+    let e = f .cursor-in .ensures in
+    level-there (s .args .plan .now) (words s) (s .pre .1) (shape k) (f .cursor-in .result) (e .0) (e .2) _ (terms-are t) .0
+
 returns-2 : tie.Need-returns-2
 returns-2 c =
-    let r = c .before in
+    let r = c .before .before .before .before in
+    let passes = c .before .before .before .if2 .taken in
     let t = r .before .before in
     let f = t .before in
     let p = f .before in
@@ -104,19 +118,23 @@ returns-2 c =
     let plan = s .args .plan .now in
     let from = f .cursor-in .result in
     let g = p .branch-part .ensures in (
-      sym (loads plan ws (s .pre .1) (shape (b .before)) from (e .0) (e .2) _ (terms-are t) (lent s) _ (r .places-right .ensures .0) (c .if2 .taken)),
-      λ z. (e .0, loads-held plan ws (s .pre .1) (shape (b .before)) from (e .0) (e .2) _ (terms-are t) (lent s) _ (r .places-right .ensures .0) (c .if2 .taken) (begins plan (p .branch-part .result .now) (b .branch .result) _ (branchStart (b .branch .result) plan) (from .at) (g .0) (g .1) (b .branch .ensures) (e .1)) (e .3) _ (r .places-right .ensures .1 (c .if2 .taken))),
+      sym (loads plan ws (s .pre .1) (shape (b .before)) from (e .0) (e .2) _ (terms-are t) (lent s) _ (r .places-right .ensures .0) passes),
+      λ z. (e .0, loads-held plan ws (s .pre .1) (shape (b .before)) from (e .0) (e .2) _ (terms-are t) (lent s) _ (r .places-right .ensures .0) passes (begins plan (p .branch-part .result .now) (b .branch .result) _ (branchStart (b .branch .result) plan) (from .at) (g .0) (g .1) (b .branch .ensures) (e .1)) (e .3) _ (r .places-right .ensures .1 passes) _ (c .level-of .ensures)),
     )
+
+refused-requires-2 : tie.Need-refused-requires-2
+refused-requires-2 c κs = search needs
 
 returns-3 : tie.Need-returns-3
 returns-3 c =
-    let r = c .before in
+    let r = c .before .before in
     let t = r .before .before in
     let f = t .before in
     let s = entry (f .before .before .before) in
-    let e = f .cursor-in .ensures in (
-      sym (loads-not (s .args .plan .now) (words s) (s .pre .1) (shape (f .before .before .before)) (f .cursor-in .result) (e .0) (e .2) _ (terms-are t) (lent s) _ (r .places-right .ensures .0) (c .if2 .left)),
-      λ z. absurd (omega (arith, z)),
+    let e = f .cursor-in .ensures in
+    let n = c .refused2 .ensures in (
+      n ∙ sym (loads-not (s .args .plan .now) (words s) (s .pre .1) (shape (f .before .before .before)) (f .cursor-in .result) (e .0) (e .2) _ (terms-are t) (lent s) _ (r .places-right .ensures .0) (c .before .if2 .left)),
+      λ z. absurd (omega (arith, z, n)),
     )
 
 pub load-spec : {M : Type 1} → statement M
@@ -124,6 +142,7 @@ load-spec =
     tie.close
     (tie.spec
     has-form-requires
+    refused-requires
     returns
     shared-slice-read-t16
     branch-requires
@@ -132,5 +151,7 @@ load-spec =
     cursor-in-requires
     terms-requires
     places-right-requires
+    level-of-requires
     returns-2
+    refused-requires-2
     returns-3)
