@@ -127,10 +127,10 @@ module _ (plan ws : List ℕ) (planned : hasForm (readPlan plan) ≡ true) (shap
       pub loads : r ≡ true → stateRefusal t q ws ≡ 0
       loads h = refused-none t q ws shape (places-are ∙ h)
 
-      pub loads-held : r ≡ true → BeginsAt plan (branchOf (getD ws 0 0)) (c .at) → length (c .places) ≡ mostPatterns
-          → (b : Bindings) → b ≡ bindings t terms (upperOf (c .places) (c .level))
+      pub loads-held : r ≡ true → BeginsAt plan (branchOf (getD ws 0 0)) (c .at) → length (c .upper) ≡ mostPatterns
+          → (b : Bindings) → b ≡ bindings t terms (upperOf (c .upper) (c .level))
           → (f : Fields) → f ≡ fieldsFixed terms (c .level) b
-          → Held t plan (record { branch = c .branch; at = c .at; level = c .level; places = c .places; fields = f }) b
+          → Held t plan (record { branch = c .branch; at = c .at; level = c .level; place = c .place; upper = c .upper; fields = f }) b
       loads-held h a l b eb f ef =
           record {
             planned = planned;
@@ -139,6 +139,6 @@ module _ (plan ws : List ℕ) (planned : hasForm (readPlan plan) ≡ true) (shap
             level = has-level;
             places = l;
             right = rw (← terms-are) (sym er ∙ h);
-            agrees = rw (← terms-are, ← eb) (agrees-refl b (rw eb (bound-length t terms (upperOf (c .places) (c .level)))));
+            agrees = rw (← terms-are, ← eb) (agrees-refl b (rw eb (bound-length t terms (upperOf (c .upper) (c .level)))));
             fields = rw (← terms-are) ef;
           }

@@ -16,7 +16,6 @@ use Rattle.tables.specs.Ranges.{rangeStart, rangeEnd, inRange}
 use Rattle.tables.proofs.Ranges.{start-le-end}
 use Rattle.steps.specs.Saved.{upperIn, stateIn}
 use Rattle.cursors.specs.declared.Cursor.{Cursor}
-use Rattle.cursors.specs.Carried.{placeAt}
 use Rattle.cursors.specs.Held.{upperOf, stateOf}
 use Rattle.cursors.proofs.Cursors.{upper-next, place-set, upper-set}
 use Rattle.saved_states.specs.Loading.{upToEnd}
@@ -40,14 +39,11 @@ module _ (ws : List ℕ) where
 
   -- the cursor whose places are those of the words
   pub cursor-state : (c : Cursor) → c .branch ≡ branchOf (getD ws 0 0) → c .level + 1 ≡ depthOf (getD ws 0 0)
-      → upperOf (c .places) (c .level + 1) ≡ upperIn ws (c .level + 1) → stateOf c ≡ stateIn ws
+      → upperOf (c .upper) (c .level) ≡ upperIn ws (c .level) → c .place .0 ≡ low (getD ws (c .level + 1) 0) → stateOf c ≡ stateIn ws
   unfolding stateIn
-  cursor-state c b d e =
-      let f : placeAt (c .places) (c .level) ∷ upperOf (c .places) (c .level) ≡ low (getD ws (c .level + 1) 0) ∷ upperIn ws (c .level) = sym (upper-next (c .places) (c .level)) ∙ e ∙ upper-in-next (c .level) in
+  cursor-state c b d u p =
       let above : c .level ≡ depthOf (getD ws 0 0) - 1 = omega arith in
-      let place-is : placeAt (c .places) (c .level) ≡ low (getD ws (c .level + 1) 0) = cc in
-      let upper-is : upperOf (c .places) (c .level) ≡ upperIn ws (c .level) = cc in
-      λ i. record { branch = b i; upper = (upper-is ∙ ap (upperIn ws) above) i; place = (place-is ∙ ap (λ n. low (getD ws n 0)) d) i }
+      λ i. record { branch = b i; upper = (u ∙ ap (upperIn ws) above) i; place = (p ∙ ap (λ n. low (getD ws n 0)) d) i }
 
 -- ---- from a range's first place up to and including its end
 module _ (t : Tables) (x : Prefix) (place : ℕ) where

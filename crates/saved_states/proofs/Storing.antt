@@ -1,19 +1,19 @@
 -- The words of a cursor's state, written one after the other, the outermost place first; what a run holds can be saved.
-use Prim.Native.Nat.{ℕ, zero, suc, _+_, _≤_, _<_}
+use Prim.Native.Nat.{ℕ, zero, suc, _+_, _<_}
 use native.Mathlib.Omega.{arith}
 use native.Mathlib.Numerals.{add-one}
 use mathlib.Core.Path.{_≡_, refl, sym, _∙_, ap, ap₂}
 use mathlib.Core.Bool.{Bool, true, false}
 use mathlib.Core.List.{List, [], _∷_, _++_}
 use lib.Dec.{eqb}
-use lib.ListN.{length, getD, set}
+use lib.ListN.{length, getD, set, length-append}
 use lib.Seq.{drop-cons, drop-set-lt, getD-set-same}
-use borrow.Author.Tests.{ltb-true, lt-ltb, eqb-true, eqb-false}
+use borrow.Author.Tests.{ltb-true, eqb-true, eqb-false}
 use Rattle.words.specs.Words.{lowNumbers, positionWord, placeWord}
 use Rattle.words.specs.Bindings.{Bindings}
 use Rattle.words.specs.Sequences.{all, over}
 use Rattle.words.proofs.Buffers.{over-next}
-use Rattle.words.proofs.Elements.{all-head, all-tail, all-cons}
+use Rattle.words.proofs.Elements.{all-head, all-tail}
 use Rattle.tables.specs.declared.Place.{Place}
 use Rattle.tables.specs.Tables.{Tables}
 use Rattle.tables.specs.Right.{Right}
@@ -58,23 +58,29 @@ above-write w places level state buffer h e =
     ∙ over-next ws buffer a (omega arith)
     ∙ ap (λ (vs : List ℕ). over vs buffer) (sym (above-next w places level))
 
--- the words up to the last level's place are those of the state
+-- the upper places are written: with the last they are the words of the state
 module _ (c : Cursor) (w : ℕ) (position : w ≡ positionWord (c .branch) (c .level + 1)) where
-  above-all : wordsAbove w (c .places) (c .level + 1) ≡ stateWords (stateOf c)
-  unfolding positionWords
-  above-all =
-      above-next w (c .places) (c .level) ∙ rw (position, places-length (c .places) (c .level), add-one)
+  abbrev last : ℕ
+  last = placeWord (c .place .0)
 
-  pub saved : (level : ℕ) (state buffer : List ℕ) → 0 < length buffer → c .level < level → level ≤ c .level + 1
-      → state ≡ over (wordsAbove (getD (set buffer 0 w) 0 0) (c .places) level) (set buffer 0 w)
-      → (level + 1 ≡ length (stateWords (stateOf c))) × (state ≡ over (stateWords (stateOf c)) buffer)
-  saved level state buffer h l m e =
-      let n : level ≡ c .level + 1 = omega arith in
-      let ws = wordsAbove w (c .places) (c .level + 1) in (
-        ap (λ k. k + 1) n ∙ sym (above-length w (c .places) (c .level + 1)) ∙ ap length above-all,
-        e
-            ∙ ap₂ (λ v k. over (wordsAbove v (c .places) k) (set buffer 0 w)) (getD-set-same buffer 0 w 0 h) n
-            ∙ ap (λ (ds : List ℕ). ws ++ ds) (drop-set-lt (length ws) buffer 0 w (omega arith))
+  above-all : wordsAbove w (c .upper) (c .level) ++ (last ∷ []) ≡ stateWords (stateOf c)
+  unfolding positionWords
+  above-all = rw (position, places-length (c .upper) (c .level), add-one)
+
+  pub saved : (level : ℕ) (state buffer : List ℕ) → c .level + 1 < length buffer → level ≡ c .level
+      → state ≡ over (wordsAbove (getD (set buffer 0 w) 0 0) (c .upper) level) (set buffer 0 w)
+      → (c .level + 2 ≡ length (stateWords (stateOf c))) × (set state (c .level + 1) last ≡ over (stateWords (stateOf c)) buffer)
+  saved level state buffer h l e =
+      let ws = wordsAbove w (c .upper) (c .level) in
+      let n = above-length w (c .upper) (c .level) in
+      let s : state ≡ over ws buffer =
+      e
+      ∙ ap₂ (λ v k. over (wordsAbove v (c .upper) k) (set buffer 0 w)) (getD-set-same buffer 0 w 0 (omega arith)) l
+      ∙ ap (λ (ds : List ℕ). ws ++ ds) (drop-set-lt (length ws) buffer 0 w (omega arith)) in (
+        omega (arith, length-append ws (last ∷ []), ap length above-all),
+        ap (λ (x : List ℕ). set x (c .level + 1) last) s
+            ∙ ap (λ k. set (over ws buffer) k last) (sym n)
+            ∙ over-next ws buffer last (omega arith)
             ∙ ap (λ (vs : List ℕ). over vs buffer) above-all,
       )
 
@@ -90,12 +96,12 @@ places-fit ps (suc level) e i h =
     go false q above = let n = eqb-false i level q in above (omega arith)
 
 pub held-storable : (t : Tables) (ws : List ℕ) (c : Cursor) (b : Bindings) → Right t → Held t ws c b → Storable c
-unfolding upperOf
 held-storable t ws c b w k =
     let form = form-of ws (k .planned) in
     let f = right-fits t (planOf ws) (w .sized .few) form (stateOf c) (held-right t ws c b k) in
     record {
       branch = omega (arith, k .branch, form .most);
       level = level-few ws (k .planned) (c .branch) (c .level) (k .branch) (k .level);
-      places = λ i h. places-fit (c .places) (suc (c .level)) (all-cons fitsLow _ _ (lt-ltb _ _ (f .place)) (f .upper)) i (omega arith);
+      place = f .place;
+      upper = λ i h. places-fit (c .upper) (c .level) (f .upper) i h;
     }

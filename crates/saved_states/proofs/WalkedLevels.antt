@@ -84,11 +84,11 @@ module _ (t : Tables) (terms : List ℕ) where
 
   -- the last place, tested below right levels
   module _ (c : Cursor) where
-    pub upper-fails : upperRight t terms (upperOf (c .places) (c .level)) ≡ false → stateRight t terms (stateOf c) ≡ false
+    pub upper-fails : upperRight t terms (upperOf (c .upper) (c .level)) ≡ false → stateRight t terms (stateOf c) ≡ false
     unfolding stateRight
     upper-fails h = rw h
 
-    pub upper-passes : (b : Bindings) → Walked (c .places) (c .level) b
-        → stateRight t terms (stateOf c) ≡ upToEnd t (levelPrefix terms (c .level) b) (placeAt (c .places) (c .level))
+    pub upper-passes : (b : Bindings) → Walked (c .upper) (c .level) b
+        → stateRight t terms (stateOf c) ≡ upToEnd t (levelPrefix terms (c .level) b) (c .place .0)
     unfolding stateRight
-    upper-passes b w = rw (w .right, upper-length (c .places) (c .level), w .bound)
+    upper-passes b w = rw (w .right, upper-length (c .upper) (c .level), w .bound)

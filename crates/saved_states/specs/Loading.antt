@@ -20,7 +20,8 @@ use Rattle.cursors.specs.Carried.{placeAt}
 pub record Storable (c : Cursor) : Type 0 where
   pub branch : c .branch < mostBranches
   pub level : c .level < mostPatterns
-  pub places : (level : ℕ) → level ≤ c .level → placeAt (c .places) level < lowNumbers
+  pub place : c .place .0 < lowNumbers
+  pub upper : (level : ℕ) → level < c .level → placeAt (c .upper) level < lowNumbers
 
 -- a first word, and as many words more as the depth that it names, from 1 to 8
 pub record Whole (ws : List ℕ) : Type 0 where

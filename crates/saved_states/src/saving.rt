@@ -15,13 +15,15 @@ pub fn save(c: Cursor, state: &mut [u32]) -> usize
     ensures { λ r. ⌜ (r ≡ length (stateWords (stateOf c))) × (now (state .exit) ≡ over (stateWords (stateOf c)) (now (state .entry))) ⌝ }
 {
     let level = c.level;
-    let places = c.places;
+    let upper = c.upper;
+    let last = c.place;
     state[0] = StateWord::position(c.branch, level as u32 + 1).0;
     let mut i: usize = 0;
-    while i <= level {
-        let place = places[i];
+    while i < level {
+        let place = upper[i];
         i += 1;
         state[i] = StateWord::place(place.0).0;
     }
-    i + 1
+    state[level + 1] = StateWord::place(last.0).0;
+    level + 2
 }

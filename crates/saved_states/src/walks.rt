@@ -45,15 +45,15 @@ fn upper_right(
 ) -> bool
     requires { ⌜ Right (tablesOf (now rows) (now pos) (now osp)) ⌝ }
     requires { ⌜ Inside (now terms) (c .level) × (c .level < mostPatterns) ⌝ }
-    ensures { λ r. ⌜ r ≡ upperRight (tablesOf (now (rows .entry)) (now (pos .entry)) (now (osp .entry))) (now (terms .entry)) (upperOf (c .places) (c .level)) ⌝ }
-    ensures { λ r. ⌜ (r ≡ true → now (bound .exit) ≡ bindings (tablesOf (now (rows .entry)) (now (pos .entry)) (now (osp .entry))) (now (terms .entry)) (upperOf (c .places) (c .level))) ⌝ }
+    ensures { λ r. ⌜ r ≡ upperRight (tablesOf (now (rows .entry)) (now (pos .entry)) (now (osp .entry))) (now (terms .entry)) (upperOf (c .upper) (c .level)) ⌝ }
+    ensures { λ r. ⌜ (r ≡ true → now (bound .exit) ≡ bindings (tablesOf (now (rows .entry)) (now (pos .entry)) (now (osp .entry))) (now (terms .entry)) (upperOf (c .upper) (c .level))) ⌝ }
 {
-    let places = c.places;
+    let upper = c.upper;
     let last = c.level;
     *bound = [Term::UNBOUND; 16];
     let mut level: usize = 0;
     while level < last {
-        let place = places[level];
+        let place = upper[level];
         if !level_passes(rows, pos, osp, terms, level, place, bound) {
             return false;
         }
@@ -97,12 +97,11 @@ pub fn places_right(
     requires { ⌜ Right (tablesOf (now rows) (now pos) (now osp)) ⌝ }
     requires { ⌜ Inside (now terms) (c .level) × (c .level < mostPatterns) ⌝ }
     ensures { λ r. ⌜ r ≡ stateRight (tablesOf (now (rows .entry)) (now (pos .entry)) (now (osp .entry))) (now (terms .entry)) (stateOf c) ⌝ }
-    ensures { λ r. ⌜ (r ≡ true → now (bound .exit) ≡ bindings (tablesOf (now (rows .entry)) (now (pos .entry)) (now (osp .entry))) (now (terms .entry)) (upperOf (c .places) (c .level))) ⌝ }
+    ensures { λ r. ⌜ (r ≡ true → now (bound .exit) ≡ bindings (tablesOf (now (rows .entry)) (now (pos .entry)) (now (osp .entry))) (now (terms .entry)) (upperOf (c .upper) (c .level))) ⌝ }
 {
     if upper_right(rows, pos, osp, terms, c, bound) {
-        let level = c.level;
-        let places = c.places;
-        return last_right(rows, pos, osp, terms, level, places[level], bound);
+        let place = c.place;
+        return last_right(rows, pos, osp, terms, c.level, place, bound);
     }
     false
 }

@@ -59,8 +59,8 @@ returns c =
     let e = c .refused .ensures in
     (e ∙ sym (refused-shape (lent s) (asked s) (s .args .state .now) shape), λ z. absurd (omega (arith, z, e)))
 
-shared-slice-read-t16 : tie.Need-shared-slice-read-t16
-shared-slice-read-t16 c = let p = placed (asked (entry c)) (words (entry c)) (shape c) in omega (arith, p .long)
+shared-slice-read-t17 : tie.Need-shared-slice-read-t17
+shared-slice-read-t17 c = let p = placed (asked (entry c)) (words (entry c)) (shape c) in omega (arith, p .long)
 
 branch-requires : tie.Need-branch-requires
 branch-requires c κs = search needs
@@ -97,7 +97,7 @@ places-right-requires c κs =
 
 level-of-requires : tie.Need-level-of-requires
 level-of-requires c κs =
-    let t = c .before .before .before .before .before in
+    let t = c .before .before .before .before .before .before in
     let f = t .before in
     let k = f .before .before .before in
     let s = entry k in
@@ -106,8 +106,8 @@ level-of-requires c κs =
 
 returns-2 : tie.Need-returns-2
 returns-2 c =
-    let r = c .before .before .before .before in
-    let passes = c .before .before .before .if2 .taken in
+    let r = c .before .before .before .before .before in
+    let passes = c .before .before .before .before .if2 .taken in
     let t = r .before .before in
     let f = t .before in
     let p = f .before in
@@ -144,7 +144,7 @@ load-spec =
     has-form-requires
     refused-requires
     returns
-    shared-slice-read-t16
+    shared-slice-read-t17
     branch-requires
     branch-part-requires
     sub-cursor-in

@@ -1,4 +1,4 @@
--- `saved_states::save` meets its contract. The loop's invariant: the first word and the places of the levels before `i` are written.
+-- `saved_states::save` meets its contract. The loop's invariant: the first word and the upper places of the levels before `i` are written.
 use borrow.Author.Needs.{needs}
 use Prim.Native.Nat.{ℕ, _+_, _-_, _%_, _≤_, _<_, zero-le}
 use mathlib.Core.Path.{_≡_, refl, ap, _∙_}
@@ -12,16 +12,16 @@ use Rattle.saved_states.proofs.saving.save.Statement.{statement}
 use Rattle.saved_states.proofs.saving.save.Tie as tie
 
 abbrev Inv-loop : tie.InvT-loop
-Inv-loop state₀ level places i₀ state i =
-    (i ≤ level + 1) × (length state ≡ length state₀) × (state ≡ over (wordsAbove (getD state₀ 0 0) places i) state₀)
+Inv-loop state₀ level upper last i₀ state i =
+    (i ≤ level) × (length state ≡ length state₀) × (state ≡ over (wordsAbove (getD state₀ 0 0) upper i) state₀)
 
 abbrev μ-loop : tie.MeasureT-loop
-μ-loop state₀ level places i₀ state i = level + 1 - i
+μ-loop state₀ level upper last i₀ state i = level - i
 
 -- the state has room for as many places as there are levels
-room : (l : tie.At-loop Inv-loop μ-loop) → l .before .before .before .before .args .c .level + 1 < length (l .loop .state)
+room : (l : tie.At-loop Inv-loop μ-loop) → l .before .before .before .before .before .args .c .level + 1 < length (l .loop .state)
 room l =
-    let s = l .before .before .before .before in
+    let s = l .before .before .before .before .before in
     omega (arith, length-set (s .args .state .now) 0 (l .before .position .result .0), s .pre .0 .level)
 
 -- a place word holds a place below 2^28 whole
@@ -41,13 +41,13 @@ slice-write-state : tie.Need-slice-write-state Inv-loop μ-loop
 slice-write-state c = omega arith
 
 loop-holds : tie.Need-loop-holds Inv-loop μ-loop
-loop-holds c = (zero-le, refl, above-none (c .before .before .before .args .c .places) _ (simp length-set (omega arith)))
+loop-holds c = (zero-le, refl, above-none (c .before .before .before .before .args .c .upper) _ (simp length-set (omega arith)))
 
 mul-place : tie.Need-mul-place Inv-loop μ-loop
 mul-place c = omega arith
 
 array-copy-out-place : tie.Need-array-copy-out-place Inv-loop μ-loop
-array-copy-out-place c = omega (arith, c .before .before .before .before .before .pre .0 .level)
+array-copy-out-place c = omega (arith, c .before .before .before .before .before .before .pre .0 .level)
 
 add-i : tie.Need-add-i Inv-loop μ-loop
 add-i c = omega arith
@@ -67,26 +67,41 @@ loop-less c = omega arith
 loop-again : tie.Need-loop-again Inv-loop μ-loop
 loop-again c =
     let l = c .before .before .before in
-    let s = l .before .before .before .before in
+    let s = l .before .before .before .before .before in
     let state = l .loop .state in
     let buffer = set (s .args .state .now) 0 (l .before .position .result .0) in
-    let word = c .place2 .ensures ∙ ap placeWord (kept (placeAt (s .args .c .places) (l .loop .i)) (s .pre .0 .places (l .loop .i) (omega arith))) in (
+    let word = c .place2 .ensures ∙ ap placeWord (kept (placeAt (s .args .c .upper) (l .loop .i)) (s .pre .0 .upper (l .loop .i) (omega arith))) in (
       omega arith,
       (simp length-set) ∙ l .loop .inv .1,
-      ap (set state (l .loop .i + 1)) word ∙ above-write _ (s .args .c .places) (l .loop .i) state buffer (omega (arith, room l)) (l .loop .inv .2),
+      ap (set state (l .loop .i + 1)) word ∙ above-write _ (s .args .c .upper) (l .loop .i) state buffer (omega (arith, room l)) (l .loop .inv .2),
     )
 
+place-requires-2 : tie.Need-place-requires-2 Inv-loop μ-loop
+place-requires-2 c κs = tt
+
+add-state : tie.Need-add-state Inv-loop μ-loop
+add-state c = omega (arith, room (c .before .before))
+
+mul-state-2 : tie.Need-mul-state-2 Inv-loop μ-loop
+mul-state-2 c = omega (arith, room (c .before .before))
+
+slice-write-state-3 : tie.Need-slice-write-state-3 Inv-loop μ-loop
+slice-write-state-3 c = omega (arith, room (c .before .before))
+
 add-result : tie.Need-add-result Inv-loop μ-loop
-add-result c = omega arith
+add-result c = omega (arith, room (c .before .before))
 
 same-length : tie.Need-same-length Inv-loop μ-loop
-same-length c = c .before .loop .inv .1 ∙ (simp length-set)
+same-length c = (simp length-set) ∙ c .before .before .loop .inv .1 ∙ (simp length-set)
 
 returns : tie.Need-returns Inv-loop μ-loop
 returns c =
-    let l = c .before in
-    let s = l .before .before .before .before in
-    saved (s .args .c) (l .before .position .result .0) (l .before .position .ensures) (l .loop .i) (l .loop .state) (s .args .state .now) (omega arith) (omega arith) (l .loop .inv .0) (l .loop .inv .2)
+    let l = c .before .before in
+    let s = l .before .before .before .before .before in
+    let from = s .args .c in
+    let done = saved from (l .before .position .result .0) (l .before .position .ensures) (l .loop .i) (l .loop .state) (s .args .state .now) (omega (arith, s .pre .0 .level)) (omega arith) (l .loop .inv .2) in
+    let word = c .place3 .ensures ∙ ap placeWord (kept (from .place .0) (s .pre .0 .place)) in
+    (done .0, ap (set (l .loop .state) (from .level + 1)) word ∙ done .1)
 
 pub save-spec : {M : Type 1} → statement M
 save-spec =
@@ -107,6 +122,10 @@ save-spec =
     slice-write-state-2
     loop-less
     loop-again
+    place-requires-2
+    add-state
+    mul-state-2
+    slice-write-state-3
     add-result
     same-length
     returns)

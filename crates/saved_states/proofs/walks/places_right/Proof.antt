@@ -13,20 +13,14 @@ lent s = tablesOf (s .args .rows .now) (s .args .pos .now) (s .args .osp .now)
 upper-right-requires : tie.Need-upper-right-requires
 upper-right-requires c κs = search needs
 
-mul-last-right : tie.Need-mul-last-right
-mul-last-right c = search needs
-
-array-copy-out-last-right : tie.Need-array-copy-out-last-right
-array-copy-out-last-right c = search needs
-
 last-right-requires : tie.Need-last-right-requires
 last-right-requires c κs = search needs
 
 returns : tie.Need-returns
 returns c =
-    let u = c .before .before .before .before .before in
+    let u = c .before .before .before .before in
     let s = u .before .before .before .before .before .before in
-    let passes = c .before .before .before .before .if1 .taken in
+    let passes = c .before .before .before .if1 .taken in
     let b = u .upper-right .ensures .1 passes in
     let right = sym (u .upper-right .ensures .0) ∙ passes in
     (c .last-right .ensures ∙ sym (upper-passes (lent s) (s .args .terms .now) (s .args .c) _ (record { right = right; bound = b })), λ e. b)
@@ -38,12 +32,4 @@ returns-2 c =
     (sym (upper-fails (lent s) (s .args .terms .now) (s .args .c) (sym (u .upper-right .ensures .0) ∙ c .if1 .left)), λ e. absurd-true e refl)
 
 pub places-right-spec : {M : Type 1} → statement M
-places-right-spec =
-    tie.close
-    (tie.spec
-    upper-right-requires
-    mul-last-right
-    array-copy-out-last-right
-    last-right-requires
-    returns
-    returns-2)
+places-right-spec = tie.close (tie.spec upper-right-requires last-right-requires returns returns-2)

@@ -10,11 +10,11 @@ use Rattle.saved_states.proofs.walks.upper_right.Statement.{statement}
 use Rattle.saved_states.proofs.walks.upper_right.Tie as tie
 
 abbrev Inv-loop : tie.InvT-loop
-Inv-loop rows pos osp terms bound₀ places last level₀ bound level =
-    (level ≤ last) × Walked (tablesOf rows pos osp) terms places level bound
+Inv-loop rows pos osp terms bound₀ upper last level₀ bound level =
+    (level ≤ last) × Walked (tablesOf rows pos osp) terms upper level bound
 
 abbrev μ-loop : tie.MeasureT-loop
-μ-loop rows pos osp terms bound₀ places last level₀ bound level = last - level
+μ-loop rows pos osp terms bound₀ upper last level₀ bound level = last - level
 
 abbrev lent : tie.Start Inv-loop μ-loop → Tables
 lent s = tablesOf (s .args .rows .now) (s .args .pos .now) (s .args .osp .now)
@@ -22,7 +22,7 @@ lent s = tablesOf (s .args .rows .now) (s .args .pos .now) (s .args .osp .now)
 loop-holds : tie.Need-loop-holds Inv-loop μ-loop
 loop-holds c =
     let s = c .before .before .before .before .before .before in
-    (zero-le, walked-none (lent s) (s .args .terms .now) (s .args .c .places))
+    (zero-le, walked-none (lent s) (s .args .terms .now) (s .args .c .upper))
 
 mul-place : tie.Need-mul-place Inv-loop μ-loop
 mul-place c = omega arith
@@ -40,9 +40,9 @@ returns c =
     let p = c .before in
     let l = p .before .before .before .before in
     let s = l .before .before .before .before .before .before .before in
-    let places = s .args .c .places in
+    let upper = s .args .c .upper in
     let fails = sym (p .level-passes .ensures .0) ∙ not-true _ (c .if1 .taken) in (
-      sym (walked-fails (lent s) (s .args .terms .now) places (l .loop .level) (l .loop .bound) (l .loop .inv .1) fails (s .args .c .level) (omega arith)),
+      sym (walked-fails (lent s) (s .args .terms .now) upper (l .loop .level) (l .loop .bound) (l .loop .inv .1) fails (s .args .c .level) (omega arith)),
       λ e. absurd-true e refl,
     )
 
@@ -57,17 +57,17 @@ loop-again c =
     let p = c .before in
     let l = p .before .before .before .before in
     let s = l .before .before .before .before .before .before .before in
-    let places = s .args .c .places in
+    let upper = s .args .c .upper in
     let passed = sym (p .level-passes .ensures .0) ∙ not-false _ (c .if1 .left) in
-    let next = walked-next (lent s) (s .args .terms .now) places (l .loop .level) (l .loop .bound) (l .loop .inv .1) passed in
-    (omega arith, subst (Walked (lent s) (s .args .terms .now) places (l .loop .level + 1)) (sym (p .level-passes .ensures .1)) next)
+    let next = walked-next (lent s) (s .args .terms .now) upper (l .loop .level) (l .loop .bound) (l .loop .inv .1) passed in
+    (omega arith, subst (Walked (lent s) (s .args .terms .now) upper (l .loop .level + 1)) (sym (p .level-passes .ensures .1)) next)
 
 returns-2 : tie.Need-returns-2 Inv-loop μ-loop
 returns-2 c =
     let l = c .before in
     let s = l .before .before .before .before .before .before .before in
     let e : l .loop .level ≡ s .args .c .level = omega arith in
-    let w = subst (λ n. Walked (lent s) (s .args .terms .now) (s .args .c .places) n (l .loop .bound)) e (l .loop .inv .1) in
+    let w = subst (λ n. Walked (lent s) (s .args .terms .now) (s .args .c .upper) n (l .loop .bound)) e (l .loop .inv .1) in
     (sym (w .right), λ h. w .bound)
 
 pub upper-right-spec : {M : Type 1} → statement M

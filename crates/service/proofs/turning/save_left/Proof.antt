@@ -1,10 +1,8 @@
+-- `save_left` meets its contract, by how the turn ended.
 use borrow.Author.Needs.{needs}
-use Prim.Native.Nat.{ℕ, _+_, _-_, _*_, _/_, _≤_, _<_, zero-le}
-use mathlib.Core.Path.{_≡_, refl, sym, ap, _∙_}
-use mathlib.Core.List.{List}
-use mathlib.Core.Bool.{true, false}
+use Prim.Native.Nat.{ℕ}
+use mathlib.Core.Path.{_≡_, refl}
 use native.Mathlib.Omega.{arith}
-use lib.ListN.{length, getD, take, drop}
 use Rattle.service.proofs.turning.save_left.Statement.{statement}
 use Rattle.service.proofs.turning.save_left.Tie as tie
 
@@ -31,7 +29,7 @@ enum-told-4 : tie.Need-enum-told-4
 enum-told-4 c = search needs
 
 returns : tie.Need-returns
-returns c = search needs
+returns c = rw (c .enum-told .given .1) (refl, refl)
 
 same-length : tie.Need-same-length
 same-length c = search needs
@@ -46,7 +44,7 @@ returns-3 : tie.Need-returns-3
 returns-3 c = rw (c .before .before .before .before .enum-told3 .given .1) (c .before .before .save2 .ensures)
 
 returns-4 : tie.Need-returns-4
-returns-4 c = search needs
+returns-4 c = rw (c .enum-told4 .given .1) (refl, refl)
 
 pub save-left-spec : {M : Type 1} → statement M
 save-left-spec =
