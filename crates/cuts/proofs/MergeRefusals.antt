@@ -6,13 +6,13 @@ use mathlib.Core.Logic.{_⊎_, inl, inr}
 use mathlib.Core.Bool.{Bool, true, false, cond, _&&_}
 use mathlib.Core.Option.{none, some}
 use mathlib.Core.List.{List, [], _∷_, _++_}
-use lib.Dec.{leb, eqb}
+use lib.Dec.{leb}
 use lib.ListN.{length, take, length-append}
 use lib.Seq.{take-append-seam}
 use borrow.Author.Tests.{le-leb, leb-false}
 use Rattle.words.specs.declared.Written.the-variants.{Words, Refused}
 use Rattle.words.specs.Words.{isValue}
-use Rattle.words.specs.Bindings.{Bindings, variableCount}
+use Rattle.words.specs.Bindings.{Bindings}
 use Rattle.words.specs.Sequences.{all}
 use Rattle.words.specs.Tests.{firstFailing}
 use Rattle.words.proofs.Booleans.{absurd-true, and-right, and-both}
@@ -21,11 +21,9 @@ use Rattle.tables.specs.Tables.{Tables}
 use Rattle.plans.specs.Endings.{Ending, rows, top, group}
 use Rattle.plans.specs.Plans.{Plan, planOf, hasForm, readPlan, variablesRight}
 use Rattle.steps.specs.Steps.{Run, after}
-use Rattle.steps.proofs.Values.{after-valued}
 use Rattle.lists.specs.Groups.{addGroups, groupsOf}
 use Rattle.lists.specs.Gathering.{gathered, merged, takenInto, listRight, groupFits, totalsFit}
-use Rattle.lists.proofs.Each.{Each, all-each}
-use Rattle.lists.proofs.EachMore.{each-weaken}
+use Rattle.lists.proofs.Each.{Each}
 use Rattle.lists.proofs.Values.{AllValues}
 use Rattle.lists.proofs.GroupLists.{groups-in-gathered, groups-append}
 use Rattle.lists.proofs.Gatherings.{Valid}
@@ -35,7 +33,7 @@ use Rattle.merges.proofs.Refusals.{Merges, merge-refusals}
 use Rattle.cuts.specs.Histories.{Event, Held, Served, stepsIn, mergeInputOf, history, fresh}
 use Rattle.cuts.specs.Premises.{Premises}
 use Rattle.cuts.specs.Uncut.{runList, runFits, NotTaken, totals-pass, no-room}
-use Rattle.cuts.proofs.Accepting.{Accepted, opening-accepts, accepted-gathering}
+use Rattle.cuts.proofs.Accepting.{Accepted, opening-accepts, accepted-gathering, accepted-values}
 use Rattle.cuts.proofs.Chains.{Piece, piece-adds}
 use Rattle.cuts.proofs.Turning.{Kept}
 use Rattle.cuts.proofs.Taking.{merged-taken, next-piece}
@@ -84,12 +82,6 @@ module _ (t : Tables) (plan : List ℕ) (a : Accepted t plan) (h : Held) (k : Ke
   abbrev q : Plan
   q = planOf plan
 
-  values : (n : ℕ) → AllValues (after t q n .delivered)
-  values n =
-      let row : Bindings → Bool = λ b. eqb (length b) variableCount && all isValue b in
-      each-weaken (λ (b : Bindings). and-right (eqb (length b) variableCount) (all isValue b)) (after t q n .delivered)
-      (all-each row (after t q n .delivered) (after-valued t q (a .tables) n))
-
   module _ (m : Merged (q .ending)) (x : Served) (rest : List Served) (waits : h .waiting ≡ x ∷ rest) (behind : List ℕ) where
     abbrev i : MergeInput
     i = mergeInputOf plan h behind x
@@ -98,7 +90,7 @@ module _ (t : Tables) (plan : List ℕ) (a : Accepted t plan) (h : Held) (k : Ke
     kept-right =
         ap (listRight (q .ending)) (k .list)
         ∙ valid-right (q .ending) m _
-        (accepted-gathering t plan a .valid [] (after t q (stepsIn (h .taken)) .delivered) (values (stepsIn (h .taken))))
+        (accepted-gathering t plan a .valid [] (after t q (stepsIn (h .taken)) .delivered) (accepted-values t plan a (stepsIn (h .taken))))
 
     abbrev n : ℕ
     n = stepsIn (h .taken)
@@ -112,7 +104,7 @@ module _ (t : Tables) (plan : List ℕ) (a : Accepted t plan) (h : Held) (k : Ke
         ∙ valid-right (q .ending) m _
         (accepted-gathering t plan a .valid (piece .threshold) (piece .rows)
         (each-later (λ (b : Bindings). all isValue b ≡ true) (after t q n .delivered) (piece .rows)
-        (subst AllValues (piece .more) (values (n + x .steps)))))
+        (subst AllValues (piece .more) (accepted-values t plan a (n + x .steps)))))
 
     -- the totals and the words of the result are the uncut run's up to the end of that turn
     totals-are : totalsFit (q .ending) (h .kept) (x .list) ≡ runFits (q .ending) (after t q (n + x .steps))

@@ -15,6 +15,7 @@ use Rattle.sparql.specs.Reading.{mappingOf, solutionsOf}
 use Rattle.sparql.specs.Answers.{Answer}
 use Rattle.sparql.proofs.Solutions.{solutions}
 use Rattle.sparql.proofs.Answered.{answered}
+use Rattle.queries.specs.declared.Keeping.the-variants.{All}
 use Rattle.queries.specs.declared.Played.the-variants as played
 use Rattle.queries.specs.Playing.{listAfter, Lent, Plays}
 
@@ -28,7 +29,7 @@ pub record PlayedOut (t : Tables) (plan before kept : List ℕ) (words : ℕ) : 
   pub rest : drop words kept ≡ drop words before
 
 pub played-out : (t : Tables) (plan : List ℕ) (quantum most : ℕ) (before after : Lent) (words : ℕ)
-    → Plays t plan quantum most before after (played.Finished words) → PlayedOut t plan (before .kept) (after .kept) words
+    → Plays All t plan quantum most before after (played.Finished words) → PlayedOut t plan (before .kept) (after .kept) words
 played-out t plan quantum most before after words p =
     let a = opening-accepts t plan (before .state) (p .0) in
     let n = p .1 .steps in

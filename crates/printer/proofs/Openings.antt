@@ -1,19 +1,17 @@
--- The plan of an opening that is served has the form.
+-- The plan of an opening that is served has the form, and its query opens.
 use Prim.Native.Nat.{ℕ}
-use native.Mathlib.Omega.{arith}
-use mathlib.Core.Path.{_≡_, sym, _∙_, ap}
+use mathlib.Core.Path.{_≡_, ap}
 use mathlib.Core.Bool.{true}
 use mathlib.Core.List.{List}
-use Rattle.words.specs.declared.Written.{Written}
-use Rattle.words.specs.declared.Written.the-variants.{Words}
 use Rattle.tables.specs.Tables.{Tables}
 use Rattle.plans.specs.Plans.{readPlan, hasForm}
-use Rattle.turns.specs.Opening.{Opened, openOf, Opens}
-use Rattle.cuts.proofs.Accepting.{opening-accepts}
+use Rattle.queries.specs.Playing.{Started}
+use Rattle.queries.proofs.Starting.{start-accepts}
+use Rattle.printer.specs.Shown.{CanOpen}
 
-pub opened-form : (t : Tables) (plan state left : List ℕ) (w : Written) (n : ℕ)
-    → record { answer = w; state = left } ≡ openOf t plan state → w ≡ Words n → hasForm (readPlan plan) ≡ true
-opened-form t plan state left w n e h =
-    let a : openOf t plan state .answer ≡ Words n = sym (ap (λ (r : Opened). r .answer) e) ∙ h in
-    let o : Opens t plan state = λ x f. let z : _≡_ {A = ℕ} 0 1 = cc in omega arith in
-    ap hasForm (opening-accepts t plan state o .read)
+module _ (t : Tables) (plan state : List ℕ) (saved : ℕ) (s : Started t plan state saved) where
+  pub started-form : hasForm (readPlan plan) ≡ true
+  started-form = ap hasForm (start-accepts t plan state saved s .read)
+
+  pub started-opens : CanOpen t plan
+  started-opens = (s .lent, s .opens)

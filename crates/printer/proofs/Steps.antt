@@ -1,40 +1,44 @@
--- A turn and its merge, as the printer uses them: the list that it prints lies in the output, and what is kept is whole.
-use Prim.Native.Nat.{ℕ, _%_, _≤_}
-use mathlib.Core.Path.{_≡_, sym, _∙_, ap}
-use mathlib.Core.List.{List}
-use lib.ListN.{length}
-use Rattle.plans.specs.declared.Last.the-variants.{Rows}
-use Rattle.lists.specs.Gathering.{width}
+-- A turn from where a query stands, as the printer uses it: what it leaves may be printed.
+use Prim.Native.Nat.{ℕ, _+_, _≤_}
+use native.Mathlib.Omega.{arith}
+use mathlib.Core.Path.{_≡_, ap, subst⁻¹}
+use mathlib.Core.List.{List, []}
+use lib.ListN.{length, take}
 use Rattle.turns.specs.declared.Turned.{Turned}
-use Rattle.turns.specs.Turns.{TurnInput, givenPlan, turnOf}
+use Rattle.turns.specs.Turns.{TurnInput, turnOf}
+use Rattle.cuts.proofs.Accepting.{opening-accepts}
+use Rattle.queries.specs.declared.Keeping.the-variants.{Merged}
 use Rattle.queries.specs.declared.Step.{Step}
-use Rattle.queries.specs.Stepping.{playTurnOf, wentOf}
+use Rattle.queries.specs.Stepping.{takeTurnOf, listOf}
+use Rattle.queries.specs.Playing.{Stands}
 use Rattle.queries.proofs.Taking.{step-turned, step-output}
-use Rattle.printer.specs.declared.Listing.{Listing}
-use Rattle.printer.specs.Listings.{ListsOf, Holds, keptIn}
-use Rattle.printer.proofs.Widths.{ending-form}
-use Rattle.printer.proofs.TurnLists.{listed-room, listed-whole}
-use Rattle.printer.proofs.KeptLists.{taken-holds, next-holds}
+use Rattle.queries.proofs.Showing.{shows}
+use Rattle.printer.specs.Shown.{CanOpen, Printed}
+use Rattle.printer.proofs.TurnLists.{none-listed, listed-room}
 
-module _ (i : TurnInput) (kept : List ℕ) (used : ℕ) (s : Step) (state out left : List ℕ)
-    (h : record { answer = s; state = state; output = out; kept = left } ≡ playTurnOf i kept used) where
-  turned : s .turned ≡ turnOf i .answer
-  turned = step-turned i kept used s state out left h
+module _ (i : TurnInput) (kept : List ℕ) (used : ℕ) (r : Step) (state out left : List ℕ)
+    (h : record { answer = r; state = state; output = out; kept = left } ≡ takeTurnOf Merged i kept used) where
+  turned-is : r .turned ≡ turnOf i .answer
+  turned-is = step-turned Merged i kept used r state out left h
 
-  pub list-room : s .turned .listed ≤ length out
-  list-room = listed-room i (s .turned) out turned (step-output i kept used s state out left h)
+  output-is : out ≡ turnOf i .output
+  output-is = step-output Merged i kept used r state out left h
 
-  module _ (lists : Listing) (l : ListsOf (i .plan) lists) where
-    of-ending : lists .width ≡ width (givenPlan i .ending)
-    of-ending = ap (λ (x : Listing). x .width) (l .1)
+  pub list-room : r .turned .listed ≤ length out
+  list-room = omega (arith, listed-room i, ap length output-is, ap (λ (x : Turned). x .listed) turned-is)
 
-    pub list-whole : lists .kind ≡ Rows → s .turned .listed % lists .width ≡ 0
-    list-whole e =
-        ap (λ (t : Turned). t .listed % lists .width) turned
-        ∙ rw of-ending (listed-whole i (sym (ap (λ (x : Listing). x .kind) (l .1)) ∙ e))
+  -- with no threshold, after so many turns
+  module _ (none-sent : i .threshold ≡ []) (made : ℕ) (o : CanOpen (i .tables) (i .plan))
+      (s : Stands (i .tables) (i .plan) (i .quantum) (length (i .output)) made (i .state) (i .given)) where
+    turn-printed : Printed (i .tables) (i .plan) (i .quantum) (length (i .output)) (made + 1) (turnOf i .answer) (listOf (turnOf i))
+    turn-printed =
+        record {
+          served = shows i (opening-accepts (i .tables) (i .plan) (o .0) (o .1)) none-sent made s;
+          refused = λ f. ap (λ n. take n (turnOf i .output)) (none-listed i f);
+        }
 
-    pub kept-holds : Holds (length kept) (lists .width) used → Holds (length left) (lists .width) (keptIn (wentOf s))
-    kept-holds k =
-        rw of-ending
-        (next-holds (length left) (width (givenPlan i .ending)) s
-        (taken-holds i kept used (ending-form (i .plan) (l .0)) (rw of-ending at k) s state out left h))
+    pub printed : length out ≡ length (i .output)
+        → Printed (i .tables) (i .plan) (i .quantum) (length out) (made + 1) (r .turned) (take (r .turned .listed) out)
+    printed e =
+        subst⁻¹ (λ n. Printed (i .tables) (i .plan) (i .quantum) n (made + 1) (r .turned) (take (r .turned .listed) out)) e
+        (rw (turned-is, output-is) turn-printed)

@@ -1,15 +1,17 @@
--- A turn's list lies in its output; that of a row query is whole rows.
+-- A turn's list lies in its output; what may be printed of a row query's turn is whole rows.
 use Prim.Native.Nat.{ℕ, _%_, _≤_}
 use native.Mathlib.Omega.{arith}
 use native.Mathlib.Nat.{zero-mod, mul-mod-left}
 use mathlib.Core.Path.{_≡_, refl, sym, _∙_, ap}
-use mathlib.Core.Option.{Option, none, some}
+use mathlib.Core.Bool.{Bool, true, false}
 use mathlib.Core.List.{List, map}
 use lib.ListN.{length}
 use Rattle.words.specs.Bindings.{Bindings}
-use Rattle.words.specs.Tests.{firstFailing}
+use Rattle.words.proofs.Booleans.{absurd-true}
+use Rattle.tables.specs.Tables.{Tables}
 use Rattle.plans.specs.declared.Last.the-variants.{Rows}
 use Rattle.plans.specs.Endings.{Ending, rows, top, group}
+use Rattle.plans.specs.Plans.{planOf}
 use Rattle.plans.specs.Reading.{lastIn}
 use Rattle.lists.specs.Rows.{project}
 use Rattle.lists.specs.Gathering.{width, gathered}
@@ -17,23 +19,30 @@ use Rattle.lists.proofs.Records.{wide-project, length-flatten}
 use Rattle.turns.specs.declared.TurnEnding.{TurnEnding}
 use Rattle.turns.specs.declared.TurnEnding.the-variants.{Done, Spent, Full, Refused}
 use Rattle.turns.specs.declared.Turned.{Turned}
-use Rattle.turns.specs.Turns.{TurnInput, Progress, going, stopped, givenPlan, turnedAs, finished, served, turnTests, turnOf}
+use Rattle.turns.specs.Turns.{TurnInput, turnOf}
 use Rattle.turns.proofs.Refusals.{turn-refusals}
 use Rattle.queries.specs.Stepping.{isServed}
 use Rattle.queries.proofs.Taking.{served-room}
+use Rattle.printer.specs.Shown.{Printed}
 
 -- ---- it lies in its output
-module _ (i : TurnInput) (r : Turned) (out : List ℕ) (er : r ≡ turnOf i .answer) (eo : out ≡ turnOf i .output) where
-  by-ending : (e : TurnEnding) → r .ending ≡ e → r .listed ≤ length out
-  by-ending Done p = served-room i r out er eo (ap isServed p)
-  by-ending Spent p = served-room i r out er eo (ap isServed p)
-  by-ending Full p = served-room i r out er eo (ap isServed p)
-  by-ending (Refused x) p =
-      let q : turnOf i .answer .ending ≡ Refused x = sym (ap (λ (t : Turned). t .ending) er) ∙ p in
-      omega (arith, turn-refusals i .unchanged x q .listed, ap (λ (t : Turned). t .listed) er)
+module _ (i : TurnInput) where
+  -- that of a refused turn has no words
+  refused-listed : (e : TurnEnding) → turnOf i .answer .ending ≡ e → isServed e ≡ false → turnOf i .answer .listed ≡ 0
+  refused-listed (Refused x) p f = turn-refusals i .unchanged x p .listed
+  refused-listed Done p f = absurd-true refl f
+  refused-listed Spent p f = absurd-true refl f
+  refused-listed Full p f = absurd-true refl f
 
-  pub listed-room : r .listed ≤ length out
-  listed-room = by-ending (r .ending) refl
+  pub none-listed : isServed (turnOf i .answer .ending) ≡ false → turnOf i .answer .listed ≡ 0
+  none-listed f = refused-listed (turnOf i .answer .ending) refl f
+
+  by-serving : (b : Bool) → isServed (turnOf i .answer .ending) ≡ b → turnOf i .answer .listed ≤ length (turnOf i .output)
+  by-serving true p = served-room i (turnOf i .answer) (turnOf i .output) refl refl p
+  by-serving false p = omega (arith, none-listed p)
+
+  pub listed-room : turnOf i .answer .listed ≤ length (turnOf i .output)
+  listed-room = by-serving (isServed (turnOf i .answer .ending)) refl
 
 -- ---- and is whole rows
 rows-whole : (e : Ending) → lastIn e ≡ Rows → (threshold : List ℕ) (bs : List Bindings) → length (gathered e threshold bs) % width e ≡ 0
@@ -43,15 +52,14 @@ rows-whole (rows vs) h threshold bs =
 rows-whole (top k vs keys) h threshold bs = let z : _≡_ {A = ℕ} 0 1 = cc in absurd (omega arith)
 rows-whole (group vs m) h threshold bs = let z : _≡_ {A = ℕ} 0 1 = cc in absurd (omega arith)
 
-module _ (i : TurnInput) (h : lastIn (givenPlan i .ending) ≡ Rows) where
-  by-progress : (p : Progress) → finished i p .answer .listed % width (givenPlan i .ending) ≡ 0
-  by-progress (going n s bs) = rows-whole (givenPlan i .ending) h (i .threshold) bs
-  by-progress (stopped e n s bs) = rows-whole (givenPlan i .ending) h (i .threshold) bs
+module _ (t : Tables) (plan : List ℕ) (quantum room number : ℕ) (turned : Turned) (list : List ℕ)
+    (p : Printed t plan quantum room number turned list) (h : lastIn (planOf plan .ending) ≡ Rows) where
+  abbrev wide : ℕ
+  wide = width (planOf plan .ending)
 
-  by-tests : (o : Option ℕ) → turnedAs i o .answer .listed % width (givenPlan i .ending) ≡ 0
-  by-tests none = by-progress (served i)
-  by-tests (some n) = zero-mod (width (givenPlan i .ending))
+  by-ending : (b : Bool) → isServed (turned .ending) ≡ b → length list % wide ≡ 0
+  by-ending true f = ap (λ l. length l % wide) (p .served f .listed) ∙ rows-whole (planOf plan .ending) h _ _
+  by-ending false f = ap (λ l. length l % wide) (p .refused f) ∙ zero-mod wide
 
-  pub listed-whole : turnOf i .answer .listed % width (givenPlan i .ending) ≡ 0
-  unfolding turnOf
-  listed-whole = by-tests (firstFailing (turnTests i))
+  pub printed-whole : length list % wide ≡ 0
+  printed-whole = by-ending (isServed (turned .ending)) refl

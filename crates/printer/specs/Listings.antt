@@ -1,4 +1,4 @@
--- What the printer knows of a plan's lists: what they hold, in how many words, and how many words of the kept one are used.
+-- What the printer knows of a plan's lists: what they hold, and in how many words.
 -- Assumes nothing: these are definitions.
 use Prim.Native.Nat.{ℕ, _+_, _%_, _≤_}
 use mathlib.Core.Path.{_≡_}
@@ -11,8 +11,6 @@ use Rattle.plans.specs.Plans.{readPlan, hasForm, planOf}
 use Rattle.plans.specs.Reading.{lastIn}
 use Rattle.lists.specs.Groups.{totalsWidth}
 use Rattle.lists.specs.Gathering.{width}
-use Rattle.queries.specs.declared.Went.{Went}
-use Rattle.queries.specs.declared.Went.the-variants.{On, Over, Stopped}
 use Rattle.printer.specs.declared.Listing.{Listing}
 
 -- what the lists of an ending hold
@@ -45,14 +43,3 @@ HasWidth Rows n = IsRow n
 HasWidth Top n = IsRow n
 HasWidth Group n = IsRecord n
 HasWidth Neither n = ⊥
-
--- ---- the kept list
--- so many words: within its buffer, and whole rows or records
-abbrev pub Holds : ℕ → ℕ → ℕ → Type 0
-Holds room wide used = (used ≤ room) × (used % wide ≡ 0)
-
--- the words that it has after a turn, none where the query is stopped
-abbrev pub keptIn : Went → ℕ
-keptIn (On saved used) = used
-keptIn (Over used) = used
-keptIn (Stopped x) = 0

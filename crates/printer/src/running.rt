@@ -1,22 +1,30 @@
-// An opened query: its turns until it is done, each printed, and then its merged list.
+// An opened query: its turns until it is done, each printed, and then its merged list. What is printed of them is the uncut run's.
 use crate::Listing;
 use crate::lines::TOTALS_WIDTH;
 use crate::lines::print_list;
 use crate::lines::print_refused;
 use crate::lines::print_turn;
 use plans::Last;
-use queries::Step;
+use queries::Keeping;
+use queries::Played;
 use queries::Went;
+use turns::Turned;
 use words::Written;
 ghost use mathlib.Core.Path.{_≡_};
 ghost use mathlib.Core.Bool.{true};
-ghost use Prim.Native.Nat.{_≤_, _%_};
+ghost use mathlib.Core.List.{[]};
+ghost use Prim.Native.Nat.{_≤_, _<_, _%_};
 ghost use lib.ListN.{length};
+ghost use Rattle.tables.specs.Tables.{tablesOf};
 ghost use Rattle.plans.specs.declared.Last.the-variants.{Rows};
 ghost use Rattle.plans.specs.Endings.{mostRowVariables};
 ghost use Rattle.plans.specs.Plans.{readPlan, hasForm, planOf};
-ghost use Rattle.queries.specs.Stepping.{wentOf};
-ghost use Rattle.printer.specs.Listings.{listingOf, ListsOf, widthOf, HasWidth, Holds, keptIn};
+ghost use Rattle.turns.specs.Turns.{turnInput};
+ghost use Rattle.queries.specs.declared.Keeping.the-variants.{Merged};
+ghost use Rattle.queries.specs.Stepping.{takeTurnOf, Advances};
+ghost use Rattle.queries.specs.Playing.{Stands, Started, Leaves, IsWhole};
+ghost use Rattle.printer.specs.Listings.{listingOf, ListsOf, widthOf, HasWidth};
+ghost use Rattle.printer.specs.Shown.{mostTurns, CanOpen, Printed, EndsWhole};
 
 // The rows or records that the output holds.
 pub const OUTPUT_RECORDS: usize = 64;
@@ -73,16 +81,28 @@ fn print_taken(taken: Written) {
     }
 }
 
-// How the query goes on after a turn.
-fn next_of(step: Step) -> Went
-    ensures { λ r. ⌜ r ≡ wentOf step ⌝ }
+// A turn's line, and the rows that it delivered. The tables, the plan, the quantum and the output's room are here to say that they are those of
+// the uncut run's turn with that number.
+fn print_shown(
+    rows: &[u32],
+    pos: &[u32],
+    osp: &[u32],
+    plan: &[u32],
+    quantum: u32,
+    room: usize,
+    number: u64,
+    turned: Turned,
+    list: &[u32],
+    lists: Listing,
+)
+    requires { ⌜ ListsOf (now plan) lists ⌝ }
+    requires { ⌜ Printed (tablesOf (now rows) (now pos) (now osp)) (now plan) quantum room number turned (now list) ⌝ }
 {
-    let taken = step.taken;
-    print_taken(taken);
-    queries::outcome(step)
+    print_turn(number, turned);
+    print_delivered(lists, list);
 }
 
-// One turn and its list, printed.
+// One turn and its list, printed, from where a query stands after so many turns.
 fn print_step(
     rows: &[u32],
     pos: &[u32],
@@ -95,13 +115,14 @@ fn print_step(
     kept: &mut [u32],
     used: usize,
     lists: Listing,
-    number: u64,
+    made: u64,
 ) -> Went
     requires { ⌜ ListsOf (now plan) lists ⌝ }
-    requires { ⌜ Holds (length (now kept)) (lists .width) used ⌝ }
-    ensures { λ r. ⌜ Holds (length (now (kept .exit))) (lists .width) (keptIn r) ⌝ }
+    requires { ⌜ CanOpen (tablesOf (now rows) (now pos) (now osp)) (now plan) ⌝ }
+    requires { ⌜ (made < mostTurns) × Stands (tablesOf (now rows) (now pos) (now osp)) (now plan) quantum (length (now output)) made (now state) saved ⌝ }
+    ensures { λ r. ⌜ Advances (takeTurnOf Merged (turnInput (now (rows .entry)) (now (pos .entry)) (now (osp .entry)) (now (plan .entry)) (now (state .entry)) saved quantum [] (now (output .entry))) (now (kept .entry)) used) (now (state .exit)) (now (kept .exit)) r ⌝ }
 {
-    let step = queries::play_turn(
+    let step = queries::take_turn(
         rows,
         pos,
         osp,
@@ -112,15 +133,30 @@ fn print_step(
         output,
         kept,
         used,
+        Keeping::Merged,
     );
     let turned = step.turned;
+    let taken = step.taken;
     let listed = turned.listed;
-    print_turn(number, turned);
-    print_delivered(lists, &output[..listed]);
-    next_of(step)
+    let room = output.len();
+    let number = made + 1;
+    print_shown(
+        rows,
+        pos,
+        osp,
+        plan,
+        quantum,
+        room,
+        number,
+        turned,
+        &output[..listed],
+        lists,
+    );
+    print_taken(taken);
+    queries::outcome(step)
 }
 
-// The turns from an opening's state on, and the merged list; that of a row query is empty.
+// The turns from an opening's state on, each printed: the loop of `queries::play`, with the rows of a turn printed where that keeps them.
 fn go_on(
     rows: &[u32],
     pos: &[u32],
@@ -132,14 +168,15 @@ fn go_on(
     output: &mut [u32],
     kept: &mut [u32],
     lists: Listing,
-)
+) -> Played
     requires { ⌜ ListsOf (now plan) lists ⌝ }
+    requires { ⌜ Started (tablesOf (now rows) (now pos) (now osp)) (now plan) (now state) opened ⌝ }
+    ensures { λ r. ⌜ Leaves Merged (tablesOf (now (rows .entry)) (now (pos .entry)) (now (osp .entry))) (now (plan .entry)) quantum mostTurns (length (now (output .entry))) (now (kept .entry)) (now (state .exit)) (now (kept .exit)) r ⌝ }
 {
     let mut saved = opened;
     let mut used: usize = 0;
-    let mut number: u64 = 0;
-    while number < MOST_TURNS {
-        number += 1;
+    let mut made: u64 = 0;
+    while made < MOST_TURNS {
         let went = print_step(
             rows,
             pos,
@@ -152,19 +189,53 @@ fn go_on(
             kept,
             used,
             lists,
-            number,
+            made,
         );
         match went {
             Went::On { saved: left, words } => {
                 saved = left;
                 used = words;
+                made += 1;
             }
-            Went::Over(words) => {
-                print_list(lists, &kept[..words]);
-                return;
-            }
-            Went::Stopped(_) => return,
+            Went::Over(words) => return Played::Finished(words),
+            Went::Stopped(x) => return Played::Refused(x),
         }
+    }
+    Played::Unfinished {
+        saved: saved,
+        words: used,
+    }
+}
+
+// The merged list of a finished query. The tables and the plan are here to say that it is the whole list of the uncut run.
+fn print_whole(rows: &[u32], pos: &[u32], osp: &[u32], plan: &[u32], list: &[u32], lists: Listing)
+    requires { ⌜ ListsOf (now plan) lists ⌝ }
+    requires { ⌜ CanOpen (tablesOf (now rows) (now pos) (now osp)) (now plan) ⌝ }
+    requires { ⌜ IsWhole Merged (tablesOf (now rows) (now pos) (now osp)) (now plan) (now list) ⌝ }
+{
+    print_list(lists, list);
+}
+
+// What is printed of a query after its turns: where it is finished, its merged list; that of a row query is empty.
+fn print_played(
+    rows: &[u32],
+    pos: &[u32],
+    osp: &[u32],
+    plan: &[u32],
+    kept: &[u32],
+    played: Played,
+    lists: Listing,
+)
+    requires { ⌜ ListsOf (now plan) lists ⌝ }
+    requires { ⌜ CanOpen (tablesOf (now rows) (now pos) (now osp)) (now plan) ⌝ }
+    requires { ⌜ EndsWhole (tablesOf (now rows) (now pos) (now osp)) (now plan) (now kept) played ⌝ }
+{
+    match played {
+        Played::Finished(words) => {
+            print_whole(rows, pos, osp, plan, &kept[..words], lists);
+        }
+        Played::Unfinished { saved: _, words: _ } => {}
+        Played::Refused(_) => {}
     }
 }
 
@@ -178,13 +249,13 @@ pub fn run(
     state: &mut [u32; 9],
     opened: usize,
 )
-    requires { ⌜ hasForm (readPlan (now plan)) ≡ true ⌝ }
+    requires { ⌜ Started (tablesOf (now rows) (now pos) (now osp)) (now plan) (now state) opened ⌝ }
 {
     let lists = lists_of(plan);
     let room = OUTPUT_RECORDS * lists.width;
     let mut output = [0u32; 1024];
     let mut kept = [0u32; 8192];
-    go_on(
+    let played = go_on(
         rows,
         pos,
         osp,
@@ -196,4 +267,5 @@ pub fn run(
         &mut kept,
         lists,
     );
+    print_played(rows, pos, osp, plan, &kept, played, lists);
 }

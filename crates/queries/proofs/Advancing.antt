@@ -2,7 +2,7 @@
 use Prim.Native.Nat.{ℕ, _+_, _≤_}
 use native.Mathlib.Omega.{arith}
 use mathlib.Core.Path.{_≡_, refl, sym, _∙_, ap, ap₂, subst, subst⁻¹}
-use mathlib.Core.Bool.{Bool, true, false}
+use mathlib.Core.Bool.{Bool, true, false, cond}
 use mathlib.Core.Option.{Option, none, some}
 use mathlib.Core.List.{List, [], _∷_, _++_, append-assoc, append-nil}
 use lib.ListN.{length, take, drop, length-append, take-append-drop}
@@ -34,7 +34,8 @@ use Rattle.cuts.proofs.Turning.{Kept}
 use Rattle.cuts.proofs.Taking.{next-piece}
 use Rattle.cuts.proofs.AnyCut.{history-keeps, as-uncut}
 use Rattle.cuts.proofs.States.{Passed}
-use Rattle.queries.specs.Stepping.{isServed}
+use Rattle.queries.specs.declared.Keeping.{Keeping}
+use Rattle.queries.specs.Stepping.{isServed, keeps, keptOf}
 use Rattle.queries.specs.Playing.{UnderWay}
 use Rattle.queries.proofs.Taking.{is-served}
 
@@ -73,7 +74,7 @@ served-after h quantum r ending.Full f = refl
 served-after h quantum r (ending.Refused x) f = absurd-true f refl
 
 -- no words are no state's
-some-words : (o : Option State) → ¬ (savedWords o ≡ []) → (s : State) × (o ≡ some s)
+pub some-words : (o : Option State) → ¬ (savedWords o ≡ []) → (s : State) × (o ≡ some s)
 some-words none f = absurd (f refl)
 some-words (some s) f = (s, refl)
 
@@ -85,11 +86,20 @@ pub no-elements : {A : Type 0} (xs : List A) → length xs ≡ 0 → xs ≡ []
 no-elements [] e = refl
 no-elements (x ∷ xs) e = absurd (omega arith)
 
-module _ (t : Tables) (plan : List ℕ) (a : Accepted t plan) (first : Held) (k : Kept t (planOf plan) first) (before : List ℕ) where
+-- of a longer list no less is kept
+kept-longer : (b : Bool) (xs ys : List ℕ) → length xs ≤ length ys → length (cond b xs []) ≤ length (cond b ys [])
+kept-longer true xs ys l = l
+kept-longer false xs ys l = omega arith
+
+module _ (keep : Keeping) (t : Tables) (plan : List ℕ) (a : Accepted t plan) (first : Held) (k : Kept t (planOf plan) first) (before : List ℕ) where
   abbrev q : Plan
   q = planOf plan
 
-  module _ (count : ℕ) (state : List ℕ) (saved : ℕ) (kept : List ℕ) (used : ℕ) (u : UnderWay t plan first before count state saved kept used) where
+  -- what is kept of a list
+  abbrev part : List ℕ → List ℕ
+  part = keptOf keep (q .ending)
+
+  module _ (count : ℕ) (state : List ℕ) (saved : ℕ) (kept : List ℕ) (used : ℕ) (u : UnderWay keep t plan first before count state saved kept used) where
     abbrev h : Held
     h = u .held
 
@@ -103,14 +113,14 @@ module _ (t : Tables) (plan : List ℕ) (a : Accepted t plan) (first : Held) (k 
     pub all-taken : servedIn h ≡ h .taken
     all-taken = ap (λ l. h .taken ++ l) (u .taken) ∙ append-nil (h .taken)
 
-    pub kept-front : take used kept ≡ h .kept
-    kept-front = ap₂ take (u .words) (u .list) ∙ take-over (h .kept) before
+    pub kept-front : take used kept ≡ part (h .kept)
+    kept-front = ap₂ take (u .words) (u .list) ∙ take-over (part (h .kept)) before
 
-    pub kept-whole : h .kept ++ drop used kept ≡ kept
+    pub kept-whole : part (h .kept) ++ drop used kept ≡ kept
     kept-whole = ap (λ l. l ++ drop used kept) (sym kept-front) ∙ take-append-drop used kept
 
     pub kept-length : length kept ≡ length before
-    kept-length = ap length (u .list) ∙ length-over (h .kept) before (omega (arith, u .words, u .room))
+    kept-length = ap length (u .list) ∙ length-over (part (h .kept)) before (omega (arith, u .words, u .room))
 
     module _ (quantum : ℕ) (output : List ℕ) where
       abbrev i : TurnInput
@@ -189,14 +199,15 @@ module _ (t : Tables) (plan : List ℕ) (a : Accepted t plan) (first : Held) (k 
           pub now-list : list ≡ runList (q .ending) (after t q (stepsIn (h .taken) + x .steps))
           now-list = now-keeps .list ∙ ap (λ d. runList (q .ending) (after t q d)) (steps-more (h .taken) x)
 
-          pub no-shorter : length (h .kept) ≤ length list
+          pub no-shorter : length (part (h .kept)) ≤ length (part list)
           no-shorter =
               let rows = after t q (stepsIn (h .taken)) .delivered in
               let new : list ≡ gathered (q .ending) [] (rows ++ piece .rows) = now-list ∙ ap (gathered (q .ending) []) (piece .more) in
-              omega (arith, ap length new, ap length (held-keeps .list), longer-by (q .ending) (list-grows t plan a) rows (piece .rows))
+              kept-longer (keeps keep (q .ending)) (h .kept) list
+              (omega (arith, ap length new, ap length (held-keeps .list), longer-by (q .ending) (list-grows t plan a) rows (piece .rows)))
 
           module _ (fits : runFits (q .ending) (after t q (stepsIn (h .taken) + x .steps)) ≡ true)
-              (new : List ℕ) (words : ℕ) (whole : new ≡ over list kept) (counted : words ≡ length list) (room : words ≤ length kept) where
+              (new : List ℕ) (words : ℕ) (whole : new ≡ over (part list) kept) (counted : words ≡ length (part list)) (room : words ≤ length kept) where
             -- done was answered exactly by a turn that was done
             done-then : ¬ (saved ≡ 0) → doneIn (servedIn now) ≡ isDone (turnOf i .answer .ending)
             done-then f =
@@ -205,7 +216,7 @@ module _ (t : Tables) (plan : List ℕ) (a : Accepted t plan) (first : Held) (k 
                 ap doneIn (append-nil (h .taken ++ (x ∷ [])))
                 ∙ done-more (h .taken) x (ap doneIn (sym all-taken) ∙ going)
 
-            pub goes-on : ¬ (saved ≡ 0) → (v : UnderWay t plan first before (count + 1) (turnOf i .state) (turnOf i .answer .saved) new words)
+            pub goes-on : ¬ (saved ≡ 0) → (v : UnderWay keep t plan first before (count + 1) (turnOf i .state) (turnOf i .answer .saved) new words)
                 × (doneIn (servedIn (v .held)) ≡ isDone (turnOf i .answer .ending))
                 × (stepsIn (v .held .taken) ≡ stepsIn (h .taken) + x .steps)
             goes-on f =
@@ -221,7 +232,7 @@ module _ (t : Tables) (plan : List ℕ) (a : Accepted t plan) (first : Held) (k 
                     state-count = s .state .counted ∙ ap length (sym (s .state .front));
                     state-room = omega (arith, keeps-lengths i (is-served i served) .state, u .state-room);
                     fits = ap (λ d. runFits (q .ending) (after t q d)) (steps-more (h .taken) x) ∙ fits;
-                    list = whole ∙ over-over list (h .kept) before kept no-shorter (u .list);
+                    list = whole ∙ over-over (part list) (part (h .kept)) before kept no-shorter (u .list);
                     words = counted;
                     room = omega (arith, kept-length, room);
                   },

@@ -19,9 +19,11 @@ use Rattle.steps.proofs.Runs.{after-none}
 use Rattle.turns.specs.Opening.{Opens}
 use Rattle.cuts.specs.Uncut.{EndsAt, runFits, NotTaken, totals-pass, no-room}
 use Rattle.cuts.proofs.Accepting.{Accepted, opening-accepts}
+use Rattle.queries.specs.declared.Keeping.{Keeping}
 use Rattle.queries.specs.declared.Played.{Played}
 use Rattle.queries.specs.declared.Played.the-variants.{Finished, Unfinished, Refused}
-use Rattle.queries.specs.Playing.{listAfter, Holds, Sized, Turns, none-made, one-more, Finishes, Pauses, Cause, output-short, quantum-wrong}
+use Rattle.queries.specs.Stepping.{keeps}
+use Rattle.queries.specs.Playing.{listAfter, keptAfter, Holds, Sized, Turns, none-made, one-more, Finishes, Pauses, Cause, output-short, quantum-wrong}
 use Rattle.queries.specs.Playing.{list-left, Stops, Leaves, Lent, NotOpened, Plays}
 use Rattle.queries.proofs.Room.{rows-later, no-shorter}
 use Rattle.queries.proofs.Totals.{fits-first}
@@ -45,7 +47,7 @@ refused-once t q steps room x y (totals-pass f) (no-room g l) = absurd-true g f
 refused-once t q steps room x y (no-room f l) (totals-pass g) = absurd-true f g
 refused-once t q steps room x y (no-room f l) (no-room g k) = refl
 
-module _ (t : Tables) (plan : List ℕ) (a : Accepted t plan) (quantum room : ℕ) (before : List ℕ) where
+module _ (keep : Keeping) (t : Tables) (plan : List ℕ) (a : Accepted t plan) (quantum room : ℕ) (before : List ℕ) where
   abbrev q : Plan
   q = planOf plan
 
@@ -53,7 +55,7 @@ module _ (t : Tables) (plan : List ℕ) (a : Accepted t plan) (quantum room : �
   Made c n = Turns t plan quantum room c n
 
   abbrev For : ℕ → ℕ → Type 0
-  For steps x = Cause t plan quantum room before steps x
+  For steps x = Cause keep t plan quantum room before steps x
 
   -- tests 7 and 8 pass of each turn that was made
   made-sized : (c n : ℕ) → Made c n → 0 < c → Sized plan quantum room
@@ -61,27 +63,30 @@ module _ (t : Tables) (plan : List ℕ) (a : Accepted t plan) (quantum room : �
   made-sized c n (one-more k from to ts x) l = x .sized
 
   -- a list that holds has no list up to an earlier step that is not taken
-  all-taken : (m n : ℕ) → m ≤ n → (kept : List ℕ) (words : ℕ) → Holds t plan n before kept words → (x : ℕ) → NotTaken t q m (length before) x → ⊥
-  all-taken m n l kept words h x c =
+  all-taken : keeps keep (q .ending) ≡ true → (m n : ℕ) → m ≤ n → (kept : List ℕ) (words : ℕ) → Holds keep t plan n before kept words → (x : ℕ) → NotTaken t q m (length before) x → ⊥
+  all-taken b m n l kept words h x c =
       let d : m + (n - m) ≡ n = omega arith in
       let more = rows-later t plan a m (n - m) in
       let fits = fits-first (q .ending) (after t q m) (after t q n) (more .0) (ap (λ j. after t q j .delivered) (sym d) ∙ more .1) (h .fits) in
       let long = no-shorter t plan a m (n - m) in
-      go fits (omega (arith, long, ap (λ j. length (listAfter t plan j)) d, h .counted, h .room)) x c
+      go fits (omega (arith, long, ap (λ j. length (listAfter t plan j)) d, h .counted, ap length (all-kept n), h .room)) x c
     where
+      all-kept : (j : ℕ) → keptAfter keep t plan j ≡ listAfter t plan j
+      all-kept j = rw b
+
       go : runFits (q .ending) (after t q m) ≡ true → length (listAfter t plan m) ≤ length before → (y : ℕ) → NotTaken t q m (length before) y → ⊥
       go f r y (totals-pass p) = absurd-true f p
       go f r y (no-room p k) = omega arith
 
   -- where a cause stops a play, no more turns are made and taken
-  not-stopped : (c m y : ℕ) → Made c m → For m y → (d n : ℕ) → Made d n → c < d → (kept : List ℕ) (words : ℕ) → Holds t plan n before kept words → ⊥
+  not-stopped : (c m y : ℕ) → Made c m → For m y → (d n : ℕ) → Made d n → c < d → (kept : List ℕ) (words : ℕ) → Holds keep t plan n before kept words → ⊥
   not-stopped c m y ts (output-short l) d n us f kept words h = let z = made-sized d n us (omega arith) in omega (arith, z .output)
   not-stopped c m y ts (quantum-wrong l g) d n us f kept words h =
       let z = made-sized d n us (omega arith) in
       g (z .least, z .most)
-  not-stopped c m y ts (list-left later x y₁ p) d n us f kept words h =
+  not-stopped c m y ts (list-left b later x y₁ p) d n us f kept words h =
       let l = turns-grow t plan a quantum room (c + 1) d later n (one-more c m later ts x) us (omega arith) in
-      all-taken later n l kept words h y₁ p
+      all-taken b later n l kept words h y₁ p
 
   -- the run does not end before the first turn
   some-turn : (c m : ℕ) → Made c m → EndsAt t q m → 0 < c
@@ -90,7 +95,7 @@ module _ (t : Tables) (plan : List ℕ) (a : Accepted t plan) (quantum room : �
 
   -- and at the end of the run none does
   none-at-end : (c m y : ℕ) → Made c m → EndsAt t q m → For m y → ⊥
-  none-at-end c m y ts e (list-left later x y₁ p) = not-past t plan a quantum room m m later e (x .further) x
+  none-at-end c m y ts e (list-left b later x y₁ p) = not-past t plan a quantum room m m later e (x .further) x
   none-at-end c m y ts e (output-short l) = let z = made-sized c m ts (some-turn c m ts e) in omega (arith, z .output)
   none-at-end c m y ts e (quantum-wrong l g) =
       let z = made-sized c m ts (some-turn c m ts e) in
@@ -99,37 +104,37 @@ module _ (t : Tables) (plan : List ℕ) (a : Accepted t plan) (quantum room : �
   cause-once : (m x y : ℕ) → For m x → For m y → x ≡ y
   cause-once m x y (output-short l) (output-short k) = refl
   cause-once m x y (output-short l) (quantum-wrong k g) = absurd (omega arith)
-  cause-once m x y (output-short l) (list-left later z y₁ p) = absurd (omega (arith, z .sized .output))
+  cause-once m x y (output-short l) (list-left c later z y₁ p) = absurd (omega (arith, z .sized .output))
   cause-once m x y (quantum-wrong l g) (output-short k) = absurd (omega arith)
   cause-once m x y (quantum-wrong l g) (quantum-wrong k h) = refl
-  cause-once m x y (quantum-wrong l g) (list-left later z y₁ p) = absurd (g (z .sized .least, z .sized .most))
-  cause-once m x y (list-left later z x₁ p) (output-short k) = absurd (omega (arith, z .sized .output))
-  cause-once m x y (list-left later z x₁ p) (quantum-wrong k g) = absurd (g (z .sized .least, z .sized .most))
-  cause-once m x y (list-left later z x₁ p) (list-left later₁ z₁ y₁ r) =
+  cause-once m x y (quantum-wrong l g) (list-left c later z y₁ p) = absurd (g (z .sized .least, z .sized .most))
+  cause-once m x y (list-left c later z x₁ p) (output-short k) = absurd (omega (arith, z .sized .output))
+  cause-once m x y (list-left c later z x₁ p) (quantum-wrong k g) = absurd (g (z .sized .least, z .sized .most))
+  cause-once m x y (list-left c later z x₁ p) (list-left c₁ later₁ z₁ y₁ r) =
       let e : later ≡ later₁ = turn-once t plan a quantum room m later later₁ z z₁ in
       refused-once t q later₁ (length before) x₁ y₁ (subst (λ n. NotTaken t q n (length before) x₁) e p) r
 
   -- ---- two plays
   module _ (most : ℕ) where
-    same-list : (m n : ℕ) → m ≡ n → (kept kept₁ : List ℕ) (words words₁ : ℕ) → Holds t plan m before kept words → Holds t plan n before kept₁ words₁
+    same-list : (m n : ℕ) → m ≡ n → (kept kept₁ : List ℕ) (words words₁ : ℕ) → Holds keep t plan m before kept words → Holds keep t plan n before kept₁ words₁
         → (words ≡ words₁) × (kept ≡ kept₁)
     same-list m n e kept kept₁ words words₁ h k = (
-      h .counted ∙ ap (λ j. length (listAfter t plan j)) e ∙ sym (k .counted),
-      h .whole ∙ ap (λ j. over (listAfter t plan j) before) e ∙ sym (k .whole),
+      h .counted ∙ ap (λ j. length (keptAfter keep t plan j)) e ∙ sym (k .counted),
+      h .whole ∙ ap (λ j. over (keptAfter keep t plan j) before) e ∙ sym (k .whole),
     )
 
-    finished-or-paused : (kept : List ℕ) (words : ℕ) → Finishes t plan quantum most room before kept words
-        → (state kept₁ : List ℕ) (saved words₁ : ℕ) → Pauses t plan quantum most room before state kept₁ saved words₁ → ⊥
+    finished-or-paused : (kept : List ℕ) (words : ℕ) → Finishes keep t plan quantum most room before kept words
+        → (state kept₁ : List ℕ) (saved words₁ : ℕ) → Pauses keep t plan quantum most room before state kept₁ saved words₁ → ⊥
     finished-or-paused kept words f state kept₁ saved words₁ p =
         elim (decLt (f .count) most) [
-          | yes l ↦ no-further t plan a quantum room (f .count) most (f .steps) (p .steps) (f .made) (f .ends) (p .made) l
+          | yes l ↦ no-further t plan a quantum room (f .count) most (f .steps) (p .stands .steps) (f .made) (f .ends) (p .stands .made) l
           | no l ↦
-              let e = turns-once t plan a quantum room most (f .count) (p .steps) (f .steps) (p .made) (f .made) (omega (arith, f .allowed)) in
-              p .going (ap (λ n. after t q n .state) e ∙ f .ends .over)
+              let e = turns-once t plan a quantum room most (f .count) (p .stands .steps) (f .steps) (p .stands .made) (f .made) (omega (arith, f .allowed)) in
+              p .stands .going (ap (λ n. after t q n .state) e ∙ f .ends .over)
         ]
 
-    finished-or-stopped : (kept : List ℕ) (words : ℕ) → Finishes t plan quantum most room before kept words
-        → (kept₁ : List ℕ) (x : ℕ) → Stops t plan quantum most room before kept₁ x → ⊥
+    finished-or-stopped : (kept : List ℕ) (words : ℕ) → Finishes keep t plan quantum most room before kept words
+        → (kept₁ : List ℕ) (x : ℕ) → Stops keep t plan quantum most room before kept₁ x → ⊥
     finished-or-stopped kept words f kept₁ x s =
         elim (decLt (s .count) (f .count)) [
           | yes l ↦ not-stopped (s .count) (s .steps) x (s .made) (s .cause) (f .count) (f .steps) (f .made) l kept words (f .list)
@@ -141,12 +146,12 @@ module _ (t : Tables) (plan : List ℕ) (a : Accepted t plan) (quantum room : �
           ]
         ]
 
-    paused-or-stopped : (state kept : List ℕ) (saved words : ℕ) → Pauses t plan quantum most room before state kept saved words
-        → (kept₁ : List ℕ) (x : ℕ) → Stops t plan quantum most room before kept₁ x → ⊥
+    paused-or-stopped : (state kept : List ℕ) (saved words : ℕ) → Pauses keep t plan quantum most room before state kept saved words
+        → (kept₁ : List ℕ) (x : ℕ) → Stops keep t plan quantum most room before kept₁ x → ⊥
     paused-or-stopped state kept saved words p kept₁ x s =
-        not-stopped (s .count) (s .steps) x (s .made) (s .cause) most (p .steps) (p .made) (s .allowed) kept words (p .list)
+        not-stopped (s .count) (s .steps) x (s .made) (s .cause) most (p .stands .steps) (p .stands .made) (s .allowed) kept words (p .list)
 
-    stopped-once : (kept kept₁ : List ℕ) (x y : ℕ) → Stops t plan quantum most room before kept x → Stops t plan quantum most room before kept₁ y
+    stopped-once : (kept kept₁ : List ℕ) (x y : ℕ) → Stops keep t plan quantum most room before kept x → Stops keep t plan quantum most room before kept₁ y
         → (x ≡ y) × (kept ≡ kept₁)
     stopped-once kept kept₁ x y s r =
         elim (decLt (s .count) (r .count)) [
@@ -161,8 +166,8 @@ module _ (t : Tables) (plan : List ℕ) (a : Accepted t plan) (quantum room : �
           ]
         ]
 
-    leaves-once : (state kept state₁ kept₁ : List ℕ) (r r₁ : Played) → Leaves t plan quantum most room before state kept r
-        → Leaves t plan quantum most room before state₁ kept₁ r₁ → (r ≡ r₁) × (kept ≡ kept₁)
+    leaves-once : (state kept state₁ kept₁ : List ℕ) (r r₁ : Played) → Leaves keep t plan quantum most room before state kept r
+        → Leaves keep t plan quantum most room before state₁ kept₁ r₁ → (r ≡ r₁) × (kept ≡ kept₁)
     leaves-once state kept state₁ kept₁ (Finished n) (Finished n₁) f g =
         let e = same-list (f .steps) (g .steps) (ends-once t q (f .steps) (g .steps) (f .ends) (g .ends)) kept kept₁ n n₁ (f .list) (g .list) in
         (ap Finished (e .0), e .1)
@@ -170,9 +175,9 @@ module _ (t : Tables) (plan : List ℕ) (a : Accepted t plan) (quantum room : �
     leaves-once state kept state₁ kept₁ (Finished n) (Refused x) f g = absurd (finished-or-stopped kept n f kept₁ x g)
     leaves-once state kept state₁ kept₁ (Unfinished s n) (Finished n₁) f g = absurd (finished-or-paused kept₁ n₁ g state kept s n f)
     leaves-once state kept state₁ kept₁ (Unfinished s n) (Unfinished s₁ n₁) f g =
-        let d = turns-once t plan a quantum room most most (f .steps) (g .steps) (f .made) (g .made) refl in
-        let e = same-list (f .steps) (g .steps) d kept kept₁ n n₁ (f .list) (g .list) in
-        let w = f .state-count ∙ ap (λ j. length (savedWords (after t q j .state))) d ∙ sym (g .state-count) in
+        let d = turns-once t plan a quantum room most most (f .stands .steps) (g .stands .steps) (f .stands .made) (g .stands .made) refl in
+        let e = same-list (f .stands .steps) (g .stands .steps) d kept kept₁ n n₁ (f .list) (g .list) in
+        let w = f .stands .state-count ∙ ap (λ j. length (savedWords (after t q j .state))) d ∙ sym (g .stands .state-count) in
         (ap₂ Unfinished w (e .0), e .1)
     leaves-once state kept state₁ kept₁ (Unfinished s n) (Refused x) f g = absurd (paused-or-stopped state kept s n f kept₁ x g)
     leaves-once state kept state₁ kept₁ (Refused x) (Finished n₁) f g = absurd (finished-or-stopped kept₁ n₁ g kept x f)
@@ -182,16 +187,16 @@ module _ (t : Tables) (plan : List ℕ) (a : Accepted t plan) (quantum room : �
         (ap Refused (e .0), e .1)
 
 -- ---- from their opening on
-module _ (t : Tables) (plan : List ℕ) (quantum most : ℕ) (before : Lent) where
-  by-opening : (left : Lent) (r : Played) → Plays t plan quantum most before left r
+module _ (keep : Keeping) (t : Tables) (plan : List ℕ) (quantum most : ℕ) (before : Lent) where
+  by-opening : (left : Lent) (r : Played) → Plays keep t plan quantum most before left r
       → ((x : ℕ) × (r ≡ Refused x) × NotOpened t plan before left x)
-      ⊎ (Opens t plan (before .state) × Leaves t plan quantum most (length (before .output)) (before .kept) (left .state) (left .kept) r)
+      ⊎ (Opens t plan (before .state) × Leaves keep t plan quantum most (length (before .output)) (before .kept) (left .state) (left .kept) r)
   by-opening left (Finished n) p = inr p
   by-opening left (Unfinished s n) p = inr p
   by-opening left (Refused x) (inl p) = inl (x, refl, p)
   by-opening left (Refused x) (inr p) = inr p
 
-  pub played-once : (left left₁ : Lent) (r r₁ : Played) → Plays t plan quantum most before left r → Plays t plan quantum most before left₁ r₁
+  pub played-once : (left left₁ : Lent) (r r₁ : Played) → Plays keep t plan quantum most before left r → Plays keep t plan quantum most before left₁ r₁
       → (r ≡ r₁) × (left .kept ≡ left₁ .kept)
   played-once left left₁ r r₁ p p₁ =
       elim (by-opening left r p) [
@@ -205,7 +210,7 @@ module _ (t : Tables) (plan : List ℕ) (quantum most : ℕ) (before : Lent) whe
         | inr n ↦ elim (by-opening left₁ r₁ p₁) [
           | inl m ↦ absurd (n .0 (m .0) (m .2 .refused))
           | inr m ↦
-              leaves-once t plan (opening-accepts t plan (before .state) (n .0)) quantum (length (before .output)) (before .kept) most
+              leaves-once keep t plan (opening-accepts t plan (before .state) (n .0)) quantum (length (before .output)) (before .kept) most
               (left .state) (left .kept) (left₁ .state) (left₁ .kept) r r₁ (n .1) (m .1)
         ]
       ]

@@ -8,3 +8,4 @@ pub mod Room
 pub mod Totals
 pub mod Once
 pub mod Fixed
+pub mod Showing

@@ -27,6 +27,7 @@ use Rattle.turns.proofs.Progress.{progresses}
 use Rattle.turns.proofs.Endings.{IsFull, endings}
 use Rattle.cuts.specs.Uncut.{EndsAt}
 use Rattle.cuts.proofs.Accepting.{Accepted}
+use Rattle.queries.specs.Stepping.{listOf}
 use Rattle.queries.specs.Playing.{listBetween, TurnEnds, spent, full, done, Turn}
 use Rattle.queries.proofs.Refusing.{served-sized}
 
@@ -91,7 +92,7 @@ module _ (i : TurnInput) (a : Accepted (i .tables) (i .plan)) (n : ℕ) (s : Sta
                 endings i serve .no-earlier (j - n) (omega arith) .0 (sym (state-is (j - n)) ∙ ap (λ k. after t q k .state) (sym d) ∙ f)
           ]
 
-  by-ending : (e : TurnEnding) → turnOf i .answer .ending ≡ e → TurnEnds t (i .plan) (i .quantum) (length (i .output)) n (n + m)
+  by-ending : (e : TurnEnding) → turnOf i .answer .ending ≡ e → TurnEnds t (i .plan) (i .quantum) (length (i .output)) n (n + m) e
   by-ending Done e = done (ends-there (endings i serve .done .0 e .over))
   by-ending Spent e =
       let f = endings i serve .spent .0 e in
@@ -108,5 +109,18 @@ module _ (i : TurnInput) (a : Accepted (i .tables) (i .plan)) (n : ℕ) (s : Sta
         further = omega (arith, progresses i serve .least);
         within = omega (arith, progresses i serve .within);
         fits = fits;
-        ending = by-ending (turnOf i .answer .ending) refl;
+        ending = turnOf i .answer .ending;
+        ends = by-ending (turnOf i .answer .ending) refl;
       }
+
+  -- its ending is the one that it answers
+  pub ending-made : turn-made .ending ≡ turnOf i .answer .ending
+  unfolding turn-made
+  ending-made = refl
+
+  -- and its list is in the output
+  pub list-made : listOf (turnOf i) ≡ listBetween t (i .plan) n (n + m)
+  list-made =
+      follows i serve .output .front
+      ∙ ap (λ th. gathered (q .ending) th (turnRun i .delivered)) none-sent
+      ∙ sym (list-between m)

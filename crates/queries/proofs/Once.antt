@@ -12,6 +12,7 @@ use Rattle.plans.specs.Plans.{Plan, planOf}
 use Rattle.steps.specs.Steps.{Run, after}
 use Rattle.steps.proofs.Runs.{done-stays}
 use Rattle.lists.specs.Gathering.{gathered}
+use Rattle.turns.specs.declared.TurnEnding.{TurnEnding}
 use Rattle.cuts.specs.Uncut.{EndsAt}
 use Rattle.cuts.proofs.Accepting.{Accepted}
 use Rattle.queries.specs.Playing.{listBetween, TurnEnds, spent, full, done, Turn, Turns, none-made, one-more}
@@ -38,32 +39,32 @@ module _ (t : Tables) (plan : List ℕ) (a : Accepted t plan) where
   module _ (quantum room : ℕ) where
     -- no turn goes past the end of the run
     pub not-past : (m from n : ℕ) → EndsAt t q m → m < n → Turn t plan quantum room from n → ⊥
-    not-past m from n e l y = go (y .ending)
+    not-past m from n e l y = go (y .ending) (y .ends)
       where
         stays : (j : ℕ) → m ≤ j → after t q j ≡ after t q m
         stays j g =
             let d : j ≡ m + (j - m) = omega arith in
             ap (after t q) d ∙ done-stays t q m (j - m) (e .over)
 
-        go : TurnEnds t plan quantum room from n → ⊥
-        go (spent g f) = f (ap (λ (r : Run). r .state) (stays n (omega arith)) ∙ e .over)
-        go (full g f) =
-            let k = length (after t q from .delivered) in
+        go : (k : TurnEnding) → TurnEnds t plan quantum room from n k → ⊥
+        go k (spent g f) = f (ap (λ (r : Run). r .state) (stays n (omega arith)) ∙ e .over)
+        go k (full g f) =
+            let j = length (after t q from .delivered) in
             let same = stays (n + 1) (omega arith) ∙ sym (stays n (omega arith)) in
-            omega (arith, f, y .fits, ap (λ (r : Run). length (gathered (q .ending) [] (drop k (r .delivered)))) same)
-        go (done g) = g .not-before m l (e .over)
+            omega (arith, f, y .fits, ap (λ (r : Run). length (gathered (q .ending) [] (drop j (r .delivered)))) same)
+        go k (done g) = g .not-before m l (e .over)
 
     -- and none ends before another from the same place
     not-sooner : (from m n : ℕ) → Turn t plan quantum room from m → Turn t plan quantum room from n → m < n → ⊥
-    not-sooner from m n x y l = go (x .ending)
+    not-sooner from m n x y l = go (x .ending) (x .ends)
       where
-        go : TurnEnds t plan quantum room from m → ⊥
-        go (spent e f) = omega (arith, e, y .within)
-        go (full e f) =
+        go : (k : TurnEnding) → TurnEnds t plan quantum room from m k → ⊥
+        go k (spent e f) = omega (arith, e, y .within)
+        go k (full e f) =
             let d : (m + 1) + (n - (m + 1)) ≡ n = omega arith in
             let grows = between-grows from (m + 1) (n - (m + 1)) (omega (arith, x .further)) in
             omega (arith, f, grows, ap (λ j. length (listBetween t plan from j)) d, y .fits)
-        go (done e) = not-past m from n e l y
+        go k (done e) = not-past m from n e l y
 
     pub turn-once : (from m n : ℕ) → Turn t plan quantum room from m → Turn t plan quantum room from n → m ≡ n
     turn-once from m n x y =

@@ -24,6 +24,7 @@ use Rattle.turns.proofs.Progress.{turn-limits}
 use Rattle.cuts.specs.Uncut.{totals-pass, no-room}
 use Rattle.cuts.proofs.Accepting.{Accepted}
 use Rattle.cuts.proofs.States.{Passed, accepted-when-passed}
+use Rattle.queries.specs.declared.Keeping.{Keeping}
 use Rattle.queries.specs.Playing.{Sized, Turns, none-made, one-more, Cause, output-short, quantum-wrong, list-left}
 
 -- where the tests on the state and the threshold pass, 7 or 8 fails first
@@ -48,9 +49,9 @@ empty-right e = refl
 
 -- a turn with no threshold, from a state that the uncut run passes through, with room for a state
 module _ (i : TurnInput) (a : Accepted (i .tables) (i .plan)) (p : Passed i) (room : leastStateWords ≤ length (i .state))
-    (none-sent : i .threshold ≡ []) (before : List ℕ) (steps : ℕ) where
+    (none-sent : i .threshold ≡ []) (keep : Keeping) (before : List ℕ) (steps : ℕ) where
   abbrev Caused : ℕ → Type 0
-  Caused y = Cause (i .tables) (i .plan) (i .quantum) (length (i .output)) before steps y
+  Caused y = Cause keep (i .tables) (i .plan) (i .quantum) (length (i .output)) before steps y
 
   early : firstFailing (planTests (i .plan)) ≡ none
   early = all-passes (planTests (i .plan)) (ap hasForm (a .read), (a .variables, tt))
@@ -92,16 +93,16 @@ pub served-sized : (i : TurnInput) → Served i → Sized (i .plan) (i .quantum)
 served-sized i s = let l = turn-limits i s in record { output = l .output-room; least = l .one-step; most = l .most }
 
 -- and is not stopped for them
-not-sized : (t : Tables) (plan : List ℕ) (quantum room : ℕ) (before : List ℕ) (steps y : ℕ) → Cause t plan quantum room before steps y → y ≤ 8
-    → Sized plan quantum room → ⊥
-not-sized t plan quantum room before steps y (output-short l) m z = omega (arith, l, z .output)
-not-sized t plan quantum room before steps y (quantum-wrong o f) m z = f (z .least, z .most)
-not-sized t plan quantum room before steps y (list-left later f x (totals-pass p)) m z = omega arith
-not-sized t plan quantum room before steps y (list-left later f x (no-room p l)) m z = omega arith
+not-sized : (keep : Keeping) (t : Tables) (plan : List ℕ) (quantum room : ℕ) (before : List ℕ) (steps y : ℕ)
+    → Cause keep t plan quantum room before steps y → y ≤ 8 → Sized plan quantum room → ⊥
+not-sized keep t plan quantum room before steps y (output-short l) m z = omega (arith, l, z .output)
+not-sized keep t plan quantum room before steps y (quantum-wrong o f) m z = f (z .least, z .most)
+not-sized keep t plan quantum room before steps y (list-left c later f x (totals-pass p)) m z = omega arith
+not-sized keep t plan quantum room before steps y (list-left c later f x (no-room p l)) m z = omega arith
 
 -- so 7 and 8 come before the first step
-pub at-first : (t : Tables) (plan : List ℕ) (quantum room : ℕ) (before : List ℕ) (count steps y : ℕ) → Turns t plan quantum room count steps
-    → Cause t plan quantum room before steps y → y ≤ 8 → steps ≡ 0
-at-first t plan quantum room before count steps y none-made c m = refl
-at-first t plan quantum room before count steps y (one-more n from to made turn) c m =
-    absurd (not-sized t plan quantum room before to y c m (turn .sized))
+pub at-first : (keep : Keeping) (t : Tables) (plan : List ℕ) (quantum room : ℕ) (before : List ℕ) (count steps y : ℕ)
+    → Turns t plan quantum room count steps → Cause keep t plan quantum room before steps y → y ≤ 8 → steps ≡ 0
+at-first keep t plan quantum room before count steps y none-made c m = refl
+at-first keep t plan quantum room before count steps y (one-more n from to made turn) c m =
+    absurd (not-sized keep t plan quantum room before to y c m (turn .sized))

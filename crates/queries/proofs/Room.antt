@@ -15,6 +15,7 @@ use Rattle.lists.specs.Gathering.{gathered}
 use Rattle.cuts.specs.Uncut.{EndsAt, runList, totals-pass, no-room}
 use Rattle.cuts.proofs.Accepting.{Accepted, opening-accepts}
 use Rattle.turns.specs.Opening.{Opens}
+use Rattle.queries.specs.declared.Keeping.{Keeping}
 use Rattle.queries.specs.Playing.{listAfter, Cause, output-short, quantum-wrong, list-left, Stops}
 use Rattle.queries.proofs.Advancing.{longer-by, list-grows}
 
@@ -51,13 +52,13 @@ module _ (t : Tables) (plan : List ℕ) (a : Accepted t plan) where
       ]
 
 -- a play that was opened, over a kept buffer with room for the whole list of the uncut run, is stopped by no 14
-pub room-enough : (t : Tables) (plan state : List ℕ) → Opens t plan state → (n : ℕ) → EndsAt t (planOf plan) n
+pub room-enough : (keep : Keeping) (t : Tables) (plan state : List ℕ) → Opens t plan state → (n : ℕ) → EndsAt t (planOf plan) n
     → (quantum most room : ℕ) (before kept : List ℕ) → length (listAfter t plan n) ≤ length before
-    → (x : ℕ) → Stops t plan quantum most room before kept x → ¬ (x ≡ 14)
-room-enough t plan state o n ends quantum most room before kept fits x s = go x (s .cause)
+    → (x : ℕ) → Stops keep t plan quantum most room before kept x → ¬ (x ≡ 14)
+room-enough keep t plan state o n ends quantum most room before kept fits x s = go x (s .cause)
   where
-    go : (y : ℕ) → Cause t plan quantum room before (s .steps) y → ¬ (y ≡ 14)
+    go : (y : ℕ) → Cause keep t plan quantum room before (s .steps) y → ¬ (y ≡ 14)
     go y (output-short l) e = omega arith
     go y (quantum-wrong l f) e = omega arith
-    go y (list-left m f z (totals-pass p)) e = omega arith
-    go y (list-left m f z (no-room p l)) e = omega (arith, whole-longest t plan (opening-accepts t plan state o) n ends m)
+    go y (list-left c m f z (totals-pass p)) e = omega arith
+    go y (list-left c m f z (no-room p l)) e = omega (arith, whole-longest t plan (opening-accepts t plan state o) n ends m)

@@ -3,14 +3,14 @@ use Prim.Native.Nat.{ℕ, _<_}
 use native.Mathlib.Omega.{arith}
 use mathlib.Core.Path.{_≡_, refl, sym, _∙_, ap, ap₂, subst, subst⁻¹}
 use mathlib.Core.Logic.{inr}
-use mathlib.Core.Bool.{true}
+use mathlib.Core.Bool.{Bool, true, false, cond}
 use mathlib.Core.List.{List, []}
 use lib.ListN.{length, take}
 use borrow.Author.Tests.{leb-true}
 use Rattle.words.specs.declared.Written.{Written}
 use Rattle.words.specs.declared.Written.the-variants as written
 use Rattle.words.specs.Answers.{wordsIn}
-use Rattle.words.specs.Sequences.{all}
+use Rattle.words.specs.Sequences.{all, over}
 use Rattle.words.proofs.Buffers.{length-over}
 use Rattle.tables.specs.Tables.{Tables}
 use Rattle.plans.specs.Endings.{Ending, rows, top, group}
@@ -28,12 +28,13 @@ use Rattle.cuts.specs.Uncut.{runFits}
 use Rattle.cuts.proofs.Accepting.{Accepted, opening-accepts}
 use Rattle.cuts.proofs.Turning.{Kept}
 use Rattle.cuts.proofs.AnyCut.{fresh-keeps}
+use Rattle.queries.specs.declared.Keeping.{Keeping}
 use Rattle.queries.specs.declared.Played.{Played}
 use Rattle.queries.specs.declared.Played.the-variants.{Finished, Unfinished, Refused}
 use Rattle.queries.specs.declared.Went.{Went}
-use Rattle.queries.specs.Stepping.{takeTurnOf, Advances}
-use Rattle.queries.specs.Playing.{none-made, Leaves, Lent, NotOpened, Plays, startAt, Started, UnderWay}
-use Rattle.queries.proofs.Leaving.{not-over, Going, Becomes, becomes}
+use Rattle.queries.specs.Stepping.{keeps, keptOf, takeTurnOf, Advances}
+use Rattle.queries.specs.Playing.{none-made, Stands, Leaves, Lent, NotOpened, Plays, startAt, Started, UnderWay}
+use Rattle.queries.proofs.Leaving.{stands, not-over, Going, Becomes, becomes}
 
 -- no row has no total
 no-rows-fit : (e : Ending) (r : Run) → r .delivered ≡ [] → runFits e r ≡ true
@@ -41,6 +42,10 @@ unfolding addAllBy all
 no-rows-fit (rows vs) r e = refl
 no-rows-fit (top k vs keys) r e = refl
 no-rows-fit (group vs m) r e = ap (λ l. all groupFits (groupsOf vs m l)) e
+
+none-of : (b : Bool) → cond {A = List ℕ} b [] [] ≡ []
+none-of true = refl
+none-of false = refl
 
 module _ (t : Tables) (plan state : List ℕ) (saved : ℕ) (s : Started t plan state saved) where
   pub start-accepts : Accepted t plan
@@ -52,9 +57,9 @@ module _ (t : Tables) (plan state : List ℕ) (saved : ℕ) (s : Started t plan 
   pub start-keeps : Kept t (planOf plan) (startAt state saved)
   start-keeps = subst⁻¹ (Kept t (planOf plan)) same-start (fresh-keeps t plan start-accepts (s .lent) (s .opens))
 
-  starts : (kept : List ℕ) → UnderWay t plan (startAt state saved) kept 0 state saved kept 0
+  starts : (keep : Keeping) (kept : List ℕ) → UnderWay keep t plan (startAt state saved) kept 0 state saved kept 0
   unfolding history stepsIn
-  starts kept =
+  starts keep kept =
       let r = starts-run t plan (s .lent) (s .opens) in
       let l = leb-true leastStateWords (length (s .lent)) (open-refusals t plan (s .lent) .serves .0 (s .opens) .1 .1 .1 .1 .1 .1 .0) in
       let n = length-over (savedWords (after t (planOf plan) 0 .state)) (s .lent) (omega (arith, r .room, r .buffer .counted)) in
@@ -73,31 +78,40 @@ module _ (t : Tables) (plan state : List ℕ) (saved : ℕ) (s : Started t plan 
             ∙ sym (ap₂ (λ n l. length (take n l)) (s .counted) (s .left));
         state-room = omega (arith, l, n, ap length (r .buffer .whole), ap length (s .left));
         fits = no-rows-fit (planOf plan .ending) (after t (planOf plan) 0) (ap (λ (r : Run). r .delivered) (after-none t (planOf plan)));
-        list = refl;
-        words = refl;
+        list = sym (ap (λ l. over l kept) (nothing keep));
+        words = sym (ap length (nothing keep));
         room = omega arith;
       }
+    where
+      nothing : (d : Keeping) → keptOf d (planOf plan .ending) [] ≡ []
+      nothing d = none-of (keeps d (planOf plan .ending))
 
-  start-alive : (kept : List ℕ) → ¬ (saved ≡ 0)
+  start-alive : (keep : Keeping) (kept : List ℕ) → ¬ (saved ≡ 0)
   unfolding doneIn starts
-  start-alive kept = not-over t plan start-accepts (startAt state saved) start-keeps kept 0 state saved kept 0 (starts kept) refl
+  start-alive keep kept = not-over keep t plan start-accepts (startAt state saved) start-keeps kept 0 state saved kept 0 (starts keep kept) refl
 
-  pub start-goes : (kept : List ℕ) (quantum room : ℕ) → Going t plan (startAt state saved) kept quantum room 0 state saved kept 0
+  pub start-goes : (keep : Keeping) (kept : List ℕ) (quantum room : ℕ) → Going keep t plan (startAt state saved) kept quantum room 0 state saved kept 0
   unfolding stepsIn starts
-  start-goes kept quantum room = record { under = starts kept; alive = start-alive kept; made = none-made }
+  start-goes keep kept quantum room = record { under = starts keep kept; alive = start-alive keep kept; made = none-made }
+
+  -- where it stands, of what it leads to
+  pub goes-stands : (keep : Keeping) (before : List ℕ) (quantum room count : ℕ) (now : List ℕ) (left : ℕ) (kept : List ℕ) (used : ℕ)
+      → Going keep t plan (startAt state saved) before quantum room count now left kept used → Stands t plan quantum room count now left
+  goes-stands keep before quantum room count now left kept used g =
+      stands keep t plan start-accepts (startAt state saved) start-keeps before count now left kept used (g .under) (g .alive) quantum room (g .made)
 
   -- ---- one turn more of what it leads to, with an output as long as the first one
-  pub turns-to : (before : List ℕ) (quantum most room count : ℕ) → count < most → (now : List ℕ) (left : ℕ) (kept : List ℕ) (used : ℕ)
-      → Going t plan (startAt state saved) before quantum room count now left kept used → (output : List ℕ) → length output ≡ room
+  pub turns-to : (keep : Keeping) (before : List ℕ) (quantum most room count : ℕ) → count < most → (now : List ℕ) (left : ℕ) (kept : List ℕ) (used : ℕ)
+      → Going keep t plan (startAt state saved) before quantum room count now left kept used → (output : List ℕ) → length output ≡ room
       → (then list : List ℕ) (w : Went)
-      → Advances (takeTurnOf (record { tables = t; plan = plan; state = now; given = left; quantum = quantum; threshold = []; output = output }) kept used) then list w
-      → (v : Went) → w ≡ v → Becomes t plan (startAt state saved) before quantum most room count then list v
-  turns-to before quantum most room count fewer now left kept used g output e then list w p v f =
+      → Advances (takeTurnOf keep (record { tables = t; plan = plan; state = now; given = left; quantum = quantum; threshold = []; output = output }) kept used) then list w
+      → (v : Went) → w ≡ v → Becomes keep t plan (startAt state saved) before quantum most room count then list v
+  turns-to keep before quantum most room count fewer now left kept used g output e then list w p v f =
       let first = startAt state saved in
-      subst (Becomes t plan first before quantum most room count then list) f
-      (subst (λ r. Becomes t plan first before quantum most r count then list w) e
-      (becomes t plan start-accepts first start-keeps before quantum most count fewer output now left kept used
-      (subst⁻¹ (λ r. Going t plan first before quantum r count now left kept used) e g) then list w p))
+      subst (Becomes keep t plan first before quantum most room count then list) f
+      (subst (λ r. Becomes keep t plan first before quantum most r count then list w) e
+      (becomes keep t plan start-accepts first start-keeps before quantum most count fewer output now left kept used
+      (subst⁻¹ (λ r. Going keep t plan first before quantum r count now left kept used) e g) then list w p))
 
 -- ---- from the calls' answers
 module _ (t : Tables) (plan lent : List ℕ) (r : Written) (answer : r ≡ openOf t plan lent .answer) where
@@ -114,8 +128,8 @@ module _ (t : Tables) (plan lent : List ℕ) (r : Written) (answer : r ≡ openO
       let same = left ∙ open-refusals t plan lent .unchanged x f .buffer in
       record { refused = f; unchanged = ap (λ l. record { state = l; output = output; kept = kept }) same }
 
-pub plays : (t : Tables) (plan : List ℕ) (quantum most : ℕ) (before after : Lent) → Opens t plan (before .state) → (r : Played)
-    → Leaves t plan quantum most (length (before .output)) (before .kept) (after .state) (after .kept) r → Plays t plan quantum most before after r
-plays t plan quantum most before after o (Finished n) p = (o, p)
-plays t plan quantum most before after o (Unfinished saved n) p = (o, p)
-plays t plan quantum most before after o (Refused x) p = inr (o, p)
+pub plays : (keep : Keeping) (t : Tables) (plan : List ℕ) (quantum most : ℕ) (before after : Lent) → Opens t plan (before .state) → (r : Played)
+    → Leaves keep t plan quantum most (length (before .output)) (before .kept) (after .state) (after .kept) r → Plays keep t plan quantum most before after r
+plays keep t plan quantum most before after o (Finished n) p = (o, p)
+plays keep t plan quantum most before after o (Unfinished saved n) p = (o, p)
+plays keep t plan quantum most before after o (Refused x) p = inr (o, p)

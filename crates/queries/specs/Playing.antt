@@ -14,23 +14,32 @@ use Rattle.plans.specs.Plans.{planOf}
 use Rattle.steps.specs.Steps.{after}
 use Rattle.steps.specs.Saved.{savedWords, leastStateWords}
 use Rattle.lists.specs.Gathering.{gathered, leastOutput}
+use Rattle.turns.specs.declared.TurnEnding.{TurnEnding}
+use Rattle.turns.specs.declared.TurnEnding.the-variants as ending
+use Rattle.turns.specs.declared.Turned.{Turned}
 use Rattle.turns.specs.Opening.{openOf, Opens}
 use Rattle.turns.specs.Turns.{mostSteps}
 use Rattle.cuts.specs.Histories.{Event, Held, stepsIn, history}
 use Rattle.cuts.specs.Premises.{Premises}
 use Rattle.cuts.specs.Uncut.{EndsAt, runList, runFits, NotTaken}
+use Rattle.queries.specs.declared.Keeping.{Keeping}
 use Rattle.queries.specs.declared.Played.{Played}
 use Rattle.queries.specs.declared.Played.the-variants.{Finished, Unfinished, Refused}
+use Rattle.queries.specs.Stepping.{keeps, keptOf}
 
 -- the rows, best-of list or groups of the uncut run after so many steps
 abbrev pub listAfter : Tables → List ℕ → ℕ → List ℕ
 listAfter t plan steps = runList (planOf plan .ending) (after t (planOf plan) steps)
 
--- a buffer holds that list over what it held before: no total of it passes 2^64 - 1, and it has so many words
-pub record Holds (t : Tables) (plan : List ℕ) (steps : ℕ) (before now : List ℕ) (words : ℕ) : Type 0 where
+-- what is kept of that list
+abbrev pub keptAfter : Keeping → Tables → List ℕ → ℕ → List ℕ
+keptAfter keep t plan steps = keptOf keep (planOf plan .ending) (listAfter t plan steps)
+
+-- a buffer holds what is kept over what it held before: no total of the list passes 2^64 - 1, and so many words are kept
+pub record Holds (keep : Keeping) (t : Tables) (plan : List ℕ) (steps : ℕ) (before now : List ℕ) (words : ℕ) : Type 0 where
   pub fits : runFits (planOf plan .ending) (after t (planOf plan) steps) ≡ true
-  pub whole : now ≡ over (listAfter t plan steps) before
-  pub counted : words ≡ length (listAfter t plan steps)
+  pub whole : now ≡ over (keptAfter keep t plan steps) before
+  pub counted : words ≡ length (keptAfter keep t plan steps)
   pub room : words ≤ length before
 
 -- ---- the turns
@@ -47,10 +56,10 @@ pub record Sized (plan : List ℕ) (quantum room : ℕ) : Type 0 where
 
 -- how a turn between two numbers of steps of the uncut run ends. Spent: after exactly the quantum, and the run goes on. Full: after less than
 -- the quantum, and the next step's row leaves the output no room. Done: the run ends there
-pub data TurnEnds (t : Tables) (plan : List ℕ) (quantum room from to : ℕ) : Type 0 where
-  spent : to ≡ from + quantum → ¬ (after t (planOf plan) to .state ≡ none) → TurnEnds t plan quantum room from to
-  full : to < from + quantum → room < length (listBetween t plan from (to + 1)) → TurnEnds t plan quantum room from to
-  done : EndsAt t (planOf plan) to → TurnEnds t plan quantum room from to
+pub data TurnEnds (t : Tables) (plan : List ℕ) (quantum room from to : ℕ) : TurnEnding → Type 0 where
+  spent : to ≡ from + quantum → ¬ (after t (planOf plan) to .state ≡ none) → TurnEnds t plan quantum room from to ending.Spent
+  full : to < from + quantum → room < length (listBetween t plan from (to + 1)) → TurnEnds t plan quantum room from to ending.Full
+  done : EndsAt t (planOf plan) to → TurnEnds t plan quantum room from to ending.Done
 
 -- a turn of the uncut run: at least one step, at most the quantum, and the output has room for their list
 pub record Turn (t : Tables) (plan : List ℕ) (quantum room from to : ℕ) : Type 0 where
@@ -58,56 +67,61 @@ pub record Turn (t : Tables) (plan : List ℕ) (quantum room from to : ℕ) : Ty
   pub further : from < to
   pub within : to ≤ from + quantum
   pub fits : length (listBetween t plan from to) ≤ room
-  pub ending : TurnEnds t plan quantum room from to
+  pub ending : TurnEnding
+  pub ends : TurnEnds t plan quantum room from to ending
 
 -- so many turns from the start take the uncut run so many steps on
 pub data Turns (t : Tables) (plan : List ℕ) (quantum room : ℕ) : ℕ → ℕ → Type 0 where
   none-made : Turns t plan quantum room 0 0
   one-more : (count from to : ℕ) → Turns t plan quantum room count from → Turn t plan quantum room from to → Turns t plan quantum room (count + 1) to
 
+-- where a query stands after so many turns: they are the uncut run's, and the saved words are its state after their steps
+pub record Stands (t : Tables) (plan : List ℕ) (quantum room count : ℕ) (state : List ℕ) (saved : ℕ) : Type 0 where
+  pub steps : ℕ
+  pub made : Turns t plan quantum room count steps
+  pub going : ¬ (after t (planOf plan) steps .state ≡ none)
+  pub state-words : take saved state ≡ savedWords (after t (planOf plan) steps .state)
+  pub state-count : saved ≡ length (savedWords (after t (planOf plan) steps .state))
+
 -- ---- the answers
 -- finished: the uncut run ends with one of the turns allowed, and the kept list is its whole list
-pub record Finishes (t : Tables) (plan : List ℕ) (quantum most room : ℕ) (before kept : List ℕ) (words : ℕ) : Type 0 where
+pub record Finishes (keep : Keeping) (t : Tables) (plan : List ℕ) (quantum most room : ℕ) (before kept : List ℕ) (words : ℕ) : Type 0 where
   pub count : ℕ
   pub allowed : count ≤ most
   pub steps : ℕ
   pub made : Turns t plan quantum room count steps
   pub ends : EndsAt t (planOf plan) steps
-  pub list : Holds t plan steps before kept words
+  pub list : Holds keep t plan steps before kept words
 
--- not finished: the turns allowed were made, the saved words are the state of the uncut run after them, and the kept list is its list up to there
-pub record Pauses (t : Tables) (plan : List ℕ) (quantum most room : ℕ) (before state kept : List ℕ) (saved words : ℕ) : Type 0 where
-  pub steps : ℕ
-  pub made : Turns t plan quantum room most steps
-  pub going : ¬ (after t (planOf plan) steps .state ≡ none)
-  pub state-words : take saved state ≡ savedWords (after t (planOf plan) steps .state)
-  pub state-count : saved ≡ length (savedWords (after t (planOf plan) steps .state))
-  pub list : Holds t plan steps before kept words
+-- not finished: the turns allowed were made, and the kept list is the uncut run's up to there
+pub record Pauses (keep : Keeping) (t : Tables) (plan : List ℕ) (quantum most room : ℕ) (before state kept : List ℕ) (saved words : ℕ) : Type 0 where
+  pub stands : Stands t plan quantum room most state saved
+  pub list : Holds keep t plan (stands .steps) before kept words
 
 -- why a query that was opened is stopped, its lists taken up to so many steps. By a turn: for an output of so many words, else for the quantum.
--- Where the list of the next turn is taken: for its totals, or for a kept buffer in which it has no room
-pub data Cause (t : Tables) (plan : List ℕ) (quantum room : ℕ) (before : List ℕ) (steps : ℕ) : ℕ → Type 0 where
-  output-short : room < leastOutput (planOf plan .ending) → Cause t plan quantum room before steps 7
-  quantum-wrong : leastOutput (planOf plan .ending) ≤ room → ¬ ((1 ≤ quantum) × (quantum ≤ mostSteps)) → Cause t plan quantum room before steps 8
-  list-left : (later : ℕ) → Turn t plan quantum room steps later → (x : ℕ) → NotTaken t (planOf plan) later (length before) x
-      → Cause t plan quantum room before steps x
+-- Where the list of the next turn is to be kept: for its totals, or for a kept buffer in which it has no room
+pub data Cause (keep : Keeping) (t : Tables) (plan : List ℕ) (quantum room : ℕ) (before : List ℕ) (steps : ℕ) : ℕ → Type 0 where
+  output-short : room < leastOutput (planOf plan .ending) → Cause keep t plan quantum room before steps 7
+  quantum-wrong : leastOutput (planOf plan .ending) ≤ room → ¬ ((1 ≤ quantum) × (quantum ≤ mostSteps)) → Cause keep t plan quantum room before steps 8
+  list-left : keeps keep (planOf plan .ending) ≡ true → (later : ℕ) → Turn t plan quantum room steps later
+      → (x : ℕ) → NotTaken t (planOf plan) later (length before) x → Cause keep t plan quantum room before steps x
 
 -- stopped: the kept list is the uncut run's up to the lists taken. For its output or its quantum it is stopped before the first step
-pub record Stops (t : Tables) (plan : List ℕ) (quantum most room : ℕ) (before kept : List ℕ) (x : ℕ) : Type 0 where
+pub record Stops (keep : Keeping) (t : Tables) (plan : List ℕ) (quantum most room : ℕ) (before kept : List ℕ) (x : ℕ) : Type 0 where
   pub count : ℕ
   pub allowed : count < most
   pub steps : ℕ
   pub made : Turns t plan quantum room count steps
-  pub cause : Cause t plan quantum room before steps x
+  pub cause : Cause keep t plan quantum room before steps x
   pub at-first : x ≤ 8 → steps ≡ 0
   pub words : ℕ
-  pub list : Holds t plan steps before kept words
+  pub list : Holds keep t plan steps before kept words
 
 -- what is left of a query that was opened
-abbrev pub Leaves : Tables → List ℕ → ℕ → ℕ → ℕ → List ℕ → List ℕ → List ℕ → Played → Type 0
-Leaves t plan quantum most room before state kept (Finished words) = Finishes t plan quantum most room before kept words
-Leaves t plan quantum most room before state kept (Unfinished saved words) = Pauses t plan quantum most room before state kept saved words
-Leaves t plan quantum most room before state kept (Refused x) = Stops t plan quantum most room before kept x
+abbrev pub Leaves : Keeping → Tables → List ℕ → ℕ → ℕ → ℕ → List ℕ → List ℕ → List ℕ → Played → Type 0
+Leaves keep t plan quantum most room before state kept (Finished words) = Finishes keep t plan quantum most room before kept words
+Leaves keep t plan quantum most room before state kept (Unfinished saved words) = Pauses keep t plan quantum most room before state kept saved words
+Leaves keep t plan quantum most room before state kept (Refused x) = Stops keep t plan quantum most room before kept x
 
 -- the buffers lent to a play
 pub record Lent : Type 0 where
@@ -120,14 +134,33 @@ pub record NotOpened (t : Tables) (plan : List ℕ) (before after : Lent) (x : �
   pub refused : openOf t plan (before .state) .answer ≡ written.Refused x
   pub unchanged : after ≡ before
 
-abbrev pub Plays : Tables → List ℕ → ℕ → ℕ → Lent → Lent → Played → Type 0
-Plays t plan quantum most before after (Finished words) =
-    Opens t plan (before .state) × Finishes t plan quantum most (length (before .output)) (before .kept) (after .kept) words
-Plays t plan quantum most before after (Unfinished saved words) =
-    Opens t plan (before .state) × Pauses t plan quantum most (length (before .output)) (before .kept) (after .state) (after .kept) saved words
-Plays t plan quantum most before after (Refused x) =
+abbrev pub Plays : Keeping → Tables → List ℕ → ℕ → ℕ → Lent → Lent → Played → Type 0
+Plays keep t plan quantum most before after (Finished words) =
+    Opens t plan (before .state) × Finishes keep t plan quantum most (length (before .output)) (before .kept) (after .kept) words
+Plays keep t plan quantum most before after (Unfinished saved words) =
+    Opens t plan (before .state) × Pauses keep t plan quantum most (length (before .output)) (before .kept) (after .state) (after .kept) saved words
+Plays keep t plan quantum most before after (Refused x) =
     NotOpened t plan before after x
-    ⊎ (Opens t plan (before .state) × Stops t plan quantum most (length (before .output)) (before .kept) (after .kept) x)
+    ⊎ (Opens t plan (before .state) × Stops keep t plan quantum most (length (before .output)) (before .kept) (after .kept) x)
+
+-- ---- what is shown
+-- a turn's number, its answer and the list in its output are those of the uncut run's turn with that number
+pub record Shows (t : Tables) (plan : List ℕ) (quantum room number : ℕ) (turned : Turned) (list : List ℕ) : Type 0 where
+  pub count : ℕ
+  pub from : ℕ
+  pub to : ℕ
+  pub numbered : number ≡ count + 1
+  pub earlier : Turns t plan quantum room count from
+  pub turn : Turn t plan quantum room from to
+  pub steps : to ≡ from + turned .steps
+  pub ending : turn .ending ≡ turned .ending
+  pub listed : list ≡ listBetween t plan from to
+
+-- the list that is kept, at the end of the uncut run
+pub record IsWhole (keep : Keeping) (t : Tables) (plan list : List ℕ) : Type 0 where
+  pub steps : ℕ
+  pub ends : EndsAt t (planOf plan) steps
+  pub listed : list ≡ keptAfter keep t plan steps
 
 -- ---- under way
 -- what the phone holds at the start: the saved words, and no list
@@ -142,7 +175,7 @@ pub record Started (t : Tables) (plan state : List ℕ) (saved : ℕ) : Type 0 w
   pub counted : saved ≡ wordsIn (openOf t plan lent .answer)
 
 -- the buffers hold what a list of calls under demand 3's premises leaves, so many turns served and every list taken
-pub record UnderWay (t : Tables) (plan : List ℕ) (first : Held) (before : List ℕ) (count : ℕ) (state : List ℕ) (saved : ℕ) (kept : List ℕ)
+pub record UnderWay (keep : Keeping) (t : Tables) (plan : List ℕ) (first : Held) (before : List ℕ) (count : ℕ) (state : List ℕ) (saved : ℕ) (kept : List ℕ)
     (used : ℕ) : Type 0 where
   pub events : List Event
   pub premises : Premises t plan first events
@@ -154,6 +187,6 @@ pub record UnderWay (t : Tables) (plan : List ℕ) (first : Held) (before : List
   pub state-count : saved ≡ length (held .saved)
   pub state-room : leastStateWords ≤ length state
   pub fits : runFits (planOf plan .ending) (after t (planOf plan) (stepsIn (held .taken))) ≡ true
-  pub list : kept ≡ over (held .kept) before
-  pub words : used ≡ length (held .kept)
+  pub list : kept ≡ over (keptOf keep (planOf plan .ending) (held .kept)) before
+  pub words : used ≡ length (keptOf keep (planOf plan .ending) (held .kept))
   pub room : used ≤ length before

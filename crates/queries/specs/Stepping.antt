@@ -1,18 +1,21 @@
 -- One turn of a query, and its list taken: what a step answers and leaves. Assumes nothing: these are definitions.
 use Prim.Native.Nat.{ℕ, _+_}
 use mathlib.Core.Path.{_≡_}
-use mathlib.Core.List.{List, _++_}
-use mathlib.Core.Bool.{Bool, true, false, cond, not, _&&_}
+use mathlib.Core.List.{List, [], _++_}
+use mathlib.Core.Bool.{Bool, true, false, cond, not}
 use lib.Dec.{leb}
 use lib.ListN.{length, take}
 use Rattle.words.specs.declared.Written.{Written}
 use Rattle.words.specs.declared.Written.the-variants as written
 use Rattle.words.specs.Sequences.{over}
 use Rattle.plans.specs.Endings.{Ending, rows, top, group}
+use Rattle.plans.specs.Plans.{planOf}
 use Rattle.turns.specs.declared.TurnEnding.{TurnEnding}
 use Rattle.turns.specs.declared.TurnEnding.the-variants as ending
-use Rattle.turns.specs.Turns.{TurnInput, TurnResult, givenPlan, turnOf}
+use Rattle.turns.specs.Turns.{TurnInput, TurnResult, turnOf}
 use Rattle.merges.specs.Merging.{MergeResult, mergeOf}
+use Rattle.queries.specs.declared.Keeping.{Keeping}
+use Rattle.queries.specs.declared.Keeping.the-variants.{All, Merged}
 use Rattle.queries.specs.declared.Step.{Step}
 use Rattle.queries.specs.declared.Went.{Went}
 use Rattle.queries.specs.declared.Went.the-variants.{On, Over, Stopped}
@@ -29,18 +32,34 @@ isRows (rows vs) = true
 isRows (top k vs keys) = false
 isRows (group vs m) = false
 
--- the list of a served turn: of a row query it is joined, of any other merged
-abbrev pub toMerge : Ending → TurnEnding → Bool
-toMerge e x = isServed x && not (isRows e)
+-- whether the lists of an ending are kept: where only merged ones are, rows are left in the output
+abbrev pub keeps : Keeping → Ending → Bool
+keeps All e = true
+keeps Merged e = not (isRows e)
 
-abbrev pub toJoin : Ending → TurnEnding → Bool
-toJoin e x = isServed x && isRows e
+-- what is kept of a list
+abbrev pub keptOf : Keeping → Ending → List ℕ → List ℕ
+keptOf keep e list = cond (keeps keep e) list []
 
+-- ---- a list taken
 -- rows joined behind the kept ones, which are the first words of their buffer: refused by 14 where it has no room
 abbrev pub joinOf : List ℕ → ℕ → List ℕ → MergeResult
 joinOf kept used list =
     cond (leb (used + length list) (length kept)) (record { answer = written.Words (used + length list); kept = over (take used kept ++ list) kept })
     (record { answer = written.Refused 14; kept = kept })
+
+-- nothing is taken: the kept list is as it was
+abbrev pub leftAsIs : List ℕ → ℕ → MergeResult
+leftAsIs kept used = record { answer = written.Words used; kept = kept }
+
+abbrev pub rowsTaken : Keeping → List ℕ → ℕ → List ℕ → MergeResult
+rowsTaken All kept used list = joinOf kept used list
+rowsTaken Merged kept used list = leftAsIs kept used
+
+-- the list of a row query is joined or left, any other is merged
+abbrev pub listTaken : Keeping → List ℕ → List ℕ → ℕ → List ℕ → MergeResult
+listTaken keep plan kept used list =
+    cond (isRows (planOf plan .ending)) (rowsTaken keep kept used list) (mergeOf (record { plan = plan; kept = kept; given = used; list = list }))
 
 -- ---- one turn and its list
 -- what a step answers, and every buffer at exit
@@ -58,29 +77,13 @@ steppedAs r m =
 abbrev pub listOf : TurnResult → List ℕ
 listOf r = take (r .answer .listed) (r .output)
 
--- nothing is taken: the kept list is as it was
-abbrev pub leftAsIs : List ℕ → ℕ → MergeResult
-leftAsIs kept used = record { answer = written.Words used; kept = kept }
-
--- the list merged where it is one to merge
-abbrev pub mergedBy : TurnInput → TurnResult → List ℕ → ℕ → MergeResult
-mergedBy i r kept used =
-    cond (toMerge (givenPlan i .ending) (r .answer .ending))
-    (mergeOf (record { plan = i .plan; kept = kept; given = used; list = listOf r }))
-    (leftAsIs kept used)
-
--- a turn, and its list merged; the list of a row query stays in the output
-unfoldable pub playTurnOf : TurnInput → List ℕ → ℕ → Stepped
-playTurnOf i kept used = steppedAs (turnOf i) (mergedBy i (turnOf i) kept used)
-
--- the list joined where it is one to join, else merged where it is one to merge
-abbrev pub takenBy : TurnInput → TurnResult → List ℕ → ℕ → MergeResult
-takenBy i r kept used =
-    cond (toJoin (givenPlan i .ending) (r .answer .ending)) (joinOf kept used (listOf r)) (mergedBy i r kept used)
+-- of a turn that was served its list is taken, of any other nothing
+abbrev pub takenBy : Keeping → TurnInput → TurnResult → List ℕ → ℕ → MergeResult
+takenBy keep i r kept used = cond (isServed (r .answer .ending)) (listTaken keep (i .plan) kept used (listOf r)) (leftAsIs kept used)
 
 -- a turn, and its list taken
-unfoldable pub takeTurnOf : TurnInput → List ℕ → ℕ → Stepped
-takeTurnOf i kept used = steppedAs (turnOf i) (takenBy i (turnOf i) kept used)
+unfoldable pub takeTurnOf : Keeping → TurnInput → List ℕ → ℕ → Stepped
+takeTurnOf keep i kept used = steppedAs (turnOf i) (takenBy keep i (turnOf i) kept used)
 
 -- ---- how the query goes on
 abbrev pub wentBy : TurnEnding → ℕ → ℕ → Went

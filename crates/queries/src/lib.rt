@@ -4,9 +4,15 @@ mod stepping;
 
 pub use playing::play;
 pub use stepping::outcome;
-pub use stepping::play_turn;
+pub use stepping::take_turn;
 use turns::Turned;
 use words::Written;
+
+// Which lists a query's player keeps: all, rows joined end to end; or those that are merged, the rows of a turn left in the output.
+pub enum Keeping {
+    All,
+    Merged,
+}
 
 // One turn and its list: what the turn answers, and the words of the kept list, or the number that refused the list.
 pub struct Step {

@@ -1,10 +1,12 @@
 // A query from its opening on: turns of one quantum, each list taken, until it is done or so many turns are made.
+use crate::Keeping;
 use crate::Played;
 use crate::Went;
 use crate::stepping::advance;
 use words::Written;
 ghost use lib.ListN.{length};
 ghost use Rattle.tables.specs.Tables.{tablesOf};
+ghost use Rattle.queries.specs.declared.Keeping.the-variants.{All};
 ghost use Rattle.queries.specs.Playing.{Plays, Leaves, Started};
 
 // Turns from an opening's state on, at most so many, and the list of each taken.
@@ -21,7 +23,7 @@ fn go_on(
     kept: &mut [u32],
 ) -> Played
     requires { ⌜ Started (tablesOf (now rows) (now pos) (now osp)) (now plan) (now state) opened ⌝ }
-    ensures { λ r. ⌜ Leaves (tablesOf (now (rows .entry)) (now (pos .entry)) (now (osp .entry))) (now (plan .entry)) quantum most (length (now (output .entry))) (now (kept .entry)) (now (state .exit)) (now (kept .exit)) r ⌝ }
+    ensures { λ r. ⌜ Leaves All (tablesOf (now (rows .entry)) (now (pos .entry)) (now (osp .entry))) (now (plan .entry)) quantum most (length (now (output .entry))) (now (kept .entry)) (now (state .exit)) (now (kept .exit)) r ⌝ }
 {
     let mut saved = opened;
     let mut used: usize = 0;
@@ -38,6 +40,7 @@ fn go_on(
             output,
             kept,
             used,
+            Keeping::All,
         );
         match went {
             Went::On { saved: left, words } => {
@@ -67,7 +70,7 @@ pub fn play(
     output: &mut [u32],
     kept: &mut [u32],
 ) -> Played
-    ensures { λ r. ⌜ Plays (tablesOf (now (rows .entry)) (now (pos .entry)) (now (osp .entry))) (now (plan .entry)) quantum most (record { state = now (state .entry); output = now (output .entry); kept = now (kept .entry) }) (record { state = now (state .exit); output = now (output .exit); kept = now (kept .exit) }) r ⌝ }
+    ensures { λ r. ⌜ Plays All (tablesOf (now (rows .entry)) (now (pos .entry)) (now (osp .entry))) (now (plan .entry)) quantum most (record { state = now (state .entry); output = now (output .entry); kept = now (kept .entry) }) (record { state = now (state .exit); output = now (output .exit); kept = now (kept .exit) }) r ⌝ }
 {
     match service::open(rows, pos, osp, plan, state) {
         Written::Refused(x) => Played::Refused(x),

@@ -1,4 +1,5 @@
-// One turn of a query, and its list taken: merged into the kept one, or joined behind it.
+// One turn of a query, and its list taken: merged into the kept one, joined behind it, or left.
+use crate::Keeping;
 use crate::Step;
 use crate::Went;
 use plans::Last;
@@ -6,12 +7,10 @@ use turns::TurnEnding;
 use words::Written;
 ghost use mathlib.Core.Path.{_≡_};
 ghost use mathlib.Core.Bool.{true};
-ghost use Prim.Native.Nat.{_≤_};
 ghost use mathlib.Core.List.{[]};
-ghost use lib.ListN.{length};
 ghost use Rattle.plans.specs.Plans.{readPlan, hasForm, planOf};
 ghost use Rattle.turns.specs.Turns.{turnInput};
-ghost use Rattle.queries.specs.Stepping.{isServed, isRows, toMerge, toJoin, joinOf, playTurnOf, takeTurnOf, wentOf, Advances};
+ghost use Rattle.queries.specs.Stepping.{isServed, isRows, joinOf, rowsTaken, listTaken, takeTurnOf, wentOf, Advances};
 
 // What a join that has no room is refused by.
 pub const ROOM: u32 = 14;
@@ -41,31 +40,43 @@ fn is_rows(plan: &[u32]) -> bool
     }
 }
 
-// Whether a turn's list is one to merge: it was served, and its plan does not end in rows.
-fn to_merge(plan: &[u32], ending: TurnEnding) -> bool
-    requires { ⌜ (isServed ending ≡ true → hasForm (readPlan (now plan)) ≡ true) ⌝ }
-    ensures { λ r. ⌜ r ≡ toMerge (planOf (now (plan .entry)) .ending) ending ⌝ }
+// Joins a turn's rows behind those kept, or refuses where the buffer has no room for them.
+fn join(kept: &mut [u32], used: usize, list: &[u32]) -> Written
+    ensures { λ r. ⌜ record { answer = r; kept = now (kept .exit) } ≡ joinOf (now (kept .entry)) used (now (list .entry)) ⌝ }
 {
-    if is_served(ending) {
-        return !is_rows(plan);
+    if kept.len() < used {
+        return Written::Refused(ROOM);
     }
-    false
+    if kept.len() - used < list.len() {
+        return Written::Refused(ROOM);
+    }
+    lists::copy_in(kept, used, list);
+    Written::Words(used + list.len())
 }
 
-// Whether a turn's list is one to join: it was served, and its plan ends in rows.
-fn to_join(plan: &[u32], ending: TurnEnding) -> bool
-    requires { ⌜ (isServed ending ≡ true → hasForm (readPlan (now plan)) ≡ true) ⌝ }
-    ensures { λ r. ⌜ r ≡ toJoin (planOf (now (plan .entry)) .ending) ending ⌝ }
+// Takes a turn's rows: joined where all lists are kept, else left in the output.
+fn take_rows(kept: &mut [u32], used: usize, list: &[u32], keeping: Keeping) -> Written
+    ensures { λ r. ⌜ record { answer = r; kept = now (kept .exit) } ≡ rowsTaken keeping (now (kept .entry)) used (now (list .entry)) ⌝ }
 {
-    if is_served(ending) {
-        return is_rows(plan);
+    match keeping {
+        Keeping::All => join(kept, used, list),
+        Keeping::Merged => Written::Words(used),
     }
-    false
 }
 
-// Runs one turn, with no threshold, and merges its list into the kept one, which is the first words of its buffer, so many. The
-// list of a row query stays in the output.
-pub fn play_turn(
+// Takes the list of a served turn: rows by which lists are kept, any other list merged.
+fn take_list(plan: &[u32], kept: &mut [u32], used: usize, list: &[u32], keeping: Keeping) -> Written
+    requires { ⌜ hasForm (readPlan (now plan)) ≡ true ⌝ }
+    ensures { λ r. ⌜ record { answer = r; kept = now (kept .exit) } ≡ listTaken keeping (now (plan .entry)) (now (kept .entry)) used (now (list .entry)) ⌝ }
+{
+    if is_rows(plan) {
+        return take_rows(kept, used, list, keeping);
+    }
+    merges::merge(plan, kept, used, list)
+}
+
+// Runs one turn, with no threshold, and takes its list into the kept one, which is the first words of its buffer, so many.
+pub fn take_turn(
     rows: &[u32],
     pos: &[u32],
     osp: &[u32],
@@ -76,8 +87,9 @@ pub fn play_turn(
     output: &mut [u32],
     kept: &mut [u32],
     used: usize,
+    keeping: Keeping,
 ) -> Step
-    ensures { λ r. ⌜ record { answer = r; state = now (state .exit); output = now (output .exit); kept = now (kept .exit) } ≡ playTurnOf (turnInput (now (rows .entry)) (now (pos .entry)) (now (osp .entry)) (now (plan .entry)) (now (state .entry)) saved quantum [] (now (output .entry))) (now (kept .entry)) used ⌝ }
+    ensures { λ r. ⌜ record { answer = r; state = now (state .exit); output = now (output .exit); kept = now (kept .exit) } ≡ takeTurnOf keeping (turnInput (now (rows .entry)) (now (pos .entry)) (now (osp .entry)) (now (plan .entry)) (now (state .entry)) saved quantum [] (now (output .entry))) (now (kept .entry)) used ⌝ }
 {
     let turned = service::turn(
         rows,
@@ -92,8 +104,8 @@ pub fn play_turn(
     );
     let ending = turned.ending;
     let listed = turned.listed;
-    if to_merge(plan, ending) {
-        let taken = merges::merge(plan, kept, used, &output[..listed]);
+    if is_served(ending) {
+        let taken = take_list(plan, kept, used, &output[..listed], keeping);
         return Step {
             turned: turned,
             taken: taken,
@@ -103,59 +115,6 @@ pub fn play_turn(
         turned: turned,
         taken: Written::Words(used),
     }
-}
-
-// Joins a turn's rows behind those kept, or refuses where the buffer has no room for them.
-fn join(kept: &mut [u32], used: usize, list: &[u32]) -> Written
-    requires { ⌜ used ≤ length (now kept) ⌝ }
-    ensures { λ r. ⌜ record { answer = r; kept = now (kept .exit) } ≡ joinOf (now (kept .entry)) used (now (list .entry)) ⌝ }
-{
-    if kept.len() - used < list.len() {
-        return Written::Refused(ROOM);
-    }
-    lists::copy_in(kept, used, list);
-    Written::Words(used + list.len())
-}
-
-// Runs one turn and takes its list: joined for a row query, merged for any other.
-fn take_turn(
-    rows: &[u32],
-    pos: &[u32],
-    osp: &[u32],
-    plan: &[u32],
-    state: &mut [u32],
-    saved: usize,
-    quantum: u32,
-    output: &mut [u32],
-    kept: &mut [u32],
-    used: usize,
-) -> Step
-    requires { ⌜ used ≤ length (now kept) ⌝ }
-    ensures { λ r. ⌜ record { answer = r; state = now (state .exit); output = now (output .exit); kept = now (kept .exit) } ≡ takeTurnOf (turnInput (now (rows .entry)) (now (pos .entry)) (now (osp .entry)) (now (plan .entry)) (now (state .entry)) saved quantum [] (now (output .entry))) (now (kept .entry)) used ⌝ }
-{
-    let step = play_turn(
-        rows,
-        pos,
-        osp,
-        plan,
-        state,
-        saved,
-        quantum,
-        output,
-        kept,
-        used,
-    );
-    let turned = step.turned;
-    let ending = turned.ending;
-    let listed = turned.listed;
-    if to_join(plan, ending) {
-        let taken = join(kept, used, &output[..listed]);
-        return Step {
-            turned: turned,
-            taken: taken,
-        };
-    }
-    step
 }
 
 // How the query goes on after a turn whose list was taken, or not.
@@ -194,9 +153,9 @@ pub fn advance(
     output: &mut [u32],
     kept: &mut [u32],
     used: usize,
+    keeping: Keeping,
 ) -> Went
-    requires { ⌜ used ≤ length (now kept) ⌝ }
-    ensures { λ r. ⌜ Advances (takeTurnOf (turnInput (now (rows .entry)) (now (pos .entry)) (now (osp .entry)) (now (plan .entry)) (now (state .entry)) saved quantum [] (now (output .entry))) (now (kept .entry)) used) (now (state .exit)) (now (kept .exit)) r ⌝ }
+    ensures { λ r. ⌜ Advances (takeTurnOf keeping (turnInput (now (rows .entry)) (now (pos .entry)) (now (osp .entry)) (now (plan .entry)) (now (state .entry)) saved quantum [] (now (output .entry))) (now (kept .entry)) used) (now (state .exit)) (now (kept .exit)) r ⌝ }
 {
     outcome(take_turn(
         rows,
@@ -209,5 +168,6 @@ pub fn advance(
         output,
         kept,
         used,
+        keeping,
     ))
 }

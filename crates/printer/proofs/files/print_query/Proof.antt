@@ -1,6 +1,8 @@
--- `print_query` is safe: a file's parts lie within it, and the plan of an opened query has the form.
+-- `print_query` is safe: a file's parts lie within it, and what it runs is started by a served opening.
 use borrow.Author.Needs.{needs}
-use Rattle.printer.proofs.Openings.{opened-form}
+use mathlib.Core.Path.{ap}
+use Rattle.turns.specs.Opening.{Opened}
+use Rattle.queries.proofs.Starting.{started}
 use Rattle.printer.proofs.files.print_query.Statement.{statement}
 use Rattle.printer.proofs.files.print_query.Tie as tie
 
@@ -63,7 +65,8 @@ enum-known-opened c = search needs
 
 run-requires : tie.Need-run-requires
 run-requires c κs =
-    opened-form _ _ _ _ _ _ (c .before .before .before .before .before .«open» .ensures) (c .before .before .opened .given .1)
+    let o = c .before .before .before .before .before .«open» in
+    started _ _ _ (o .result) (ap (λ (r : Opened). r .answer) (o .ensures)) _ (ap (λ (r : Opened). r .state) (o .ensures)) _ (c .before .before .opened .given .1)
 
 enum-known-opened-2 : tie.Need-enum-known-opened-2
 enum-known-opened-2 c = search needs

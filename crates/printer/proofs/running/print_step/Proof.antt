@@ -1,41 +1,38 @@
--- `print_step` lends the turn's list, whole rows where it is printed, and the kept list stays whole.
+-- `print_step` meets its contract: the turn and its list are those of `take_turn`, and what it prints of them is the uncut run's.
 use borrow.Author.Needs.{needs}
-use Prim.Native.Nat.{_%_}
-use mathlib.Core.Path.{sym, _∙_, ap}
+use mathlib.Core.Path.{refl, sym, _∙_, ap}
 use lib.Seq.{length-take-le}
-use Rattle.printer.proofs.Widths.{lists-width}
-use Rattle.printer.proofs.KeptLists.{same-holds}
-use Rattle.printer.proofs.Steps.{list-room, list-whole, kept-holds}
+use Rattle.queries.specs.Stepping.{Stepped, wentOf}
+use Rattle.printer.proofs.Steps.{list-room, printed}
 use Rattle.printer.proofs.running.print_step.Statement.{statement}
 use Rattle.printer.proofs.running.print_step.Tie as tie
 
-play-turn-requires : tie.Need-play-turn-requires
-play-turn-requires c κs = search needs
+take-turn-requires : tie.Need-take-turn-requires
+take-turn-requires c κs = search needs
 
-print-turn-requires : tie.Need-print-turn-requires
-print-turn-requires c κs = search needs
+add-number : tie.Need-add-number
+add-number c = let s = c .before .before .before .before .before .before .before .before .before .before .before .before .before .before .before .before .before .before .pre .1 .1 .0 in search needs
 
-slice-reshare-prefix-print-delivered : tie.Need-slice-reshare-prefix-print-delivered
-slice-reshare-prefix-print-delivered c = list-room _ _ _ _ _ _ _ (c .before .before .before .before .before .before .before .before .play-turn .ensures)
+slice-reshare-prefix-print-shown : tie.Need-slice-reshare-prefix-print-shown
+slice-reshare-prefix-print-shown c = list-room _ _ _ _ _ _ _ (c .before .before .before .before .before .before .before .take-turn .ensures)
 
-slice-aggregate-print-delivered : tie.Need-slice-aggregate-print-delivered
-slice-aggregate-print-delivered c =
-    let p = c .before .before .before .before .before .before .before .before .before .play-turn in
-    sym (length-take-le (p .result .turned .listed) _ (list-room _ _ _ _ _ _ _ (p .ensures)))
+slice-aggregate-print-shown : tie.Need-slice-aggregate-print-shown
+slice-aggregate-print-shown c =
+    let t = c .before .before .before .before .before .before .before .before .take-turn in
+    sym (length-take-le (t .result .turned .listed) _ (list-room _ _ _ _ _ _ _ (t .ensures)))
 
-print-delivered-requires : tie.Need-print-delivered-requires
-print-delivered-requires c κs =
-    let t = c .before .before .before .before .before .before .before .before .before in
-    let p = t .play-turn in
+print-shown-requires : tie.Need-print-shown-requires
+print-shown-requires c κs =
+    let t = c .before .before .before .before .before .before .before .before in
     let s = t .before .before .before .before .before .before .before .before .before .before .before in
-    let l = s .args .lists in (
-      lists-width (s .args .plan .now) l (s .pre .0),
-      λ e. ap (λ n. n % l .width) (length-take-le (p .result .turned .listed) _ (list-room _ _ _ _ _ _ _ (p .ensures)))
-          ∙ list-whole _ _ _ _ _ _ _ (p .ensures) l (s .pre .0) e,
-    )
+    let same = c .before .before .before .before .before .output .given in
+    (s .pre .0, printed _ _ _ _ _ _ _ (t .take-turn .ensures) refl (s .args .made) (s .pre .1 .0) (s .pre .1 .1 .1) same)
 
-next-of-requires : tie.Need-next-of-requires
-next-of-requires c κs = search needs
+print-taken-requires : tie.Need-print-taken-requires
+print-taken-requires c κs = search needs
+
+outcome-requires : tie.Need-outcome-requires
+outcome-requires c κs = search needs
 
 same-length : tie.Need-same-length
 same-length c = search needs
@@ -48,22 +45,24 @@ same-length-3 c = search needs
 
 returns : tie.Need-returns
 returns c =
-    let t = c .before .before .before .before .before .before .before .before .before .before .before in
-    let p = t .play-turn in
-    let s = t .before .before .before .before .before .before .before .before .before .before .before in
-    same-holds _ _ _ _ (sym (c .next-of .ensures))
-    (kept-holds _ _ _ _ _ _ _ (p .ensures) (s .args .lists) (s .pre .0) (s .pre .1))
+    let e = c .before .before .before .before .before .before .before .before .before .before .before .take-turn .ensures in
+    record {
+      left = ap (λ (x : Stepped). x .state) e;
+      list = ap (λ (x : Stepped). x .kept) e;
+      went = c .outcome .ensures ∙ ap (λ (x : Stepped). wentOf (x .answer)) e;
+    }
 
 pub print-step-spec : {M : Type 1} → statement M
 print-step-spec =
     tie.close
     (tie.spec
-    play-turn-requires
-    print-turn-requires
-    slice-reshare-prefix-print-delivered
-    slice-aggregate-print-delivered
-    print-delivered-requires
-    next-of-requires
+    take-turn-requires
+    add-number
+    slice-reshare-prefix-print-shown
+    slice-aggregate-print-shown
+    print-shown-requires
+    print-taken-requires
+    outcome-requires
     same-length
     same-length-2
     same-length-3

@@ -1,40 +1,75 @@
--- `run` is safe: a row or record has at most 16 words, so that 64 of them fit the output's buffer.
+-- `run` is safe: a row or record has at most 16 words, so that 64 of them fit the output's buffer; and it prints the uncut run's list.
 use borrow.Author.Needs.{needs}
 use native.Mathlib.Omega.{arith}
 use lib.ListN.{length-take}
+use Rattle.tables.specs.Tables.{tablesOf}
+use Rattle.printer.proofs.Openings.{started-form, started-opens}
 use Rattle.printer.proofs.Widths.{some-words, lists-width}
+use Rattle.printer.proofs.KeptLists.{ends-whole}
 use Rattle.printer.proofs.running.run.Statement.{statement}
 use Rattle.printer.proofs.running.run.Tie as tie
 
 lists-of-requires : tie.Need-lists-of-requires
-lists-of-requires c κs = search needs
+lists-of-requires c κs =
+    let s = c .before .before .before .before in
+    let t = tablesOf (s .args .rows .now) (s .args .pos .now) (s .args .osp .now) in
+    let p = s .args .plan .now in
+    let form = started-form t p (s .args .state .now) (s .args .opened) (s .pre) in
+    form
 
 mul-room : tie.Need-mul-room
 mul-room c =
     let s = c .before .before .before .before .before .before in
+    let t = tablesOf (s .args .rows .now) (s .args .pos .now) (s .args .osp .now) in
+    let p = s .args .plan .now in
+    let form = started-form t p (s .args .state .now) (s .args .opened) (s .pre) in
     let l = c .before .lists-of in
-    let h = some-words (l .result .kind) (l .result .width) (lists-width (s .args .plan .now) (l .result) (s .pre, l .ensures)) in
+    let h = some-words (l .result .kind) (l .result .width) (lists-width p (l .result) (form, l .ensures)) in
     search needs
 
 array-borrow-prefix-output : tie.Need-array-borrow-prefix-output
 array-borrow-prefix-output c =
     let s = c .before .before .before .before .before .before .before in
+    let t = tablesOf (s .args .rows .now) (s .args .pos .now) (s .args .osp .now) in
+    let p = s .args .plan .now in
+    let form = started-form t p (s .args .state .now) (s .args .opened) (s .pre) in
     let l = c .before .before .lists-of in
-    let h = some-words (l .result .kind) (l .result .width) (lists-width (s .args .plan .now) (l .result) (s .pre, l .ensures)) in
+    let h = some-words (l .result .kind) (l .result .width) (lists-width p (l .result) (form, l .ensures)) in
     search needs
 
 slice-aggregate-go-on : tie.Need-slice-aggregate-go-on
 slice-aggregate-go-on c =
     let s = c .before .before .before .before .before .before .before .before in
+    let t = tablesOf (s .args .rows .now) (s .args .pos .now) (s .args .osp .now) in
+    let p = s .args .plan .now in
+    let form = started-form t p (s .args .state .now) (s .args .opened) (s .pre) in
     let l = c .before .before .before .lists-of in
-    let h = some-words (l .result .kind) (l .result .width) (lists-width (s .args .plan .now) (l .result) (s .pre, l .ensures)) in
+    let h = some-words (l .result .kind) (l .result .width) (lists-width p (l .result) (form, l .ensures)) in
     simp length-take (omega arith)
 
 slice-aggregate-go-on-2 : tie.Need-slice-aggregate-go-on-2
 slice-aggregate-go-on-2 c = search needs
 
 go-on-requires : tie.Need-go-on-requires
-go-on-requires c κs = search needs
+go-on-requires c κs =
+    let s = c .before .before .before .before .before .before .before .before .before in
+    let t = tablesOf (s .args .rows .now) (s .args .pos .now) (s .args .osp .now) in
+    let p = s .args .plan .now in
+    let form = started-form t p (s .args .state .now) (s .args .opened) (s .pre) in
+    ((form, c .before .before .before .before .lists-of .ensures), s .pre)
+
+slice-aggregate-print-played : tie.Need-slice-aggregate-print-played
+slice-aggregate-print-played c = search needs
+
+print-played-requires : tie.Need-print-played-requires
+print-played-requires c κs =
+    let s = c .before .before .before .before .before .before .before .before .before .before .before .before .before in
+    let t = tablesOf (s .args .rows .now) (s .args .pos .now) (s .args .osp .now) in
+    let p = s .args .plan .now in
+    let form = started-form t p (s .args .state .now) (s .args .opened) (s .pre) in
+    let g = c .before .before .before .go-on in
+    let opens = started-opens t p (s .args .state .now) (s .args .opened) (s .pre) in
+    ((form, c .before .before .before .before .before .before .before .before .lists-of .ensures), (opens, ends-whole t p _ _ _ _ _ _ (g .result) (g .ensures)))
 
 returns : tie.Need-returns
 returns c = search needs
@@ -49,4 +84,6 @@ run-spec =
     slice-aggregate-go-on
     slice-aggregate-go-on-2
     go-on-requires
+    slice-aggregate-print-played
+    print-played-requires
     returns)

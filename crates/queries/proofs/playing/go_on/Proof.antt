@@ -5,6 +5,7 @@ use native.Mathlib.Omega.{arith}
 use mathlib.Core.Path.{_≡_, refl, _∙_, subst}
 use lib.ListN.{length}
 use Rattle.tables.specs.Tables.{tablesOf}
+use Rattle.queries.specs.declared.Keeping.the-variants.{All}
 use Rattle.queries.specs.Playing.{Pauses, startAt}
 use Rattle.queries.proofs.Leaving.{Going, pauses}
 use Rattle.queries.proofs.Starting.{start-accepts, start-keeps, start-goes, turns-to}
@@ -14,7 +15,7 @@ use Rattle.queries.proofs.playing.go_on.Tie as tie
 abbrev Inv-loop : tie.InvT-loop
 Inv-loop rows pos osp plan quantum most state₀ opened output₀ kept₀ saved₀ used₀ n₀ state output kept saved used n =
     (n ≤ most) × (length state ≡ length state₀) × (length output ≡ length output₀) × (length kept ≡ length kept₀)
-    × Going (tablesOf rows pos osp) plan (startAt state₀ opened) kept₀ quantum (length output₀) n state saved kept used
+    × Going All (tablesOf rows pos osp) plan (startAt state₀ opened) kept₀ quantum (length output₀) n state saved kept used
 
 abbrev μ-loop : tie.MeasureT-loop
 μ-loop rows pos osp plan quantum most state₀ opened output₀ kept₀ saved₀ used₀ n₀ state output kept saved used n = most - n
@@ -26,12 +27,10 @@ loop-holds c =
     let p = s .args .plan .now in
     let st = s .args .state .now in
     let room = length (s .args .output .now) in
-    (omega arith, refl, refl, refl, start-goes t p st (s .args .opened) (s .pre) (s .args .kept .now) (s .args .quantum) room)
+    (omega arith, refl, refl, refl, start-goes t p st (s .args .opened) (s .pre) All (s .args .kept .now) (s .args .quantum) room)
 
 advance-requires : tie.Need-advance-requires Inv-loop μ-loop
-advance-requires c κs =
-    let v = c .before .before .before .before .loop .inv in
-    omega (arith, v .3, v .4 .under .room)
+advance-requires c κs = search needs
 
 enum-known-went : tie.Need-enum-known-went Inv-loop μ-loop
 enum-known-went c = search needs
@@ -50,7 +49,7 @@ loop-again c =
     let t = tablesOf (s .args .rows .now) (s .args .pos .now) (s .args .osp .now) in
     let p = s .args .plan .now in
     let v = l .loop .inv in
-    let g = turns-to t p (s .args .state .now) (s .args .opened) (s .pre) (s .args .kept .now) (s .args .quantum) (s .args .most) (length (s .args .output .now))
+    let g = turns-to t p (s .args .state .now) (s .args .opened) (s .pre) All (s .args .kept .now) (s .args .quantum) (s .args .most) (length (s .args .output .now))
     (l .loop .n) (omega arith) (l .loop .state) (l .loop .saved) (l .loop .kept) (l .loop .used) (v .4) (l .loop .output) (v .2) _ _
     (d .advance .result) (d .advance .ensures) _ (c .before .went .given .1) in (
       omega arith,
@@ -86,7 +85,7 @@ returns c =
     let t = tablesOf (s .args .rows .now) (s .args .pos .now) (s .args .osp .now) in
     let p = s .args .plan .now in
     let v = l .loop .inv in
-    turns-to t p (s .args .state .now) (s .args .opened) (s .pre) (s .args .kept .now) (s .args .quantum) (s .args .most) (length (s .args .output .now))
+    turns-to t p (s .args .state .now) (s .args .opened) (s .pre) All (s .args .kept .now) (s .args .quantum) (s .args .most) (length (s .args .output .now))
     (l .loop .n) (omega arith) (l .loop .state) (l .loop .saved) (l .loop .kept) (l .loop .used) (v .4) (l .loop .output) (v .2) _ _
     (d .advance .result) (d .advance .ensures) _ (c .before .went2 .given .1)
 
@@ -116,7 +115,7 @@ returns-2 c =
     let t = tablesOf (s .args .rows .now) (s .args .pos .now) (s .args .osp .now) in
     let p = s .args .plan .now in
     let v = l .loop .inv in
-    turns-to t p (s .args .state .now) (s .args .opened) (s .pre) (s .args .kept .now) (s .args .quantum) (s .args .most) (length (s .args .output .now))
+    turns-to t p (s .args .state .now) (s .args .opened) (s .pre) All (s .args .kept .now) (s .args .quantum) (s .args .most) (length (s .args .output .now))
     (l .loop .n) (omega arith) (l .loop .state) (l .loop .saved) (l .loop .kept) (l .loop .used) (v .4) (l .loop .output) (v .2) _ _
     (d .advance .result) (d .advance .ensures) _ (c .before .went3 .given .1)
 
@@ -142,8 +141,8 @@ returns-3 c =
     let room = length (s .args .output .now) in
     let v = l .loop .inv in
     let e : l .loop .n ≡ s .args .most = omega (arith, c .loop-test .left, v .0) in
-    subst (λ n. Pauses t p quantum n room k (l .loop .state) (l .loop .kept) (l .loop .saved) (l .loop .used)) e
-    (pauses t p (start-accepts t p st o (s .pre)) (startAt st o) (start-keeps t p st o (s .pre)) k (l .loop .n) (l .loop .state) (l .loop .saved)
+    subst (λ n. Pauses All t p quantum n room k (l .loop .state) (l .loop .kept) (l .loop .saved) (l .loop .used)) e
+    (pauses All t p (start-accepts t p st o (s .pre)) (startAt st o) (start-keeps t p st o (s .pre)) k (l .loop .n) (l .loop .state) (l .loop .saved)
     (l .loop .kept) (l .loop .used) (v .4 .under) (v .4 .alive) quantum room (v .4 .made))
 
 pub go-on-spec : {M : Type 1} → statement M

@@ -4,6 +4,7 @@ use mathlib.Core.Path.{ap}
 use mathlib.Core.Logic.{inl}
 use Rattle.tables.specs.Tables.{tablesOf}
 use Rattle.turns.specs.Opening.{Opened}
+use Rattle.queries.specs.declared.Keeping.the-variants.{All}
 use Rattle.queries.proofs.Starting.{opens, started, not-opened, plays}
 use Rattle.queries.proofs.playing.play.Statement.{statement}
 use Rattle.queries.proofs.playing.play.Tie as tie
@@ -51,7 +52,7 @@ returns-2 c =
     let o = g .before .before .before .before .before .before .before .before .before in
     let s = o .before .before .before .before .before .before .before .before .before in
     let l = g .go-on .last in
-    plays (tablesOf (s .args .rows .now) (s .args .pos .now) (s .args .osp .now)) (s .args .plan .now) (s .args .quantum) (s .args .most)
+    plays All (tablesOf (s .args .rows .now) (s .args .pos .now) (s .args .osp .now)) (s .args .plan .now) (s .args .quantum) (s .args .most)
     (record { state = s .args .state .now; output = s .args .output .now; kept = s .args .kept .now })
     (record { state = l .1 .1 .1 .1 .1 .1 .0; output = l .1 .1 .1 .1 .1 .1 .1 .1 .0; kept = l .1 .1 .1 .1 .1 .1 .1 .1 .1 .0 })
     (opens (tablesOf (s .args .rows .now) (s .args .pos .now) (s .args .osp .now)) (s .args .plan .now) (s .args .state .now) (o .«open» .result)

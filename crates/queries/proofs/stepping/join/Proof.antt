@@ -9,29 +9,35 @@ use Rattle.queries.proofs.Taking.{no-room, joined}
 use Rattle.queries.proofs.stepping.join.Statement.{statement}
 use Rattle.queries.proofs.stepping.join.Tie as tie
 
-sub-if1 : tie.Need-sub-if1
-sub-if1 c = search needs
-
 returns : tie.Need-returns
 returns c =
     let s = c .before .before .before in
-    no-room (s .args .kept .now) (s .args .used) (s .args .list .now) (s .pre) (omega arith)
+    no-room (s .args .kept .now) (s .args .used) (s .args .list .now) (omega arith)
+
+sub-if2 : tie.Need-sub-if2
+sub-if2 c = search needs
+
+returns-2 : tie.Need-returns-2
+returns-2 c =
+    let s = c .before .before .before .before in
+    no-room (s .args .kept .now) (s .args .used) (s .args .list .now) (omega arith)
 
 copy-in-requires : tie.Need-copy-in-requires
 copy-in-requires c κs = search needs
 
-add-t5 : tie.Need-add-t5
-add-t5 c = search needs
+add-t6 : tie.Need-add-t6
+add-t6 c = search needs
 
 same-length : tie.Need-same-length
 same-length c = search needs
 
-returns-2 : tie.Need-returns-2
-returns-2 c =
+returns-3 : tie.Need-returns-3
+returns-3 c =
     let k = c .before .before in
-    let s = k .before .before .before .before .before in
+    let s = k .before .before .before .before .before .before in
     ap (λ l. record { answer = written.Words (s .args .used + length (s .args .list .now)); kept = l }) (k .copy-in .ensures)
-    ∙ joined (s .args .kept .now) (s .args .used) (s .args .list .now) (s .pre) (omega arith)
+    ∙ joined (s .args .kept .now) (s .args .used) (s .args .list .now) (omega arith)
 
 pub join-spec : {M : Type 1} → statement M
-join-spec = tie.close (tie.spec sub-if1 returns copy-in-requires add-t5 same-length returns-2)
+join-spec =
+    tie.close (tie.spec returns sub-if2 returns-2 copy-in-requires add-t6 same-length returns-3)

@@ -1,40 +1,41 @@
--- `take_turn` meets its contract: the turn, its list merged, or joined where it is one to join.
+-- `take_turn` meets its contract: the turn, and its list taken where it was served.
 use borrow.Author.Needs.{needs}
-use mathlib.Core.Path.{sym, _∙_}
-use mathlib.Core.List.{[]}
+use mathlib.Core.Path.{sym, _∙_, ap}
 use lib.Seq.{length-take-le}
-use Rattle.words.proofs.Booleans.{and-left}
-use Rattle.turns.specs.Turns.{turnInput}
-use Rattle.queries.specs.Stepping.{isServed}
-use Rattle.queries.proofs.Taking.{served-form, served-room, step-turned, step-output, joined-step, other-step}
+use Rattle.turns.specs.Turns.{TurnResult}
+use Rattle.queries.proofs.Taking.{served-form, served-room, list-taken, none-taken}
 use Rattle.queries.proofs.stepping.take_turn.Statement.{statement}
 use Rattle.queries.proofs.stepping.take_turn.Tie as tie
 
-play-turn-requires : tie.Need-play-turn-requires
-play-turn-requires c κs = search needs
+slice-aggregate-turn : tie.Need-slice-aggregate-turn
+slice-aggregate-turn c = search needs
 
-to-join-requires : tie.Need-to-join-requires
-to-join-requires c κs =
-    let p = c .before .before .before .before .before .before .before in
-    let s = p .before .before .before .before .before .before .before .before .before .before .before in
-    served-form (turnInput (s .args .rows .now) (s .args .pos .now) (s .args .osp .now) (s .args .plan .now) (s .args .state .now) (s .args .saved) (s .args .quantum) [] (s .args .output .now)) (p .play-turn .result .turned) (step-turned (turnInput (s .args .rows .now) (s .args .pos .now) (s .args .osp .now) (s .args .plan .now) (s .args .state .now) (s .args .saved) (s .args .quantum) [] (s .args .output .now)) (s .args .kept .now) (s .args .used) (p .play-turn .result) (p .play-turn .last .1 .1 .1 .1 .0) (p .play-turn .last .1 .1 .1 .1 .1 .1 .1 .0) (p .play-turn .last .1 .1 .1 .1 .1 .1 .1 .1 .0) (p .play-turn .ensures))
+turn-requires : tie.Need-turn-requires
+turn-requires c κs = search needs
 
-slice-reshare-prefix-join : tie.Need-slice-reshare-prefix-join
-slice-reshare-prefix-join c =
-    let p = c .before .before .before .before .before .before .before .before .before .before in
-    let s = p .before .before .before .before .before .before .before .before .before .before .before in
-    served-room (turnInput (s .args .rows .now) (s .args .pos .now) (s .args .osp .now) (s .args .plan .now) (s .args .state .now) (s .args .saved) (s .args .quantum) [] (s .args .output .now)) (p .play-turn .result .turned) _ (step-turned (turnInput (s .args .rows .now) (s .args .pos .now) (s .args .osp .now) (s .args .plan .now) (s .args .state .now) (s .args .saved) (s .args .quantum) [] (s .args .output .now)) (s .args .kept .now) (s .args .used) (p .play-turn .result) (p .play-turn .last .1 .1 .1 .1 .0) (p .play-turn .last .1 .1 .1 .1 .1 .1 .1 .0) (p .play-turn .last .1 .1 .1 .1 .1 .1 .1 .1 .0) (p .play-turn .ensures)) (step-output (turnInput (s .args .rows .now) (s .args .pos .now) (s .args .osp .now) (s .args .plan .now) (s .args .state .now) (s .args .saved) (s .args .quantum) [] (s .args .output .now)) (s .args .kept .now) (s .args .used) (p .play-turn .result) (p .play-turn .last .1 .1 .1 .1 .0) (p .play-turn .last .1 .1 .1 .1 .1 .1 .1 .0) (p .play-turn .last .1 .1 .1 .1 .1 .1 .1 .1 .0) (p .play-turn .ensures))
-    (and-left (isServed (p .play-turn .result .turned .ending)) _ (sym (c .before .before .to-join .ensures) ∙ c .before .if1 .taken))
+is-served-requires : tie.Need-is-served-requires
+is-served-requires c κs = search needs
 
-slice-aggregate-join : tie.Need-slice-aggregate-join
-slice-aggregate-join c =
-    let p = c .before .before .before .before .before .before .before .before .before .before .before in
-    let s = p .before .before .before .before .before .before .before .before .before .before .before in
-    sym (length-take-le (p .play-turn .result .turned .listed) _ (served-room (turnInput (s .args .rows .now) (s .args .pos .now) (s .args .osp .now) (s .args .plan .now) (s .args .state .now) (s .args .saved) (s .args .quantum) [] (s .args .output .now)) (p .play-turn .result .turned) _ (step-turned (turnInput (s .args .rows .now) (s .args .pos .now) (s .args .osp .now) (s .args .plan .now) (s .args .state .now) (s .args .saved) (s .args .quantum) [] (s .args .output .now)) (s .args .kept .now) (s .args .used) (p .play-turn .result) (p .play-turn .last .1 .1 .1 .1 .0) (p .play-turn .last .1 .1 .1 .1 .1 .1 .1 .0) (p .play-turn .last .1 .1 .1 .1 .1 .1 .1 .1 .0) (p .play-turn .ensures)) (step-output (turnInput (s .args .rows .now) (s .args .pos .now) (s .args .osp .now) (s .args .plan .now) (s .args .state .now) (s .args .saved) (s .args .quantum) [] (s .args .output .now)) (s .args .kept .now) (s .args .used) (p .play-turn .result) (p .play-turn .last .1 .1 .1 .1 .0) (p .play-turn .last .1 .1 .1 .1 .1 .1 .1 .0) (p .play-turn .last .1 .1 .1 .1 .1 .1 .1 .1 .0) (p .play-turn .ensures))
-    (and-left (isServed (p .play-turn .result .turned .ending)) _ (sym (c .before .before .before .to-join .ensures) ∙ c .before .before .if1 .taken))))
+slice-reshare-prefix-take-list : tie.Need-slice-reshare-prefix-take-list
+slice-reshare-prefix-take-list c =
+    let u = c .before .before .before .before .before .before .before in
+    let e = u .turn .ensures in
+    served-room _ (u .turn .result) _ (ap (λ (r : TurnResult). r .answer) e) (ap (λ (r : TurnResult). r .output) e)
+    (sym (c .before .before .is-served .ensures) ∙ c .before .if1 .taken)
 
-join-requires : tie.Need-join-requires
-join-requires c κs = search needs
+slice-aggregate-take-list : tie.Need-slice-aggregate-take-list
+slice-aggregate-take-list c =
+    let u = c .before .before .before .before .before .before .before .before in
+    let e = u .turn .ensures in
+    sym (length-take-le (u .turn .result .listed) _
+    (served-room _ (u .turn .result) _ (ap (λ (r : TurnResult). r .answer) e) (ap (λ (r : TurnResult). r .output) e)
+    (sym (c .before .before .before .is-served .ensures) ∙ c .before .before .if1 .taken)))
+
+take-list-requires : tie.Need-take-list-requires
+take-list-requires c κs =
+    let u = c .before .before .before .before .before .before .before .before in
+    served-form _ (u .turn .result) (ap (λ (r : TurnResult). r .answer) (u .turn .ensures))
+    (sym (c .before .before .before .is-served .ensures) ∙ c .before .before .if1 .taken)
 
 same-length : tie.Need-same-length
 same-length c = search needs
@@ -47,10 +48,14 @@ same-length-3 c = search needs
 
 returns : tie.Need-returns
 returns c =
-    let p = c .before .before .before .before .before .before .before .before .before .before .before .before .before .before in
-    let s = p .before .before .before .before .before .before .before .before .before .before .before in
-    joined-step (turnInput (s .args .rows .now) (s .args .pos .now) (s .args .osp .now) (s .args .plan .now) (s .args .state .now) (s .args .saved) (s .args .quantum) [] (s .args .output .now)) (s .args .kept .now) (s .args .used) (p .play-turn .result) (p .play-turn .last .1 .1 .1 .1 .0) (p .play-turn .last .1 .1 .1 .1 .1 .1 .1 .0) (p .play-turn .last .1 .1 .1 .1 .1 .1 .1 .1 .0) (p .play-turn .ensures) (sym (c .before .before .before .before .before .before .to-join .ensures) ∙ c .before .before .before .before .before .if1 .taken)
-    (record { answer = c .before .before .join .result; kept = c .before .before .join .last .0 }) (c .before .before .join .ensures)
+    let l = c .before .before in
+    let u = c .before .before .before .before .before .before .before .before .before .before .before in
+    let s = u .before .before .before .before .before .before .before .before .before .before .before in
+    let e = u .turn .ensures in
+    list-taken (s .args .keeping) _ (s .args .kept .now) (s .args .used) (u .turn .result) _ _ (ap (λ (r : TurnResult). r .answer) e)
+    (ap (λ (r : TurnResult). r .state) e) (ap (λ (r : TurnResult). r .output) e)
+    (record { answer = l .take-list .result; kept = l .take-list .last .1 .0 })
+    (sym (c .before .before .before .before .before .before .is-served .ensures) ∙ c .before .before .before .before .before .if1 .taken) (l .take-list .ensures)
 
 same-length-4 : tie.Need-same-length-4
 same-length-4 c = search needs
@@ -58,29 +63,29 @@ same-length-4 c = search needs
 same-length-5 : tie.Need-same-length-5
 same-length-5 c = search needs
 
-same-length-6 : tie.Need-same-length-6
-same-length-6 c = search needs
-
 returns-2 : tie.Need-returns-2
 returns-2 c =
-    let p = c .before .before .before .before .before .before .before .before .before in
-    let s = p .before .before .before .before .before .before .before .before .before .before .before in
-    other-step (turnInput (s .args .rows .now) (s .args .pos .now) (s .args .osp .now) (s .args .plan .now) (s .args .state .now) (s .args .saved) (s .args .quantum) [] (s .args .output .now)) (s .args .kept .now) (s .args .used) (p .play-turn .result) (p .play-turn .last .1 .1 .1 .1 .0) (p .play-turn .last .1 .1 .1 .1 .1 .1 .1 .0) (p .play-turn .last .1 .1 .1 .1 .1 .1 .1 .1 .0) (p .play-turn .ensures) (sym (c .before .to-join .ensures) ∙ c .if1 .left)
+    let u = c .before .before .before .before .before .before in
+    let s = u .before .before .before .before .before .before .before .before .before .before .before in
+    let e = u .turn .ensures in
+    none-taken (s .args .keeping) _ (s .args .kept .now) (s .args .used) (u .turn .result) _ _ (ap (λ (r : TurnResult). r .answer) e)
+    (ap (λ (r : TurnResult). r .state) e) (ap (λ (r : TurnResult). r .output) e)
+    (sym (c .before .is-served .ensures) ∙ c .if1 .left)
 
 pub take-turn-spec : {M : Type 1} → statement M
 take-turn-spec =
     tie.close
     (tie.spec
-    play-turn-requires
-    to-join-requires
-    slice-reshare-prefix-join
-    slice-aggregate-join
-    join-requires
+    slice-aggregate-turn
+    turn-requires
+    is-served-requires
+    slice-reshare-prefix-take-list
+    slice-aggregate-take-list
+    take-list-requires
     same-length
     same-length-2
     same-length-3
     returns
     same-length-4
     same-length-5
-    same-length-6
     returns-2)
