@@ -11,7 +11,7 @@ use Rattle.words.specs.Bindings.{Bindings, variableCount}
 use Rattle.words.specs.Sequences.{all}
 use Rattle.words.specs.Tests.{firstFailing}
 use Rattle.words.proofs.Booleans.{and-right}
-use Rattle.words.proofs.Testing.{AllPass, all-passes}
+use Rattle.words.proofs.Testing.{all-passes}
 use Rattle.tables.specs.Tables.{Tables, tableTests}
 use Rattle.plans.specs.Plans.{readPlan, planOf, variablesRight}
 use Rattle.plans.proofs.Bounds.{PlanForm, plan-form, was-read}
@@ -21,7 +21,7 @@ use Rattle.lists.proofs.Each.{all-each}
 use Rattle.lists.proofs.EachMore.{each-weaken}
 use Rattle.lists.proofs.Values.{AllValues}
 use Rattle.lists.proofs.Gatherings.{Gathering, gathering}
-use Rattle.turns.specs.Opening.{openTests, Opens}
+use Rattle.turns.specs.Opening.{Opens}
 use Rattle.turns.proofs.Refusals.{open-refusals}
 
 pub record Accepted (t : Tables) (plan : List ℕ) : Type 0 where

@@ -15,7 +15,7 @@ use Rattle.words.specs.Words.{isValue}
 use Rattle.words.specs.Bindings.{Bindings}
 use Rattle.words.specs.Sequences.{all}
 use Rattle.words.specs.Tests.{firstFailing}
-use Rattle.words.proofs.Booleans.{absurd-true, and-right, and-both}
+use Rattle.words.proofs.Booleans.{absurd-true, and-both}
 use Rattle.words.proofs.Testing.{none-some, some-injective, fails-first}
 use Rattle.tables.specs.Tables.{Tables}
 use Rattle.plans.specs.Endings.{Ending, rows, top, group}

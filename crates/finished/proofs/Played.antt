@@ -17,7 +17,9 @@ use Rattle.sparql.proofs.Solutions.{solutions}
 use Rattle.sparql.proofs.Answered.{answered}
 use Rattle.queries.specs.declared.Keeping.the-variants.{All}
 use Rattle.queries.specs.declared.Played.the-variants as played
-use Rattle.queries.specs.Playing.{listAfter, Lent, Plays}
+use Rattle.queries.specs.Rounds.{Lent, playOf}
+use Rattle.queries.specs.Playing.{listAfter, Plays}
+use Rattle.queries.proofs.Plays.{plays}
 
 -- what a finished play leaves: the uncut run ends, it delivered SPARQL's solutions, each as often, the first words of the kept buffer,
 -- so many as answered, are SPARQL's answer, and those past them are as they were
@@ -28,14 +30,14 @@ pub record PlayedOut (t : Tables) (plan before kept : List ℕ) (words : ℕ) : 
   pub answer : Answer t (planOf plan) (after t (planOf plan) steps .delivered) (planOf plan .ending) (take words kept)
   pub rest : drop words kept ≡ drop words before
 
-pub played-out : (t : Tables) (plan : List ℕ) (quantum most : ℕ) (before after : Lent) (words : ℕ)
-    → Plays All t plan quantum most before after (played.Finished words) → PlayedOut t plan (before .kept) (after .kept) words
-played-out t plan quantum most before after words p =
+by-plays : (t : Tables) (plan : List ℕ) (quantum most : ℕ) (before left : Lent) (words : ℕ)
+    → Plays All t plan quantum most before left (played.Finished words) → PlayedOut t plan (before .kept) (left .kept) words
+by-plays t plan quantum most before left words p =
     let a = opening-accepts t plan (before .state) (p .0) in
     let n = p .1 .steps in
     let l = p .1 .list in
     let over = p .1 .ends .over in
-    let front : take words (after .kept) ≡ listAfter t plan n = ap₂ take (l .counted) (l .whole) ∙ take-over (listAfter t plan n) (before .kept) in
+    let front : take words (left .kept) ≡ listAfter t plan n = ap₂ take (l .counted) (l .whole) ∙ take-over (listAfter t plan n) (before .kept) in
     record {
       steps = n;
       ends = p .1 .ends;
@@ -46,3 +48,10 @@ played-out t plan quantum most before after words p =
           ∙ drop-over (listAfter t plan n) (before .kept)
           ∙ ap (λ d. drop d (before .kept)) (sym (l .counted));
     }
+
+pub played-out : (t : Tables) (plan : List ℕ) (quantum most : ℕ) (before : Lent) (words : ℕ)
+    → playOf All t plan quantum most before .answer ≡ played.Finished words
+    → PlayedOut t plan (before .kept) (playOf All t plan quantum most before .held .kept) words
+played-out t plan quantum most before words e =
+    let left = playOf All t plan quantum most before .held in
+    by-plays t plan quantum most before left words (subst (Plays All t plan quantum most before left) e (plays All t plan quantum most before))

@@ -1,6 +1,6 @@
 -- What the printer knows of a plan's lists: what they hold, and in how many words.
 -- Assumes nothing: these are definitions.
-use Prim.Native.Nat.{ℕ, _+_, _%_, _≤_}
+use Prim.Native.Nat.{ℕ, _+_, _≤_}
 use mathlib.Core.Path.{_≡_}
 use mathlib.Core.Bool.{true}
 use mathlib.Core.List.{List}

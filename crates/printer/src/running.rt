@@ -21,8 +21,9 @@ ghost use Rattle.plans.specs.Endings.{mostRowVariables};
 ghost use Rattle.plans.specs.Plans.{readPlan, hasForm, planOf};
 ghost use Rattle.turns.specs.Turns.{turnInput};
 ghost use Rattle.queries.specs.declared.Keeping.the-variants.{Merged};
-ghost use Rattle.queries.specs.Stepping.{takeTurnOf, Advances};
-ghost use Rattle.queries.specs.Playing.{Stands, Started, Leaves, IsWhole};
+ghost use Rattle.queries.specs.Stepping.{takeTurnOf};
+ghost use Rattle.queries.specs.Rounds.{advanced, startOf, rounds, resultAt};
+ghost use Rattle.queries.specs.Playing.{Stands, Started, IsWhole};
 ghost use Rattle.printer.specs.Listings.{listingOf, ListsOf, widthOf, HasWidth};
 ghost use Rattle.printer.specs.Shown.{mostTurns, CanOpen, Printed, EndsWhole};
 
@@ -120,7 +121,7 @@ fn print_step(
     requires { ⌜ ListsOf (now plan) lists ⌝ }
     requires { ⌜ CanOpen (tablesOf (now rows) (now pos) (now osp)) (now plan) ⌝ }
     requires { ⌜ (made < mostTurns) × Stands (tablesOf (now rows) (now pos) (now osp)) (now plan) quantum (length (now output)) made (now state) saved ⌝ }
-    ensures { λ r. ⌜ Advances (takeTurnOf Merged (turnInput (now (rows .entry)) (now (pos .entry)) (now (osp .entry)) (now (plan .entry)) (now (state .entry)) saved quantum [] (now (output .entry))) (now (kept .entry)) used) (now (state .exit)) (now (kept .exit)) r ⌝ }
+    ensures { λ r. ⌜ record { went = r; held = record { state = now (state .exit); output = now (output .exit); kept = now (kept .exit) } } ≡ advanced (takeTurnOf Merged (turnInput (now (rows .entry)) (now (pos .entry)) (now (osp .entry)) (now (plan .entry)) (now (state .entry)) saved quantum [] (now (output .entry))) (now (kept .entry)) used) ⌝ }
 {
     let step = queries::take_turn(
         rows,
@@ -171,7 +172,7 @@ fn go_on(
 ) -> Played
     requires { ⌜ ListsOf (now plan) lists ⌝ }
     requires { ⌜ Started (tablesOf (now rows) (now pos) (now osp)) (now plan) (now state) opened ⌝ }
-    ensures { λ r. ⌜ Leaves Merged (tablesOf (now (rows .entry)) (now (pos .entry)) (now (osp .entry))) (now (plan .entry)) quantum mostTurns (length (now (output .entry))) (now (kept .entry)) (now (state .exit)) (now (kept .exit)) r ⌝ }
+    ensures { λ r. ⌜ record { answer = r; held = record { state = now (state .exit); output = now (output .exit); kept = now (kept .exit) } } ≡ resultAt (rounds Merged (tablesOf (now (rows .entry)) (now (pos .entry)) (now (osp .entry))) (now (plan .entry)) quantum mostTurns (startOf opened (record { state = now (state .entry); output = now (output .entry); kept = now (kept .entry) }))) ⌝ }
 {
     let mut saved = opened;
     let mut used: usize = 0;

@@ -23,8 +23,9 @@ use Rattle.queries.specs.declared.Keeping.{Keeping}
 use Rattle.queries.specs.declared.Played.{Played}
 use Rattle.queries.specs.declared.Played.the-variants.{Finished, Unfinished, Refused}
 use Rattle.queries.specs.Stepping.{keeps}
+use Rattle.queries.specs.Rounds.{Lent}
 use Rattle.queries.specs.Playing.{listAfter, keptAfter, Holds, Sized, Turns, none-made, one-more, Finishes, Pauses, Cause, output-short, quantum-wrong}
-use Rattle.queries.specs.Playing.{list-left, Stops, Leaves, Lent, NotOpened, Plays}
+use Rattle.queries.specs.Playing.{list-left, Stops, Leaves, NotOpened, Plays}
 use Rattle.queries.proofs.Room.{rows-later, no-shorter}
 use Rattle.queries.proofs.Totals.{fits-first}
 use Rattle.queries.proofs.Once.{not-past, turn-once, turns-once, no-further, turns-grow}

@@ -33,7 +33,7 @@ use Rattle.queries.specs.declared.Keeping.{Keeping}
 use Rattle.queries.specs.declared.Keeping.the-variants.{All, Merged}
 use Rattle.queries.specs.declared.Went.{Went}
 use Rattle.queries.specs.declared.Went.the-variants.{On, Over, Stopped}
-use Rattle.queries.specs.Stepping.{isServed, isRows, keeps, keptOf, joinOf, leftAsIs, rowsTaken, listTaken, takenBy, takeTurnOf, wentAs, Advances}
+use Rattle.queries.specs.Stepping.{isServed, isRows, keeps, keptOf, joinOf, leftAsIs, rowsTaken, listTaken, takenBy, takeTurnOf, wentAs, wentOf}
 use Rattle.queries.specs.Playing.{Holds, Turn, Turns, one-more, Stands, Finishes, Pauses, Cause, list-left, Stops, UnderWay}
 use Rattle.queries.proofs.Refusing.{turn-stopped, at-first}
 use Rattle.queries.proofs.Taking.{is-served}
@@ -367,7 +367,6 @@ module _ (keep : Keeping) (t : Tables) (plan : List ℕ) (a : Accepted t plan) (
         subst⁻¹ (λ (r : MergeResult). Then (turnOf i .state) (r .kept) (wentAs (ending.Refused y) (turnOf i .answer .saved) (r .answer)))
         (not-taken (ending.Refused y) f refl) (stopped y kept (refl, turn-cause y f))
 
-    pub becomes : (now left : List ℕ) (w : Went) → Advances (takeTurnOf keep i kept used) now left w → Then now left w
+    pub becomes : Then (takeTurnOf keep i kept used .state) (takeTurnOf keep i kept used .kept) (wentOf (takeTurnOf keep i kept used .answer))
     unfolding takeTurnOf
-    becomes now left w p =
-        rw (p .went, p .left, p .list) (by-ending (turnOf i .answer .ending) refl)
+    becomes = by-ending (turnOf i .answer .ending) refl

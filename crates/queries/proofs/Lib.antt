@@ -1,9 +1,11 @@
 pub mod Taking
+pub mod Rounds
 pub mod Refusing
 pub mod Advancing
 pub mod Making
 pub mod Leaving
 pub mod Starting
+pub mod Plays
 pub mod Room
 pub mod Totals
 pub mod Once

@@ -1,8 +1,7 @@
--- The start of a query: what a served opening leaves is under way, with no turn made and no list taken; and what a turn makes of what it leads to.
-use Prim.Native.Nat.{ℕ, _<_}
+-- The start of a query: what a served opening leaves is under way, with no turn made and no list taken; and where it stands later.
+use Prim.Native.Nat.{ℕ}
 use native.Mathlib.Omega.{arith}
-use mathlib.Core.Path.{_≡_, refl, sym, _∙_, ap, ap₂, subst, subst⁻¹}
-use mathlib.Core.Logic.{inr}
+use mathlib.Core.Path.{_≡_, refl, sym, _∙_, ap, ap₂, subst⁻¹}
 use mathlib.Core.Bool.{Bool, true, false, cond}
 use mathlib.Core.List.{List, []}
 use lib.ListN.{length, take}
@@ -29,12 +28,9 @@ use Rattle.cuts.proofs.Accepting.{Accepted, opening-accepts}
 use Rattle.cuts.proofs.Turning.{Kept}
 use Rattle.cuts.proofs.AnyCut.{fresh-keeps}
 use Rattle.queries.specs.declared.Keeping.{Keeping}
-use Rattle.queries.specs.declared.Played.{Played}
-use Rattle.queries.specs.declared.Played.the-variants.{Finished, Unfinished, Refused}
-use Rattle.queries.specs.declared.Went.{Went}
-use Rattle.queries.specs.Stepping.{keeps, keptOf, takeTurnOf, Advances}
-use Rattle.queries.specs.Playing.{none-made, Stands, Leaves, Lent, NotOpened, Plays, startAt, Started, UnderWay}
-use Rattle.queries.proofs.Leaving.{stands, not-over, Going, Becomes, becomes}
+use Rattle.queries.specs.Stepping.{keeps, keptOf}
+use Rattle.queries.specs.Playing.{none-made, Stands, NotOpened, startAt, Started, UnderWay}
+use Rattle.queries.proofs.Leaving.{stands, not-over, Going}
 
 -- no row has no total
 no-rows-fit : (e : Ending) (r : Run) → r .delivered ≡ [] → runFits e r ≡ true
@@ -100,19 +96,6 @@ module _ (t : Tables) (plan state : List ℕ) (saved : ℕ) (s : Started t plan 
   goes-stands keep before quantum room count now left kept used g =
       stands keep t plan start-accepts (startAt state saved) start-keeps before count now left kept used (g .under) (g .alive) quantum room (g .made)
 
-  -- ---- one turn more of what it leads to, with an output as long as the first one
-  pub turns-to : (keep : Keeping) (before : List ℕ) (quantum most room count : ℕ) → count < most → (now : List ℕ) (left : ℕ) (kept : List ℕ) (used : ℕ)
-      → Going keep t plan (startAt state saved) before quantum room count now left kept used → (output : List ℕ) → length output ≡ room
-      → (then list : List ℕ) (w : Went)
-      → Advances (takeTurnOf keep (record { tables = t; plan = plan; state = now; given = left; quantum = quantum; threshold = []; output = output }) kept used) then list w
-      → (v : Went) → w ≡ v → Becomes keep t plan (startAt state saved) before quantum most room count then list v
-  turns-to keep before quantum most room count fewer now left kept used g output e then list w p v f =
-      let first = startAt state saved in
-      subst (Becomes keep t plan first before quantum most room count then list) f
-      (subst (λ r. Becomes keep t plan first before quantum most r count then list w) e
-      (becomes keep t plan start-accepts first start-keeps before quantum most count fewer output now left kept used
-      (subst⁻¹ (λ r. Going keep t plan first before quantum r count now left kept used) e g) then list w p))
-
 -- ---- from the calls' answers
 module _ (t : Tables) (plan lent : List ℕ) (r : Written) (answer : r ≡ openOf t plan lent .answer) where
   pub opens : (n : ℕ) → r ≡ written.Words n → Opens t plan lent
@@ -127,9 +110,3 @@ module _ (t : Tables) (plan lent : List ℕ) (r : Written) (answer : r ≡ openO
       let f = sym answer ∙ e in
       let same = left ∙ open-refusals t plan lent .unchanged x f .buffer in
       record { refused = f; unchanged = ap (λ l. record { state = l; output = output; kept = kept }) same }
-
-pub plays : (keep : Keeping) (t : Tables) (plan : List ℕ) (quantum most : ℕ) (before after : Lent) → Opens t plan (before .state) → (r : Played)
-    → Leaves keep t plan quantum most (length (before .output)) (before .kept) (after .state) (after .kept) r → Plays keep t plan quantum most before after r
-plays keep t plan quantum most before after o (Finished n) p = (o, p)
-plays keep t plan quantum most before after o (Unfinished saved n) p = (o, p)
-plays keep t plan quantum most before after o (Refused x) p = inr (o, p)

@@ -1,8 +1,8 @@
 -- One turn and its list: from what the calls leave to the definition of a step.
-use Prim.Native.Nat.{ℕ, _+_, _-_, _≤_, _<_}
+use Prim.Native.Nat.{ℕ, _+_, _≤_, _<_}
 use native.Mathlib.Omega.{arith}
-use mathlib.Core.Path.{_≡_, refl, sym, _∙_, ap, ap₂}
-use mathlib.Core.Bool.{Bool, true, false, not, _&&_}
+use mathlib.Core.Path.{_≡_, refl, sym, _∙_, ap}
+use mathlib.Core.Bool.{Bool, true, false, not}
 use mathlib.Core.List.{List, _++_}
 use lib.Dec.{leb}
 use lib.ListN.{length, take, length-append}
@@ -18,11 +18,11 @@ use Rattle.plans.specs.Reading.{lastIn}
 use Rattle.turns.specs.declared.TurnEnding.{TurnEnding}
 use Rattle.turns.specs.declared.TurnEnding.the-variants as ending
 use Rattle.turns.specs.declared.Turned.{Turned}
-use Rattle.turns.specs.Turns.{TurnInput, TurnResult, givenPlan, turnOf}
+use Rattle.turns.specs.Turns.{TurnInput, turnOf}
 use Rattle.turns.proofs.Refusals as refusals
 use Rattle.turns.proofs.Follows.{follows}
 use Rattle.turns.proofs.OnTheRun.{keeps-lengths}
-use Rattle.merges.specs.Merging.{MergeResult, mergeOf}
+use Rattle.merges.specs.Merging.{MergeResult}
 use Rattle.queries.specs.declared.Step.{Step}
 use Rattle.queries.specs.declared.Keeping.{Keeping}
 use Rattle.queries.specs.Stepping.{isServed, isRows, joinOf, leftAsIs, listTaken, Stepped, steppedAs, listOf, takeTurnOf}
@@ -61,6 +61,13 @@ served-room i r out e f h =
     let s = is-served i (ap (λ (x : Turned). isServed (x .ending)) (sym e) ∙ h) in
     omega (arith, follows i s .room, keeps-lengths i s .output, ap length f, ap (λ (x : Turned). x .listed) e)
 
+-- the output keeps its length, served or not
+output-kept : (i : TurnInput) (e : TurnEnding) → turnOf i .answer .ending ≡ e → length (turnOf i .output) ≡ length (i .output)
+output-kept i ending.Done p = keeps-lengths i (serves i ending.Done p refl) .output
+output-kept i ending.Spent p = keeps-lengths i (serves i ending.Spent p refl) .output
+output-kept i ending.Full p = keeps-lengths i (serves i ending.Full p refl) .output
+output-kept i (ending.Refused x) p = ap length (refusals.turn-refusals i .unchanged x p .output)
+
 -- ---- a turn, and its list taken
 module _ (keep : Keeping) (i : TurnInput) (kept : List ℕ) (used : ℕ) where
   module _ (r : Turned) (state out : List ℕ) (er : r ≡ turnOf i .answer) (es : state ≡ turnOf i .state) (eo : out ≡ turnOf i .output) where
@@ -82,6 +89,10 @@ module _ (keep : Keeping) (i : TurnInput) (kept : List ℕ) (used : ℕ) where
     none-taken h =
         let g : isServed (turnOf i .answer .ending) ≡ false = rw er at h in
         as-turned (leftAsIs kept used) ∙ ap (steppedAs (turnOf i)) (rw g)
+
+  pub same-room : length (takeTurnOf keep i kept used .output) ≡ length (i .output)
+  unfolding takeTurnOf
+  same-room = output-kept i (turnOf i .answer .ending) refl
 
   -- what it leaves of the turn
   module _ (s : Step) (state out left : List ℕ) (h : record { answer = s; state = state; output = out; kept = left } ≡ takeTurnOf keep i kept used) where

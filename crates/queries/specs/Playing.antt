@@ -26,6 +26,7 @@ use Rattle.queries.specs.declared.Keeping.{Keeping}
 use Rattle.queries.specs.declared.Played.{Played}
 use Rattle.queries.specs.declared.Played.the-variants.{Finished, Unfinished, Refused}
 use Rattle.queries.specs.Stepping.{keeps, keptOf}
+use Rattle.queries.specs.Rounds.{Lent}
 
 -- the rows, best-of list or groups of the uncut run after so many steps
 abbrev pub listAfter : Tables → List ℕ → ℕ → List ℕ
@@ -122,12 +123,6 @@ abbrev pub Leaves : Keeping → Tables → List ℕ → ℕ → ℕ → ℕ → 
 Leaves keep t plan quantum most room before state kept (Finished words) = Finishes keep t plan quantum most room before kept words
 Leaves keep t plan quantum most room before state kept (Unfinished saved words) = Pauses keep t plan quantum most room before state kept saved words
 Leaves keep t plan quantum most room before state kept (Refused x) = Stops keep t plan quantum most room before kept x
-
--- the buffers lent to a play
-pub record Lent : Type 0 where
-  pub state : List ℕ
-  pub output : List ℕ
-  pub kept : List ℕ
 
 -- the opening is refused by x, and every buffer is as it was
 pub record NotOpened (t : Tables) (plan : List ℕ) (before after : Lent) (x : ℕ) : Type 0 where

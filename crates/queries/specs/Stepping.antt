@@ -1,6 +1,5 @@
 -- One turn of a query, and its list taken: what a step answers and leaves. Assumes nothing: these are definitions.
 use Prim.Native.Nat.{ℕ, _+_}
-use mathlib.Core.Path.{_≡_}
 use mathlib.Core.List.{List, [], _++_}
 use mathlib.Core.Bool.{Bool, true, false, cond, not}
 use lib.Dec.{leb}
@@ -99,9 +98,3 @@ wentAs e saved (written.Refused x) = Stopped x
 
 abbrev pub wentOf : Step → Went
 wentOf s = wentAs (s .turned .ending) (s .turned .saved) (s .taken)
-
--- the buffers at exit, and how it goes on
-pub record Advances (s : Stepped) (state kept : List ℕ) (w : Went) : Type 0 where
-  pub left : state ≡ s .state
-  pub list : kept ≡ s .kept
-  pub went : w ≡ wentOf (s .answer)

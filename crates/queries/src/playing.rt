@@ -4,10 +4,10 @@ use crate::Played;
 use crate::Went;
 use crate::stepping::advance;
 use words::Written;
-ghost use lib.ListN.{length};
+ghost use mathlib.Core.Path.{_≡_};
 ghost use Rattle.tables.specs.Tables.{tablesOf};
 ghost use Rattle.queries.specs.declared.Keeping.the-variants.{All};
-ghost use Rattle.queries.specs.Playing.{Plays, Leaves, Started};
+ghost use Rattle.queries.specs.Rounds.{startOf, rounds, resultAt, playOf};
 
 // Turns from an opening's state on, at most so many, and the list of each taken.
 fn go_on(
@@ -22,8 +22,7 @@ fn go_on(
     output: &mut [u32],
     kept: &mut [u32],
 ) -> Played
-    requires { ⌜ Started (tablesOf (now rows) (now pos) (now osp)) (now plan) (now state) opened ⌝ }
-    ensures { λ r. ⌜ Leaves All (tablesOf (now (rows .entry)) (now (pos .entry)) (now (osp .entry))) (now (plan .entry)) quantum most (length (now (output .entry))) (now (kept .entry)) (now (state .exit)) (now (kept .exit)) r ⌝ }
+    ensures { λ r. ⌜ record { answer = r; held = record { state = now (state .exit); output = now (output .exit); kept = now (kept .exit) } } ≡ resultAt (rounds All (tablesOf (now (rows .entry)) (now (pos .entry)) (now (osp .entry))) (now (plan .entry)) quantum most (startOf opened (record { state = now (state .entry); output = now (output .entry); kept = now (kept .entry) }))) ⌝ }
 {
     let mut saved = opened;
     let mut used: usize = 0;
@@ -70,7 +69,7 @@ pub fn play(
     output: &mut [u32],
     kept: &mut [u32],
 ) -> Played
-    ensures { λ r. ⌜ Plays All (tablesOf (now (rows .entry)) (now (pos .entry)) (now (osp .entry))) (now (plan .entry)) quantum most (record { state = now (state .entry); output = now (output .entry); kept = now (kept .entry) }) (record { state = now (state .exit); output = now (output .exit); kept = now (kept .exit) }) r ⌝ }
+    ensures { λ r. ⌜ record { answer = r; held = record { state = now (state .exit); output = now (output .exit); kept = now (kept .exit) } } ≡ playOf All (tablesOf (now (rows .entry)) (now (pos .entry)) (now (osp .entry))) (now (plan .entry)) quantum most (record { state = now (state .entry); output = now (output .entry); kept = now (kept .entry) }) ⌝ }
 {
     match service::open(rows, pos, osp, plan, state) {
         Written::Refused(x) => Played::Refused(x),

@@ -10,7 +10,8 @@ ghost use mathlib.Core.Bool.{true};
 ghost use mathlib.Core.List.{[]};
 ghost use Rattle.plans.specs.Plans.{readPlan, hasForm, planOf};
 ghost use Rattle.turns.specs.Turns.{turnInput};
-ghost use Rattle.queries.specs.Stepping.{isServed, isRows, joinOf, rowsTaken, listTaken, takeTurnOf, wentOf, Advances};
+ghost use Rattle.queries.specs.Stepping.{isServed, isRows, joinOf, rowsTaken, listTaken, takeTurnOf, wentOf};
+ghost use Rattle.queries.specs.Rounds.{advanced};
 
 // What a join that has no room is refused by.
 pub const ROOM: u32 = 14;
@@ -155,7 +156,7 @@ pub fn advance(
     used: usize,
     keeping: Keeping,
 ) -> Went
-    ensures { λ r. ⌜ Advances (takeTurnOf keeping (turnInput (now (rows .entry)) (now (pos .entry)) (now (osp .entry)) (now (plan .entry)) (now (state .entry)) saved quantum [] (now (output .entry))) (now (kept .entry)) used) (now (state .exit)) (now (kept .exit)) r ⌝ }
+    ensures { λ r. ⌜ record { went = r; held = record { state = now (state .exit); output = now (output .exit); kept = now (kept .exit) } } ≡ advanced (takeTurnOf keeping (turnInput (now (rows .entry)) (now (pos .entry)) (now (osp .entry)) (now (plan .entry)) (now (state .entry)) saved quantum [] (now (output .entry))) (now (kept .entry)) used) ⌝ }
 {
     outcome(take_turn(
         rows,

@@ -1,14 +1,16 @@
--- `go_on` meets its contract, as the loop of `queries::play` does: after each turn the query is under way as the uncut run.
+-- `go_on` meets its contract, as the loop of `queries::play` does: after each turn its variables and buffers are those of so many rounds.
 use borrow.Author.Needs.{needs}
-use Prim.Native.Nat.{_-_, _≤_}
+use Prim.Native.Nat.{_+_, _-_, _≤_}
 use native.Mathlib.Omega.{arith}
-use mathlib.Core.Path.{_≡_, refl, _∙_, subst, subst⁻¹}
+use mathlib.Core.Path.{_≡_, refl, sym, _∙_, ap, subst⁻¹}
 use lib.ListN.{length}
 use Rattle.tables.specs.Tables.{tablesOf}
 use Rattle.queries.specs.declared.Keeping.the-variants.{Merged}
-use Rattle.queries.specs.Playing.{Stands, Pauses, startAt}
-use Rattle.queries.proofs.Leaving.{Going, pauses}
-use Rattle.queries.proofs.Starting.{start-accepts, start-keeps, start-goes, goes-stands, turns-to}
+use Rattle.queries.specs.declared.Went.the-variants.{On}
+use Rattle.queries.specs.Rounds.{startOf, rounds, resultAt}
+use Rattle.queries.specs.Playing.{Stands}
+use Rattle.queries.proofs.Rounds.{rounds-none, rounds-next, rounds-made, rounds-over, rounds-stopped}
+use Rattle.queries.proofs.Plays.{stands-at}
 use Rattle.printer.specs.Shown.{mostTurns}
 use Rattle.printer.proofs.Openings.{started-opens}
 use Rattle.printer.proofs.running.go_on.Statement.{statement}
@@ -17,19 +19,14 @@ use Rattle.printer.proofs.running.go_on.Tie as tie
 abbrev Inv-loop : tie.InvT-loop
 Inv-loop rows pos osp plan quantum state₀ opened output₀ kept₀ lists saved₀ used₀ made₀ state output kept saved used made =
     (made ≤ mostTurns) × (length state ≡ length state₀) × (length output ≡ length output₀) × (length kept ≡ length kept₀)
-    × Going Merged (tablesOf rows pos osp) plan (startAt state₀ opened) kept₀ quantum (length output₀) made state saved kept used
+    × (rounds Merged (tablesOf rows pos osp) plan quantum made (startOf opened (record { state = state₀; output = output₀; kept = kept₀ }))
+    ≡ record { went = On saved used; held = record { state = state; output = output; kept = kept } })
 
 abbrev μ-loop : tie.MeasureT-loop
 μ-loop rows pos osp plan quantum state₀ opened output₀ kept₀ lists saved₀ used₀ made₀ state output kept saved used made = mostTurns - made
 
 loop-holds : tie.Need-loop-holds Inv-loop μ-loop
-loop-holds c =
-    let s = c .before .before .before .before .before .before .before in
-    let t = tablesOf (s .args .rows .now) (s .args .pos .now) (s .args .osp .now) in
-    let p = s .args .plan .now in
-    let st = s .args .state .now in
-    let room = length (s .args .output .now) in
-    (omega arith, refl, refl, refl, start-goes t p st (s .args .opened) (s .pre .1) Merged (s .args .kept .now) (s .args .quantum) room)
+loop-holds c = (omega arith, refl, refl, refl, rounds-none Merged _ _ _ _)
 
 print-step-requires : tie.Need-print-step-requires Inv-loop μ-loop
 print-step-requires c κs =
@@ -38,20 +35,11 @@ print-step-requires c κs =
     let t = tablesOf (s .args .rows .now) (s .args .pos .now) (s .args .osp .now) in
     let p = s .args .plan .now in
     let st = s .args .state .now in
-    let o = s .args .opened in
-    let q = s .args .quantum in
-    let v = l .loop .inv in
-    let stands = goes-stands t p st o (s .pre .1) Merged (s .args .kept .now) q (length (s .args .output .now)) (l .loop .made) (l .loop .state)
-    (l .loop .saved) (l .loop .kept) (l .loop .used) (v .4) in (
-      s .pre .0,
-      (
-        started-opens t p st o (s .pre .1),
-        (
-          omega (arith, c .before .before .before .loop-test .taken),
-          subst⁻¹ (λ n. Stands t p q n (l .loop .made) (l .loop .state) (l .loop .saved)) (v .2) stands,
-        ),
-      ),
-    )
+    let n = l .loop .made in
+    let here = stands-at Merged t p st (s .args .opened) (s .pre .1) (s .args .output .now) (s .args .kept .now) (s .args .quantum) n (l .loop .saved)
+    (l .loop .used) _ (l .loop .inv .4) in
+    let stands = subst⁻¹ (λ r. Stands t p (s .args .quantum) r n (l .loop .state) (l .loop .saved)) (here .1) (here .0) in
+    (s .pre .0, (started-opens t p st (s .args .opened) (s .pre .1), (omega (arith, c .before .before .before .loop-test .taken), stands)))
 
 enum-known-went : tie.Need-enum-known-went Inv-loop μ-loop
 enum-known-went c = search needs
@@ -65,19 +53,13 @@ loop-less c = omega arith
 loop-again : tie.Need-loop-again Inv-loop μ-loop
 loop-again c =
     let d = c .before .before .before .before .before .before .before .before .before in
-    let l = d .before .before .before .before .before in
-    let s = l .before .before .before .before .before .before .before .before in
-    let t = tablesOf (s .args .rows .now) (s .args .pos .now) (s .args .osp .now) in
-    let p = s .args .plan .now in
-    let v = l .loop .inv in
-    let g = turns-to t p (s .args .state .now) (s .args .opened) (s .pre .1) Merged (s .args .kept .now) (s .args .quantum) mostTurns (length (s .args .output .now))
-    (l .loop .made) (omega arith) (l .loop .state) (l .loop .saved) (l .loop .kept) (l .loop .used) (v .4) (l .loop .output) (v .2) _ _
-    (d .print-step .result) (d .print-step .ensures) _ (c .before .went .given .1) in (
+    let l = d .before .before .before .before .before .loop in
+    let e = rounds-next Merged _ _ _ _ (l .made) (l .saved) (l .used) _ (l .inv .4) (d .print-step .result) _ (d .print-step .ensures) _ (c .before .went .given .1) in (
       omega arith,
-      c .before .before .before .before .before .before .before .before .state .given ∙ v .1,
-      c .before .before .before .before .before .before .output .given ∙ v .2,
-      c .before .before .before .before .kept .given ∙ v .3,
-      g,
+      c .before .before .before .before .before .before .before .before .state .given ∙ l .inv .1,
+      c .before .before .before .before .before .before .output .given ∙ l .inv .2,
+      c .before .before .before .before .kept .given ∙ l .inv .3,
+      e,
     )
 
 enum-known-went-2 : tie.Need-enum-known-went-2 Inv-loop μ-loop
@@ -101,14 +83,9 @@ same-length-3 c =
 returns : tie.Need-returns Inv-loop μ-loop
 returns c =
     let d = c .before .before .before .before .before .before .before .before .before in
-    let l = d .before .before .before .before .before in
-    let s = l .before .before .before .before .before .before .before .before in
-    let t = tablesOf (s .args .rows .now) (s .args .pos .now) (s .args .osp .now) in
-    let p = s .args .plan .now in
-    let v = l .loop .inv in
-    turns-to t p (s .args .state .now) (s .args .opened) (s .pre .1) Merged (s .args .kept .now) (s .args .quantum) mostTurns (length (s .args .output .now))
-    (l .loop .made) (omega arith) (l .loop .state) (l .loop .saved) (l .loop .kept) (l .loop .used) (v .4) (l .loop .output) (v .2) _ _
-    (d .print-step .result) (d .print-step .ensures) _ (c .before .went2 .given .1)
+    let l = d .before .before .before .before .before .loop in
+    let e = rounds-next Merged _ _ _ _ (l .made) (l .saved) (l .used) _ (l .inv .4) (d .print-step .result) _ (d .print-step .ensures) _ (c .before .went2 .given .1) in
+    sym (ap resultAt (rounds-over Merged _ _ _ _ (l .made + 1) _ (omega arith) _ _ e))
 
 enum-known-went-3 : tie.Need-enum-known-went-3 Inv-loop μ-loop
 enum-known-went-3 c = search needs
@@ -131,14 +108,9 @@ same-length-6 c =
 returns-2 : tie.Need-returns-2 Inv-loop μ-loop
 returns-2 c =
     let d = c .before .before .before .before .before .before .before .before .before in
-    let l = d .before .before .before .before .before in
-    let s = l .before .before .before .before .before .before .before .before in
-    let t = tablesOf (s .args .rows .now) (s .args .pos .now) (s .args .osp .now) in
-    let p = s .args .plan .now in
-    let v = l .loop .inv in
-    turns-to t p (s .args .state .now) (s .args .opened) (s .pre .1) Merged (s .args .kept .now) (s .args .quantum) mostTurns (length (s .args .output .now))
-    (l .loop .made) (omega arith) (l .loop .state) (l .loop .saved) (l .loop .kept) (l .loop .used) (v .4) (l .loop .output) (v .2) _ _
-    (d .print-step .result) (d .print-step .ensures) _ (c .before .went3 .given .1)
+    let l = d .before .before .before .before .before .loop in
+    let e = rounds-next Merged _ _ _ _ (l .made) (l .saved) (l .used) _ (l .inv .4) (d .print-step .result) _ (d .print-step .ensures) _ (c .before .went3 .given .1) in
+    sym (ap resultAt (rounds-stopped Merged _ _ _ _ (l .made + 1) _ (omega arith) _ _ e))
 
 same-length-7 : tie.Need-same-length-7 Inv-loop μ-loop
 same-length-7 c = c .before .loop .inv .1
@@ -151,20 +123,9 @@ same-length-9 c = c .before .loop .inv .3
 
 returns-3 : tie.Need-returns-3 Inv-loop μ-loop
 returns-3 c =
-    let l = c .before in
-    let s = l .before .before .before .before .before .before .before .before in
-    let t = tablesOf (s .args .rows .now) (s .args .pos .now) (s .args .osp .now) in
-    let p = s .args .plan .now in
-    let st = s .args .state .now in
-    let o = s .args .opened in
-    let k = s .args .kept .now in
-    let quantum = s .args .quantum in
-    let room = length (s .args .output .now) in
-    let v = l .loop .inv in
-    let e : l .loop .made ≡ mostTurns = omega (arith, c .loop-test .left, v .0) in
-    subst (λ n. Pauses Merged t p quantum n room k (l .loop .state) (l .loop .kept) (l .loop .saved) (l .loop .used)) e
-    (pauses Merged t p (start-accepts t p st o (s .pre .1)) (startAt st o) (start-keeps t p st o (s .pre .1)) k (l .loop .made) (l .loop .state) (l .loop .saved)
-    (l .loop .kept) (l .loop .used) (v .4 .under) (v .4 .alive) quantum room (v .4 .made))
+    let l = c .before .loop in
+    let e : l .made ≡ mostTurns = omega (arith, c .loop-test .left, l .inv .0) in
+    sym (ap resultAt (rounds-made Merged _ _ _ _ (l .made) _ e _ (l .inv .4)))
 
 pub go-on-spec : {M : Type 1} → statement M
 go-on-spec =

@@ -1,8 +1,8 @@
 -- `print_step` meets its contract: the turn and its list are those of `take_turn`, and what it prints of them is the uncut run's.
 use borrow.Author.Needs.{needs}
-use mathlib.Core.Path.{refl, sym, _∙_, ap}
+use mathlib.Core.Path.{refl, sym}
 use lib.Seq.{length-take-le}
-use Rattle.queries.specs.Stepping.{Stepped, wentOf}
+use Rattle.queries.proofs.Rounds.{advanced-by}
 use Rattle.printer.proofs.Steps.{list-room, printed}
 use Rattle.printer.proofs.running.print_step.Statement.{statement}
 use Rattle.printer.proofs.running.print_step.Tie as tie
@@ -45,12 +45,8 @@ same-length-3 c = search needs
 
 returns : tie.Need-returns
 returns c =
-    let e = c .before .before .before .before .before .before .before .before .before .before .before .take-turn .ensures in
-    record {
-      left = ap (λ (x : Stepped). x .state) e;
-      list = ap (λ (x : Stepped). x .kept) e;
-      went = c .outcome .ensures ∙ ap (λ (x : Stepped). wentOf (x .answer)) e;
-    }
+    let t = c .before .before .before .before .before .before .before .before .before .before .before .take-turn in
+    advanced-by (t .result) _ _ _ _ (t .ensures) (c .outcome .result) (c .outcome .ensures)
 
 pub print-step-spec : {M : Type 1} → statement M
 print-step-spec =

@@ -3,6 +3,9 @@ use borrow.Author.Needs.{needs}
 use native.Mathlib.Omega.{arith}
 use lib.ListN.{length-take}
 use Rattle.tables.specs.Tables.{tablesOf}
+use Rattle.queries.specs.declared.Keeping.the-variants.{Merged}
+use Rattle.queries.proofs.Plays.{leaves-by}
+use Rattle.printer.specs.Shown.{mostTurns}
 use Rattle.printer.proofs.Openings.{started-form, started-opens}
 use Rattle.printer.proofs.Widths.{some-words, lists-width}
 use Rattle.printer.proofs.KeptLists.{ends-whole}
@@ -69,7 +72,8 @@ print-played-requires c κs =
     let form = started-form t p (s .args .state .now) (s .args .opened) (s .pre) in
     let g = c .before .before .before .go-on in
     let opens = started-opens t p (s .args .state .now) (s .args .opened) (s .pre) in
-    ((form, c .before .before .before .before .before .before .before .before .lists-of .ensures), (opens, ends-whole t p _ _ _ _ _ _ (g .result) (g .ensures)))
+    let left = leaves-by Merged t p (s .args .state .now) (s .args .opened) (s .pre) _ _ _ mostTurns (g .result) _ (g .ensures) in
+    ((form, c .before .before .before .before .before .before .before .before .lists-of .ensures), (opens, ends-whole t p _ _ _ _ _ _ (g .result) left))
 
 returns : tie.Need-returns
 returns c = search needs

@@ -1,33 +1,28 @@
--- `go_on` meets its contract: after each turn the query is under way as the uncut run, until it is over or stopped.
+-- `go_on` meets its contract: after each turn its variables and buffers are those of so many rounds.
 use borrow.Author.Needs.{needs}
-use Prim.Native.Nat.{_-_, _≤_}
+use Prim.Native.Nat.{_+_, _-_, _≤_}
 use native.Mathlib.Omega.{arith}
-use mathlib.Core.Path.{_≡_, refl, _∙_, subst}
+use mathlib.Core.Path.{_≡_, refl, sym, _∙_, ap}
 use lib.ListN.{length}
 use Rattle.tables.specs.Tables.{tablesOf}
 use Rattle.queries.specs.declared.Keeping.the-variants.{All}
-use Rattle.queries.specs.Playing.{Pauses, startAt}
-use Rattle.queries.proofs.Leaving.{Going, pauses}
-use Rattle.queries.proofs.Starting.{start-accepts, start-keeps, start-goes, turns-to}
+use Rattle.queries.specs.declared.Went.the-variants.{On}
+use Rattle.queries.specs.Rounds.{startOf, rounds, resultAt}
+use Rattle.queries.proofs.Rounds.{rounds-none, rounds-next, rounds-made, rounds-over, rounds-stopped}
 use Rattle.queries.proofs.playing.go_on.Statement.{statement}
 use Rattle.queries.proofs.playing.go_on.Tie as tie
 
 abbrev Inv-loop : tie.InvT-loop
 Inv-loop rows pos osp plan quantum most state₀ opened output₀ kept₀ saved₀ used₀ n₀ state output kept saved used n =
     (n ≤ most) × (length state ≡ length state₀) × (length output ≡ length output₀) × (length kept ≡ length kept₀)
-    × Going All (tablesOf rows pos osp) plan (startAt state₀ opened) kept₀ quantum (length output₀) n state saved kept used
+    × (rounds All (tablesOf rows pos osp) plan quantum n (startOf opened (record { state = state₀; output = output₀; kept = kept₀ }))
+    ≡ record { went = On saved used; held = record { state = state; output = output; kept = kept } })
 
 abbrev μ-loop : tie.MeasureT-loop
 μ-loop rows pos osp plan quantum most state₀ opened output₀ kept₀ saved₀ used₀ n₀ state output kept saved used n = most - n
 
 loop-holds : tie.Need-loop-holds Inv-loop μ-loop
-loop-holds c =
-    let s = c .before .before .before .before .before .before .before in
-    let t = tablesOf (s .args .rows .now) (s .args .pos .now) (s .args .osp .now) in
-    let p = s .args .plan .now in
-    let st = s .args .state .now in
-    let room = length (s .args .output .now) in
-    (omega arith, refl, refl, refl, start-goes t p st (s .args .opened) (s .pre) All (s .args .kept .now) (s .args .quantum) room)
+loop-holds c = (omega arith, refl, refl, refl, rounds-none All _ _ _ _)
 
 advance-requires : tie.Need-advance-requires Inv-loop μ-loop
 advance-requires c κs = search needs
@@ -44,19 +39,13 @@ loop-less c = omega arith
 loop-again : tie.Need-loop-again Inv-loop μ-loop
 loop-again c =
     let d = c .before .before .before .before .before .before .before .before .before in
-    let l = d .before .before .before .before .before in
-    let s = l .before .before .before .before .before .before .before .before in
-    let t = tablesOf (s .args .rows .now) (s .args .pos .now) (s .args .osp .now) in
-    let p = s .args .plan .now in
-    let v = l .loop .inv in
-    let g = turns-to t p (s .args .state .now) (s .args .opened) (s .pre) All (s .args .kept .now) (s .args .quantum) (s .args .most) (length (s .args .output .now))
-    (l .loop .n) (omega arith) (l .loop .state) (l .loop .saved) (l .loop .kept) (l .loop .used) (v .4) (l .loop .output) (v .2) _ _
-    (d .advance .result) (d .advance .ensures) _ (c .before .went .given .1) in (
+    let l = d .before .before .before .before .before .loop in
+    let e = rounds-next All _ _ _ _ (l .n) (l .saved) (l .used) _ (l .inv .4) (d .advance .result) _ (d .advance .ensures) _ (c .before .went .given .1) in (
       omega arith,
-      c .before .before .before .before .before .before .before .before .state .given ∙ v .1,
-      c .before .before .before .before .before .before .output .given ∙ v .2,
-      c .before .before .before .before .kept .given ∙ v .3,
-      g,
+      c .before .before .before .before .before .before .before .before .state .given ∙ l .inv .1,
+      c .before .before .before .before .before .before .output .given ∙ l .inv .2,
+      c .before .before .before .before .kept .given ∙ l .inv .3,
+      e,
     )
 
 enum-known-went-2 : tie.Need-enum-known-went-2 Inv-loop μ-loop
@@ -80,14 +69,9 @@ same-length-3 c =
 returns : tie.Need-returns Inv-loop μ-loop
 returns c =
     let d = c .before .before .before .before .before .before .before .before .before in
-    let l = d .before .before .before .before .before in
-    let s = l .before .before .before .before .before .before .before .before in
-    let t = tablesOf (s .args .rows .now) (s .args .pos .now) (s .args .osp .now) in
-    let p = s .args .plan .now in
-    let v = l .loop .inv in
-    turns-to t p (s .args .state .now) (s .args .opened) (s .pre) All (s .args .kept .now) (s .args .quantum) (s .args .most) (length (s .args .output .now))
-    (l .loop .n) (omega arith) (l .loop .state) (l .loop .saved) (l .loop .kept) (l .loop .used) (v .4) (l .loop .output) (v .2) _ _
-    (d .advance .result) (d .advance .ensures) _ (c .before .went2 .given .1)
+    let l = d .before .before .before .before .before .loop in
+    let e = rounds-next All _ _ _ _ (l .n) (l .saved) (l .used) _ (l .inv .4) (d .advance .result) _ (d .advance .ensures) _ (c .before .went2 .given .1) in
+    sym (ap resultAt (rounds-over All _ _ _ _ (l .n + 1) _ (omega arith) _ _ e))
 
 enum-known-went-3 : tie.Need-enum-known-went-3 Inv-loop μ-loop
 enum-known-went-3 c = search needs
@@ -110,14 +94,9 @@ same-length-6 c =
 returns-2 : tie.Need-returns-2 Inv-loop μ-loop
 returns-2 c =
     let d = c .before .before .before .before .before .before .before .before .before in
-    let l = d .before .before .before .before .before in
-    let s = l .before .before .before .before .before .before .before .before in
-    let t = tablesOf (s .args .rows .now) (s .args .pos .now) (s .args .osp .now) in
-    let p = s .args .plan .now in
-    let v = l .loop .inv in
-    turns-to t p (s .args .state .now) (s .args .opened) (s .pre) All (s .args .kept .now) (s .args .quantum) (s .args .most) (length (s .args .output .now))
-    (l .loop .n) (omega arith) (l .loop .state) (l .loop .saved) (l .loop .kept) (l .loop .used) (v .4) (l .loop .output) (v .2) _ _
-    (d .advance .result) (d .advance .ensures) _ (c .before .went3 .given .1)
+    let l = d .before .before .before .before .before .loop in
+    let e = rounds-next All _ _ _ _ (l .n) (l .saved) (l .used) _ (l .inv .4) (d .advance .result) _ (d .advance .ensures) _ (c .before .went3 .given .1) in
+    sym (ap resultAt (rounds-stopped All _ _ _ _ (l .n + 1) _ (omega arith) _ _ e))
 
 same-length-7 : tie.Need-same-length-7 Inv-loop μ-loop
 same-length-7 c = c .before .loop .inv .1
@@ -130,20 +109,9 @@ same-length-9 c = c .before .loop .inv .3
 
 returns-3 : tie.Need-returns-3 Inv-loop μ-loop
 returns-3 c =
-    let l = c .before in
-    let s = l .before .before .before .before .before .before .before .before in
-    let t = tablesOf (s .args .rows .now) (s .args .pos .now) (s .args .osp .now) in
-    let p = s .args .plan .now in
-    let st = s .args .state .now in
-    let o = s .args .opened in
-    let k = s .args .kept .now in
-    let quantum = s .args .quantum in
-    let room = length (s .args .output .now) in
-    let v = l .loop .inv in
-    let e : l .loop .n ≡ s .args .most = omega (arith, c .loop-test .left, v .0) in
-    subst (λ n. Pauses All t p quantum n room k (l .loop .state) (l .loop .kept) (l .loop .saved) (l .loop .used)) e
-    (pauses All t p (start-accepts t p st o (s .pre)) (startAt st o) (start-keeps t p st o (s .pre)) k (l .loop .n) (l .loop .state) (l .loop .saved)
-    (l .loop .kept) (l .loop .used) (v .4 .under) (v .4 .alive) quantum room (v .4 .made))
+    let l = c .before .loop in
+    let e : l .n ≡ c .before .before .before .before .before .before .before .before .before .args .most = omega (arith, c .loop-test .left, l .inv .0) in
+    sym (ap resultAt (rounds-made All _ _ _ _ (l .n) _ e _ (l .inv .4)))
 
 pub go-on-spec : {M : Type 1} → statement M
 go-on-spec =

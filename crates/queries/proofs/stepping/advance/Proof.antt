@@ -1,7 +1,6 @@
 -- `advance` meets its contract: the outcome of a turn whose list is taken.
 use borrow.Author.Needs.{needs}
-use mathlib.Core.Path.{_∙_, ap}
-use Rattle.queries.specs.Stepping.{Stepped, wentOf}
+use Rattle.queries.proofs.Rounds.{advanced-by}
 use Rattle.queries.proofs.stepping.advance.Statement.{statement}
 use Rattle.queries.proofs.stepping.advance.Tie as tie
 
@@ -22,12 +21,8 @@ same-length-3 c = search needs
 
 returns : tie.Need-returns
 returns c =
-    let e = c .before .before .before .before .before .before .before .take-turn .ensures in
-    record {
-      left = ap (λ (x : Stepped). x .state) e;
-      list = ap (λ (x : Stepped). x .kept) e;
-      went = c .outcome .ensures ∙ ap (λ (x : Stepped). wentOf (x .answer)) e;
-    }
+    let t = c .before .before .before .before .before .before .before .take-turn in
+    advanced-by (t .result) _ _ _ _ (t .ensures) (c .outcome .result) (c .outcome .ensures)
 
 pub advance-spec : {M : Type 1} → statement M
 advance-spec =

@@ -1,0 +1,79 @@
+-- A query played, call by call: an opening, rounds of one turn whose list is taken, and what a play answers and leaves. Assumes nothing: these
+-- are definitions.
+use Prim.Native.Nat.{ℕ}
+use mathlib.Core.List.{List, []}
+use Rattle.words.specs.declared.Written.{Written}
+use Rattle.words.specs.declared.Written.the-variants as written
+use Rattle.words.specs.Sequences.{iterate}
+use Rattle.tables.specs.Tables.{Tables}
+use Rattle.turns.specs.Opening.{openOf}
+use Rattle.turns.specs.Turns.{TurnInput}
+use Rattle.queries.specs.declared.Keeping.{Keeping}
+use Rattle.queries.specs.declared.Played.{Played}
+use Rattle.queries.specs.declared.Played.the-variants.{Finished, Unfinished, Refused}
+use Rattle.queries.specs.declared.Went.{Went}
+use Rattle.queries.specs.declared.Went.the-variants.{On, Over, Stopped}
+use Rattle.queries.specs.Stepping.{Stepped, takeTurnOf, wentOf}
+
+-- the buffers lent to a play
+pub record Lent : Type 0 where
+  pub state : List ℕ
+  pub output : List ℕ
+  pub kept : List ℕ
+
+-- how a query goes on after its last turn, and what the buffers hold
+pub record Position : Type 0 where
+  pub went : Went
+  pub held : Lent
+
+-- ---- rounds
+abbrev pub advanced : Stepped → Position
+advanced s = record { went = wentOf (s .answer); held = record { state = s .state; output = s .output; kept = s .kept } }
+
+-- the turn of a round, with no threshold
+abbrev pub roundInput : Tables → List ℕ → ℕ → ℕ → Lent → TurnInput
+roundInput t plan quantum saved l =
+    record { tables = t; plan = plan; state = l .state; given = saved; quantum = quantum; threshold = []; output = l .output }
+
+-- a query that is over or stopped makes no more turns
+abbrev pub roundAs : Keeping → Tables → List ℕ → ℕ → Went → Lent → Position
+roundAs keep t plan quantum (On saved used) l = advanced (takeTurnOf keep (roundInput t plan quantum saved l) (l .kept) used)
+roundAs keep t plan quantum (Over words) l = record { went = Over words; held = l }
+roundAs keep t plan quantum (Stopped x) l = record { went = Stopped x; held = l }
+
+unfoldable pub round : Keeping → Tables → List ℕ → ℕ → Position → Position
+round keep t plan quantum p = roundAs keep t plan quantum (p .went) (p .held)
+
+-- at most so many turns
+unfoldable pub rounds : Keeping → Tables → List ℕ → ℕ → ℕ → Position → Position
+rounds keep t plan quantum most p = iterate (round keep t plan quantum) most p
+
+-- ---- a play
+-- what it answers, and the buffers at exit
+pub record PlayResult : Type 0 where
+  pub answer : Played
+  pub held : Lent
+
+abbrev pub answerOf : Went → Played
+answerOf (On saved words) = Unfinished saved words
+answerOf (Over words) = Finished words
+answerOf (Stopped x) = Refused x
+
+abbrev pub resultAt : Position → PlayResult
+resultAt p = record { answer = answerOf (p .went); held = p .held }
+
+-- the saved words of an opening, and no list kept
+abbrev pub startOf : ℕ → Lent → Position
+startOf opened l = record { went = On opened 0; held = l }
+
+-- by what the opening answers, with what it leaves
+abbrev pub playedAs : Keeping → Tables → List ℕ → ℕ → ℕ → Written → Lent → PlayResult
+playedAs keep t plan quantum most (written.Words opened) l = resultAt (rounds keep t plan quantum most (startOf opened l))
+playedAs keep t plan quantum most (written.Refused x) l = record { answer = Refused x; held = l }
+
+-- the opening of a state buffer, the other buffers as they were
+abbrev pub afterOpening : Tables → List ℕ → Lent → Lent
+afterOpening t plan l = record { state = openOf t plan (l .state) .state; output = l .output; kept = l .kept }
+
+unfoldable pub playOf : Keeping → Tables → List ℕ → ℕ → ℕ → Lent → PlayResult
+playOf keep t plan quantum most l = playedAs keep t plan quantum most (openOf t plan (l .state) .answer) (afterOpening t plan l)
