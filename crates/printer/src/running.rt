@@ -1,107 +1,30 @@
-// An opened query: its turns until it is done, each printed, and then its merged list. What is printed of them is the uncut run's.
+// An opened query: its turns until it is done, each printed, and then its merged list.
 use crate::Listing;
-use crate::lines::TOTALS_WIDTH;
-use crate::lines::print_list;
-use crate::lines::print_refused;
-use crate::lines::print_turn;
-use plans::Last;
+use crate::plan_lists::lists_of;
+use crate::showing::print_played;
+use crate::showing::print_shown;
+use crate::showing::print_taken;
 use queries::Keeping;
 use queries::Played;
 use queries::Went;
-use turns::Turned;
-use words::Written;
 ghost use mathlib.Core.Path.{_≡_};
-ghost use mathlib.Core.Bool.{true};
 ghost use mathlib.Core.List.{[]};
-ghost use Prim.Native.Nat.{_≤_, _<_, _%_};
+ghost use Prim.Native.Nat.{_<_};
 ghost use lib.ListN.{length};
 ghost use Rattle.tables.specs.Tables.{tablesOf};
-ghost use Rattle.plans.specs.declared.Last.the-variants.{Rows};
-ghost use Rattle.plans.specs.Endings.{mostRowVariables};
-ghost use Rattle.plans.specs.Plans.{readPlan, hasForm, planOf};
 ghost use Rattle.turns.specs.Turns.{turnInput};
 ghost use Rattle.queries.specs.declared.Keeping.the-variants.{Merged};
 ghost use Rattle.queries.specs.Stepping.{takeTurnOf};
 ghost use Rattle.queries.specs.Rounds.{advanced, startOf, rounds, resultAt};
-ghost use Rattle.queries.specs.Playing.{Stands, Started, IsWhole};
-ghost use Rattle.printer.specs.Listings.{listingOf, ListsOf, widthOf, HasWidth};
-ghost use Rattle.printer.specs.Shown.{mostTurns, CanOpen, Printed, EndsWhole};
+ghost use Rattle.queries.specs.Playing.{Stands, Started};
+ghost use Rattle.printer.specs.Listings.{ListsOf};
+ghost use Rattle.printer.specs.Shown.{mostTurns, CanOpen};
 
 // The rows or records that the output holds.
 pub const OUTPUT_RECORDS: usize = 64;
 
 // Turns are counted in 64 bits. A query of more turns would not come to its end in any lifetime, so the loop's test always passes.
 pub const MOST_TURNS: u64 = 18446744073709551615;
-
-// The words of a row or record whose plan names so many variables.
-fn record_width(kind: Last, variables: usize) -> usize
-    requires { ⌜ variables ≤ mostRowVariables ⌝ }
-    ensures { λ r. ⌜ r ≡ widthOf kind variables ⌝ }
-{
-    match kind {
-        Last::Rows => variables,
-        Last::Top => variables,
-        Last::Group => variables + TOTALS_WIDTH,
-        Last::Neither => 0,
-    }
-}
-
-// What the lists of a plan hold.
-fn lists_of(plan: &[u32]) -> Listing
-    requires { ⌜ hasForm (readPlan (now plan)) ≡ true ⌝ }
-    ensures { λ r. ⌜ r ≡ listingOf (planOf (now (plan .entry)) .ending) ⌝ }
-{
-    let ending = plans::ending_part(plan);
-    let kind = plans::ending_kind(ending);
-    let variables = plans::variables(ending).len();
-    Listing {
-        kind: kind,
-        width: record_width(kind, variables),
-    }
-}
-
-// The rows that a turn of a row query delivered; no other list is printed before it is merged. A refused turn's list has no words.
-fn print_delivered(lists: Listing, list: &[u32])
-    requires { ⌜ HasWidth (lists .kind) (lists .width) ⌝ }
-    requires { ⌜ (lists .kind ≡ Rows → length (now list) % lists .width ≡ 0) ⌝ }
-{
-    let kind = lists.kind;
-    match kind {
-        Last::Rows => print_list(lists, list),
-        Last::Top => {}
-        Last::Group => {}
-        Last::Neither => {}
-    }
-}
-
-// The refusal of a list that was not taken; that of a turn is its line.
-fn print_taken(taken: Written) {
-    match taken {
-        Written::Refused(x) => print_refused(x),
-        Written::Words(_) => {}
-    }
-}
-
-// A turn's line, and the rows that it delivered. The tables, the plan, the quantum and the output's room are here to say that they are those of
-// the uncut run's turn with that number.
-fn print_shown(
-    rows: &[u32],
-    pos: &[u32],
-    osp: &[u32],
-    plan: &[u32],
-    quantum: u32,
-    room: usize,
-    number: u64,
-    turned: Turned,
-    list: &[u32],
-    lists: Listing,
-)
-    requires { ⌜ ListsOf (now plan) lists ⌝ }
-    requires { ⌜ Printed (tablesOf (now rows) (now pos) (now osp)) (now plan) quantum room number turned (now list) ⌝ }
-{
-    print_turn(number, turned);
-    print_delivered(lists, list);
-}
 
 // One turn and its list, printed, from where a query stands after so many turns.
 fn print_step(
@@ -205,38 +128,6 @@ fn go_on(
     Played::Unfinished {
         saved: saved,
         words: used,
-    }
-}
-
-// The merged list of a finished query. The tables and the plan are here to say that it is the whole list of the uncut run.
-fn print_whole(rows: &[u32], pos: &[u32], osp: &[u32], plan: &[u32], list: &[u32], lists: Listing)
-    requires { ⌜ ListsOf (now plan) lists ⌝ }
-    requires { ⌜ CanOpen (tablesOf (now rows) (now pos) (now osp)) (now plan) ⌝ }
-    requires { ⌜ IsWhole Merged (tablesOf (now rows) (now pos) (now osp)) (now plan) (now list) ⌝ }
-{
-    print_list(lists, list);
-}
-
-// What is printed of a query after its turns: where it is finished, its merged list; that of a row query is empty.
-fn print_played(
-    rows: &[u32],
-    pos: &[u32],
-    osp: &[u32],
-    plan: &[u32],
-    kept: &[u32],
-    played: Played,
-    lists: Listing,
-)
-    requires { ⌜ ListsOf (now plan) lists ⌝ }
-    requires { ⌜ CanOpen (tablesOf (now rows) (now pos) (now osp)) (now plan) ⌝ }
-    requires { ⌜ EndsWhole (tablesOf (now rows) (now pos) (now osp)) (now plan) (now kept) played ⌝ }
-{
-    match played {
-        Played::Finished(words) => {
-            print_whole(rows, pos, osp, plan, &kept[..words], lists);
-        }
-        Played::Unfinished { saved: _, words: _ } => {}
-        Played::Refused(_) => {}
     }
 }
 

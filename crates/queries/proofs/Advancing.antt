@@ -36,7 +36,7 @@ use Rattle.cuts.proofs.AnyCut.{history-keeps, as-uncut}
 use Rattle.cuts.proofs.States.{Passed}
 use Rattle.queries.specs.declared.Keeping.{Keeping}
 use Rattle.queries.specs.Stepping.{isServed, keeps, keptOf}
-use Rattle.queries.specs.Playing.{UnderWay}
+use Rattle.queries.proofs.UnderWay.{UnderWay}
 use Rattle.queries.proofs.Taking.{is-served}
 
 -- ---- one call more

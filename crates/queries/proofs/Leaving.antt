@@ -34,7 +34,8 @@ use Rattle.queries.specs.declared.Keeping.the-variants.{All, Merged}
 use Rattle.queries.specs.declared.Went.{Went}
 use Rattle.queries.specs.declared.Went.the-variants.{On, Over, Stopped}
 use Rattle.queries.specs.Stepping.{isServed, isRows, keeps, keptOf, joinOf, leftAsIs, rowsTaken, listTaken, takenBy, takeTurnOf, wentAs, wentOf}
-use Rattle.queries.specs.Playing.{Holds, Turn, Turns, one-more, Stands, Finishes, Pauses, Cause, list-left, Stops, UnderWay}
+use Rattle.queries.specs.Playing.{Holds, Turn, Turns, one-more, Stands, Finishes, Pauses, Cause, list-left, Stops}
+use Rattle.queries.proofs.UnderWay.{UnderWay}
 use Rattle.queries.proofs.Refusing.{turn-stopped, at-first}
 use Rattle.queries.proofs.Taking.{is-served}
 use Rattle.queries.proofs.Making.{turn-made}

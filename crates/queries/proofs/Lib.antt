@@ -1,6 +1,7 @@
 pub mod Taking
 pub mod Rounds
 pub mod Refusing
+pub mod UnderWay
 pub mod Advancing
 pub mod Making
 pub mod Leaving

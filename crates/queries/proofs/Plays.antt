@@ -1,7 +1,7 @@
 -- The rounds of an opened query follow the uncut run, and so does a whole play.
 use Prim.Native.Nat.{ℕ, zero, suc, _+_}
 use native.Mathlib.Omega.{arith}
-use mathlib.Core.Path.{_≡_, refl, sym, _∙_, ap, subst, subst⁻¹}
+use mathlib.Core.Path.{_≡_, refl, _∙_, subst, subst⁻¹}
 use mathlib.Core.Logic.{inl, inr}
 use mathlib.Core.List.{List}
 use lib.ListN.{length}
@@ -13,9 +13,10 @@ use Rattle.queries.specs.declared.Keeping.{Keeping}
 use Rattle.queries.specs.declared.Played.{Played}
 use Rattle.queries.specs.declared.Went.{Went}
 use Rattle.queries.specs.declared.Went.the-variants.{On, Over, Stopped}
-use Rattle.queries.specs.Stepping.{Stepped, takeTurnOf, wentOf}
+use Rattle.queries.specs.Stepping.{takeTurnOf}
 use Rattle.queries.specs.Rounds.{Lent, Position, PlayResult, advanced, roundInput, rounds, answerOf, resultAt, startOf, playedAs, afterOpening, playOf}
-use Rattle.queries.specs.Playing.{Stands, Finishes, Stops, Leaves, Plays, startAt, Started}
+use Rattle.queries.specs.Playing.{Stands, Finishes, Stops, Leaves, Plays, Started}
+use Rattle.queries.proofs.UnderWay.{startAt}
 use Rattle.queries.proofs.Taking.{same-room}
 use Rattle.queries.proofs.Rounds.{rounds-none, rounds-on, rounds-over, rounds-stopped}
 use Rattle.queries.proofs.Leaving.{Going, Becomes, becomes, pauses}

@@ -29,7 +29,8 @@ use Rattle.cuts.proofs.Turning.{Kept}
 use Rattle.cuts.proofs.AnyCut.{fresh-keeps}
 use Rattle.queries.specs.declared.Keeping.{Keeping}
 use Rattle.queries.specs.Stepping.{keeps, keptOf}
-use Rattle.queries.specs.Playing.{none-made, Stands, NotOpened, startAt, Started, UnderWay}
+use Rattle.queries.specs.Playing.{none-made, Stands, NotOpened, Started}
+use Rattle.queries.proofs.UnderWay.{startAt, UnderWay}
 use Rattle.queries.proofs.Leaving.{stands, not-over, Going}
 
 -- no row has no total

@@ -12,15 +12,13 @@ use Rattle.words.specs.Sequences.{over}
 use Rattle.tables.specs.Tables.{Tables}
 use Rattle.plans.specs.Plans.{planOf}
 use Rattle.steps.specs.Steps.{after}
-use Rattle.steps.specs.Saved.{savedWords, leastStateWords}
+use Rattle.steps.specs.Saved.{savedWords}
 use Rattle.lists.specs.Gathering.{gathered, leastOutput}
 use Rattle.turns.specs.declared.TurnEnding.{TurnEnding}
 use Rattle.turns.specs.declared.TurnEnding.the-variants as ending
 use Rattle.turns.specs.declared.Turned.{Turned}
 use Rattle.turns.specs.Opening.{openOf, Opens}
 use Rattle.turns.specs.Turns.{mostSteps}
-use Rattle.cuts.specs.Histories.{Event, Held, stepsIn, history}
-use Rattle.cuts.specs.Premises.{Premises}
 use Rattle.cuts.specs.Uncut.{EndsAt, runList, runFits, NotTaken}
 use Rattle.queries.specs.declared.Keeping.{Keeping}
 use Rattle.queries.specs.declared.Played.{Played}
@@ -85,7 +83,7 @@ pub record Stands (t : Tables) (plan : List ℕ) (quantum room count : ℕ) (sta
   pub state-count : saved ≡ length (savedWords (after t (planOf plan) steps .state))
 
 -- ---- the answers
--- finished: the uncut run ends with one of the turns allowed, and the kept list is its whole list
+-- finished: the uncut run ends with one of the turns allowed, and of its whole list is kept what is to be
 pub record Finishes (keep : Keeping) (t : Tables) (plan : List ℕ) (quantum most room : ℕ) (before kept : List ℕ) (words : ℕ) : Type 0 where
   pub count : ℕ
   pub allowed : count ≤ most
@@ -94,7 +92,7 @@ pub record Finishes (keep : Keeping) (t : Tables) (plan : List ℕ) (quantum mos
   pub ends : EndsAt t (planOf plan) steps
   pub list : Holds keep t plan steps before kept words
 
--- not finished: the turns allowed were made, and the kept list is the uncut run's up to there
+-- not finished: the turns allowed were made, and what is kept is of the uncut run's list up to there
 pub record Pauses (keep : Keeping) (t : Tables) (plan : List ℕ) (quantum most room : ℕ) (before state kept : List ℕ) (saved words : ℕ) : Type 0 where
   pub stands : Stands t plan quantum room most state saved
   pub list : Holds keep t plan (stands .steps) before kept words
@@ -107,7 +105,7 @@ pub data Cause (keep : Keeping) (t : Tables) (plan : List ℕ) (quantum room : �
   list-left : keeps keep (planOf plan .ending) ≡ true → (later : ℕ) → Turn t plan quantum room steps later
       → (x : ℕ) → NotTaken t (planOf plan) later (length before) x → Cause keep t plan quantum room before steps x
 
--- stopped: the kept list is the uncut run's up to the lists taken. For its output or its quantum it is stopped before the first step
+-- stopped: what is kept is of the uncut run's list up to the lists taken. For its output or its quantum it is stopped before the first step
 pub record Stops (keep : Keeping) (t : Tables) (plan : List ℕ) (quantum most room : ℕ) (before kept : List ℕ) (x : ℕ) : Type 0 where
   pub count : ℕ
   pub allowed : count < most
@@ -157,31 +155,10 @@ pub record IsWhole (keep : Keeping) (t : Tables) (plan list : List ℕ) : Type 0
   pub ends : EndsAt t (planOf plan) steps
   pub listed : list ≡ keptAfter keep t plan steps
 
--- ---- under way
--- what the phone holds at the start: the saved words, and no list
-abbrev pub startAt : List ℕ → ℕ → Held
-startAt state saved = record { saved = take saved state; taken = []; waiting = []; kept = [] }
-
+-- ---- the start
 -- the state buffer is as a served opening left it
 pub record Started (t : Tables) (plan state : List ℕ) (saved : ℕ) : Type 0 where
   pub lent : List ℕ
   pub opens : Opens t plan lent
   pub left : state ≡ openOf t plan lent .state
   pub counted : saved ≡ wordsIn (openOf t plan lent .answer)
-
--- the buffers hold what a list of calls under demand 3's premises leaves, so many turns served and every list taken
-pub record UnderWay (keep : Keeping) (t : Tables) (plan : List ℕ) (first : Held) (before : List ℕ) (count : ℕ) (state : List ℕ) (saved : ℕ) (kept : List ℕ)
-    (used : ℕ) : Type 0 where
-  pub events : List Event
-  pub premises : Premises t plan first events
-  pub held : Held
-  pub reached : history t plan first events ≡ held
-  pub taken : held .waiting ≡ []
-  pub turns : length (held .taken) ≡ count
-  pub state-words : take saved state ≡ held .saved
-  pub state-count : saved ≡ length (held .saved)
-  pub state-room : leastStateWords ≤ length state
-  pub fits : runFits (planOf plan .ending) (after t (planOf plan) (stepsIn (held .taken))) ≡ true
-  pub list : kept ≡ over (keptOf keep (planOf plan .ending) (held .kept)) before
-  pub words : used ≡ length (keptOf keep (planOf plan .ending) (held .kept))
-  pub room : used ≤ length before

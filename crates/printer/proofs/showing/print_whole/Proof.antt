@@ -7,8 +7,8 @@ use Rattle.lists.specs.Gathering.{width}
 use Rattle.printer.specs.declared.Listing.{Listing}
 use Rattle.printer.proofs.Widths.{lists-width}
 use Rattle.printer.proofs.KeptLists.{kept-whole}
-use Rattle.printer.proofs.running.print_whole.Statement.{statement}
-use Rattle.printer.proofs.running.print_whole.Tie as tie
+use Rattle.printer.proofs.showing.print_whole.Statement.{statement}
+use Rattle.printer.proofs.showing.print_whole.Tie as tie
 
 print-list-requires : tie.Need-print-list-requires
 print-list-requires c κs =

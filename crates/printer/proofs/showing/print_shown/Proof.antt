@@ -7,8 +7,8 @@ use Rattle.lists.specs.Gathering.{width}
 use Rattle.printer.specs.declared.Listing.{Listing}
 use Rattle.printer.proofs.Widths.{lists-width}
 use Rattle.printer.proofs.TurnLists.{printed-whole}
-use Rattle.printer.proofs.running.print_shown.Statement.{statement}
-use Rattle.printer.proofs.running.print_shown.Tie as tie
+use Rattle.printer.proofs.showing.print_shown.Statement.{statement}
+use Rattle.printer.proofs.showing.print_shown.Tie as tie
 
 print-turn-requires : tie.Need-print-turn-requires
 print-turn-requires c κs = search needs

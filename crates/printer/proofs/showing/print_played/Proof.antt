@@ -4,8 +4,8 @@ use mathlib.Core.Path.{sym, subst}
 use lib.Seq.{length-take-le}
 use Rattle.tables.specs.Tables.{tablesOf}
 use Rattle.printer.specs.Shown.{EndsWhole}
-use Rattle.printer.proofs.running.print_played.Statement.{statement}
-use Rattle.printer.proofs.running.print_played.Tie as tie
+use Rattle.printer.proofs.showing.print_played.Statement.{statement}
+use Rattle.printer.proofs.showing.print_played.Tie as tie
 
 enum-known-played : tie.Need-enum-known-played
 enum-known-played c = search needs

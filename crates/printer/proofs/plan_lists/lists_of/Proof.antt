@@ -7,8 +7,8 @@ use Rattle.plans.specs.Plans.{planOf}
 use Rattle.plans.specs.Reading.{lastIn, variablesIn}
 use Rattle.printer.specs.Listings.{widthOf}
 use Rattle.printer.proofs.Widths.{ending-form, few-variables, width-of}
-use Rattle.printer.proofs.running.lists_of.Statement.{statement}
-use Rattle.printer.proofs.running.lists_of.Tie as tie
+use Rattle.printer.proofs.plan_lists.lists_of.Statement.{statement}
+use Rattle.printer.proofs.plan_lists.lists_of.Tie as tie
 
 ending-part-requires : tie.Need-ending-part-requires
 ending-part-requires c κs = search needs
