@@ -1,5 +1,6 @@
 pub mod Taking
 pub mod Rounds
+pub mod Beside
 pub mod Refusing
 pub mod UnderWay
 pub mod Advancing
