@@ -1,44 +1,26 @@
--- What a turn makes of a query under way, by what it answers: under way again, finished, or stopped; and what that says of the uncut run.
-use Prim.Native.Nat.{ℕ, _+_, _≤_, _<_}
-use native.Mathlib.Omega.{arith}
-use mathlib.Core.Path.{_≡_, refl, sym, _∙_, ap, ap₂, subst, subst⁻¹}
-use mathlib.Core.Bool.{Bool, true, false, cond, not}
-use mathlib.Core.List.{List, [], _∷_, _++_}
-use lib.Dec.{leb}
-use lib.ListN.{length, take, drop, length-append}
-use borrow.Author.Tests.{leb-true, leb-false}
-use Rattle.words.specs.declared.Written.{Written}
-use Rattle.words.specs.declared.Written.the-variants as written
-use Rattle.words.specs.Answers.{wordsIn}
+-- A query that goes on, and what that says of the uncut run: where it stands, what it keeps, and what it leaves when it is stopped.
+use Prim.Native.Nat.{ℕ, _+_, _<_}
+use mathlib.Core.Path.{_≡_, sym, _∙_, ap, subst, subst⁻¹}
+use mathlib.Core.Bool.{true, false, not}
+use mathlib.Core.List.{List}
+use lib.ListN.{length}
 use Rattle.words.specs.Sequences.{over}
 use Rattle.words.proofs.Booleans.{absurd-true}
 use Rattle.tables.specs.Tables.{Tables}
-use Rattle.plans.specs.Endings.{Ending, rows, top, group}
 use Rattle.plans.specs.Plans.{Plan, planOf}
 use Rattle.steps.specs.Steps.{after}
 use Rattle.steps.specs.Saved.{savedWords}
-use Rattle.turns.specs.declared.TurnEnding.{TurnEnding}
-use Rattle.turns.specs.declared.TurnEnding.the-variants as ending
-use Rattle.turns.specs.Turns.{TurnInput, turnOf}
-use Rattle.merges.specs.Merging.{MergeInput, MergeResult, mergeOf}
-use Rattle.merges.proofs.Refusals as refusals
-use Rattle.merges.proofs.Writes.{merge-writes}
-use Rattle.cuts.specs.Histories.{merges, joins, Held, Served, servedIn, stepsIn, doneIn, isDone, servedOf, mergeInputOf, afterServed, afterTaking}
-use Rattle.cuts.specs.Histories.{afterMerge, afterMerging, afterJoin, afterJoining, happens}
-use Rattle.cuts.specs.Uncut.{EndsAt, AsUncut, runList, runFits, NotTaken, no-room}
+use Rattle.cuts.specs.Histories.{Held, servedIn, stepsIn, doneIn}
+use Rattle.cuts.specs.Uncut.{EndsAt, AsUncut}
 use Rattle.cuts.proofs.Accepting.{Accepted}
 use Rattle.cuts.proofs.Turning.{Kept}
-use Rattle.cuts.proofs.MergeRefusals as merging
 use Rattle.queries.specs.declared.Keeping.{Keeping}
-use Rattle.queries.specs.declared.Keeping.the-variants.{All, Merged}
 use Rattle.queries.specs.declared.Went.{Went}
 use Rattle.queries.specs.declared.Went.the-variants.{On, Over, Stopped}
-use Rattle.queries.specs.Stepping.{isServed, isRows, keeps, keptOf, joinOf, leftAsIs, rowsTaken, listTaken, takenBy, takeTurnOf, wentAs, wentOf}
-use Rattle.queries.specs.Playing.{Holds, Turn, Turns, one-more, Stands, Finishes, Pauses, Cause, list-left, Stops}
+use Rattle.queries.specs.Stepping.{keeps, keptOf}
+use Rattle.queries.specs.Playing.{Holds, Turns, Stands, Finishes, Pauses, Cause, Stops}
 use Rattle.queries.proofs.UnderWay.{UnderWay}
-use Rattle.queries.proofs.Refusing.{turn-stopped, at-first}
-use Rattle.queries.proofs.Taking.{is-served}
-use Rattle.queries.proofs.Making.{turn-made}
+use Rattle.queries.proofs.Refusing.{at-first}
 use Rattle.queries.proofs.Advancing as advancing
 
 -- a query that goes on: under way, its saved words those of a state, and its turns made as the uncut run has them
@@ -54,24 +36,12 @@ Becomes keep t plan first before quantum most room count now left (On s words) =
 Becomes keep t plan first before quantum most room count now left (Over words) = Finishes keep t plan quantum most room before left words
 Becomes keep t plan first before quantum most room count now left (Stopped y) = Stops keep t plan quantum most room before left y
 
--- a list that is merged is kept
-merged-kept : (keep : Keeping) (e : Ending) → isRows e ≡ false → keeps keep e ≡ true
-merged-kept All e f = refl
-merged-kept Merged e f = ap not f
-
 module _ (keep : Keeping) (t : Tables) (plan : List ℕ) (a : Accepted t plan) (first : Held) (k : Kept t (planOf plan) first) (before : List ℕ) where
   abbrev q : Plan
   q = planOf plan
 
   abbrev part : List ℕ → List ℕ
   part = keptOf keep (q .ending)
-
-  -- all of a list that is kept, nothing of another
-  all-kept : keeps keep (q .ending) ≡ true → (list : List ℕ) → part list ≡ list
-  all-kept f list = rw f
-
-  none-kept : keeps keep (q .ending) ≡ false → (list : List ℕ) → part list ≡ []
-  none-kept f list = rw f
 
   module _ (count : ℕ) (state : List ℕ) (saved : ℕ) (kept : List ℕ) (used : ℕ) (u : UnderWay keep t plan first before count state saved kept used) where
     abbrev h : Held
@@ -87,7 +57,7 @@ module _ (keep : Keeping) (t : Tables) (plan : List ℕ) (a : Accepted t plan) (
     all-taken : servedIn h ≡ h .taken
     all-taken = advancing.all-taken keep t plan a first k before count state saved kept used u
 
-    holds : Holds keep t plan (stepsIn (h .taken)) before kept used
+    pub holds : Holds keep t plan (stepsIn (h .taken)) before kept used
     holds =
         record {
           fits = u .fits;
@@ -96,7 +66,7 @@ module _ (keep : Keeping) (t : Tables) (plan : List ℕ) (a : Accepted t plan) (
           room = u .room;
         }
 
-    ends : doneIn (servedIn h) ≡ true → EndsAt t q (stepsIn (h .taken))
+    pub ends : doneIn (servedIn h) ≡ true → EndsAt t q (stepsIn (h .taken))
     ends d = uncut .finished d (u .taken) .0
 
     pub stands : ¬ (saved ≡ 0) → (quantum room : ℕ) → Turns t plan quantum room count (stepsIn (h .taken))
@@ -117,7 +87,7 @@ module _ (keep : Keeping) (t : Tables) (plan : List ℕ) (a : Accepted t plan) (
     unfolding stands stepsIn
     pauses f quantum room made = record { stands = stands f quantum room made; list = holds }
 
-    stops : (quantum most room : ℕ) → count < most → Turns t plan quantum room count (stepsIn (h .taken))
+    pub stops : (quantum most room : ℕ) → count < most → Turns t plan quantum room count (stepsIn (h .taken))
         → (left : List ℕ) (y : ℕ) → Cause keep t plan quantum room before (stepsIn (h .taken)) y → left ≡ kept
         → Stops keep t plan quantum most room before left y
     stops quantum most room fewer made left y c e =
@@ -135,239 +105,3 @@ module _ (keep : Keeping) (t : Tables) (plan : List ℕ) (a : Accepted t plan) (
     -- where done was not answered, the saved words are a state's
     pub not-over : doneIn (servedIn h) ≡ false → ¬ (saved ≡ 0)
     not-over d e = absurd-true (uncut .done .1 (uncut .end .0 (advancing.no-elements (h .saved) (sym (u .state-count) ∙ e)))) d
-
-  -- ---- one turn more
-  module _ (quantum most count : ℕ) (fewer : count < most) (output state : List ℕ) (saved : ℕ) (kept : List ℕ) (used : ℕ)
-      (g : Going keep t plan first before quantum (length output) count state saved kept used) where
-    abbrev u : UnderWay keep t plan first before count state saved kept used
-    u = g .under
-
-    abbrev i : TurnInput
-    i = record { tables = t; plan = plan; state = state; given = saved; quantum = quantum; threshold = []; output = output }
-
-    -- the steps of the lists taken so far
-    abbrev n : ℕ
-    n = stepsIn (u .held .taken)
-
-    abbrev m : MergeResult
-    m = takenBy keep i (turnOf i) kept used
-
-    abbrev x : Served
-    x = servedOf quantum (turnOf i)
-
-    abbrev turned : Held
-    turned = afterServed (u .held) quantum (turnOf i)
-
-    -- what the list's taking comes to, by its answer
-    abbrev TakenAs : List ℕ → Written → Type 0
-    TakenAs left (written.Words words) =
-        (v : UnderWay keep t plan first before (count + 1) (turnOf i .state) (turnOf i .answer .saved) left words)
-        × (doneIn (servedIn (v .held)) ≡ isDone (turnOf i .answer .ending))
-        × (stepsIn (v .held .taken) ≡ n + x .steps)
-    TakenAs left (written.Refused y) = (left ≡ kept) × Cause keep t plan quantum (length output) before n y
-
-    module _ (served : isServed (turnOf i .answer .ending) ≡ true) where
-      one-waits : turned .waiting ≡ x ∷ []
-      one-waits = advancing.one-waits keep t plan a first k before count state saved kept used u quantum output served
-
-      kept-length : length kept ≡ length before
-      kept-length = advancing.kept-length keep t plan a first k before count state saved kept used u
-
-      turned-keeps : Kept t q turned
-      turned-keeps = advancing.turned-keeps keep t plan a first k before count state saved kept used u quantum output served
-
-      -- the turn is one of the uncut run
-      turn : Turn t plan quantum (length output) n (n + x .steps)
-      turn =
-          let here = advancing.given-state keep t plan a first k before count state saved kept used u quantum output (g .alive) in
-          turn-made i a n (here .0) (here .1) (here .2) refl (is-served i served)
-
-      made-more : Turns t plan quantum (length output) (count + 1) (n + x .steps)
-      made-more = one-more count n (n + x .steps) (g .made) turn
-
-      -- its list is left
-      left-list : keeps keep (q .ending) ≡ true → (y : ℕ) → NotTaken t q (n + x .steps) (length before) y
-          → Cause keep t plan quantum (length output) before n y
-      left-list f y c = list-left f (n + x .steps) turn y c
-
-      -- a row query's list is joined, or left
-      module _ (vs : List ℕ) (e : q .ending ≡ rows vs) where
-        abbrev both : List ℕ
-        both = u .held .kept ++ x .list
-
-        joins-made : happens t plan turned joins ≡ afterTaking turned x [] both
-        unfolding happens
-        joins-made = ap (afterJoining plan turned) one-waits ∙ ap (λ d. afterJoin d turned x []) e
-
-        taken-is : m ≡ rowsTaken keep kept used (x .list)
-        taken-is =
-            let j : MergeInput = record { plan = plan; kept = kept; given = used; list = x .list } in
-            ap₂ (λ b d. cond b (cond (isRows d) (rowsTaken keep kept used (x .list)) (mergeOf j)) (leftAsIs kept used)) served e
-
-        -- the rows of both are the uncut run's up to the end of the turn
-        run-length : length both ≡ length (runList (q .ending) (after t q (n + x .steps)))
-        run-length =
-            ap length (advancing.now-list keep t plan a first k before count state saved kept used u quantum output served joins tt both joins-made)
-
-        rows-fit : runFits (q .ending) (after t q (n + x .steps)) ≡ true
-        rows-fit = ap (λ d. runFits d (after t q (n + x .steps))) e
-
-        -- with them the query goes on
-        joined-goes : (new : List ℕ) (words : ℕ) → new ≡ over (part both) kept → words ≡ length (part both) → words ≤ length kept
-            → TakenAs new (written.Words words)
-        joined-goes new words whole counted room =
-            advancing.goes-on keep t plan a first k before count state saved kept used u quantum output served joins tt both joins-made rows-fit
-            new words whole counted room (g .alive)
-
-        module _ (f : keeps keep (q .ending) ≡ true) where
-          both-length : used + length (x .list) ≡ length both
-          both-length = omega (arith, length-append (u .held .kept) (x .list), u .words, ap length (all-kept f (u .held .kept)))
-
-          by-join : (b : Bool) → leb (used + length (x .list)) (length kept) ≡ b
-              → TakenAs (joinOf kept used (x .list) .kept) (joinOf kept used (x .list) .answer)
-          by-join false l =
-              let short = leb-false (used + length (x .list)) (length kept) l in
-              rw l (
-                refl,
-                left-list f 14 (no-room rows-fit (omega (arith, run-length, both-length, kept-length, short))),
-              )
-          by-join true l =
-              let front = advancing.kept-front keep t plan a first k before count state saved kept used u ∙ all-kept f (u .held .kept) in
-              let all = sym (all-kept f both) in
-              rw l
-              (joined-goes (over (take used kept ++ x .list) kept) (used + length (x .list))
-              (ap (λ l. over (l ++ x .list) kept) front ∙ ap (λ l. over l kept) all) (both-length ∙ ap length all)
-              (leb-true (used + length (x .list)) (length kept) l))
-
-        by-leaving : keeps keep (q .ending) ≡ false → TakenAs kept (written.Words used)
-        by-leaving f =
-            let none = sym (none-kept f both) in
-            joined-goes kept used (ap (λ l. over l kept) none) (u .words ∙ ap length (none-kept f (u .held .kept) ∙ none)) (omega (arith, kept-length, u .room))
-
-        by-keeping : (d : Keeping) → keep ≡ d → TakenAs (rowsTaken d kept used (x .list) .kept) (rowsTaken d kept used (x .list) .answer)
-        by-keeping All f = by-join (ap (λ d. keeps d (q .ending)) f) (leb (used + length (x .list)) (length kept)) refl
-        by-keeping Merged f = by-leaving (ap₂ keeps f e)
-
-        by-rows : TakenAs (m .kept) (m .answer)
-        by-rows = subst⁻¹ (λ (r : MergeResult). TakenAs (r .kept) (r .answer)) taken-is (by-keeping keep refl)
-
-      -- any other is merged
-      module _ (others : merging.Merged (q .ending)) (not-rows : isRows (q .ending) ≡ false) where
-        kept-all : (list : List ℕ) → part list ≡ list
-        kept-all = all-kept (merged-kept keep (q .ending) not-rows)
-
-        abbrev j : MergeInput
-        j = record { plan = plan; kept = kept; given = used; list = x .list }
-
-        kept-whole : u .held .kept ++ drop used kept ≡ kept
-        kept-whole =
-            ap (λ l. l ++ drop used kept) (sym (kept-all (u .held .kept)))
-            ∙ advancing.kept-whole keep t plan a first k before count state saved kept used u
-
-        same-input : mergeInputOf plan turned (drop used kept) x ≡ j
-        same-input = ap₂ (λ l g. record { plan = plan; kept = l; given = g; list = x .list }) kept-whole
-            (sym (u .words ∙ ap length (kept-all (u .held .kept))))
-
-        merged-is : m ≡ mergeOf j
-        merged-is = ap₂ (λ b d. cond b (cond d (rowsTaken keep kept used (x .list)) (mergeOf j)) (leftAsIs kept used)) served not-rows
-
-        merges-made : (words : ℕ) → mergeOf j .answer ≡ written.Words words
-            → happens t plan turned (merges (drop used kept)) ≡ afterTaking turned x [] (take words (mergeOf j .kept))
-        unfolding happens
-        merges-made words e =
-            ap (afterMerging plan turned (drop used kept)) one-waits
-            ∙ ap (λ d. afterMerge turned x [] (mergeOf d) (mergeOf d .answer)) same-input
-            ∙ ap (afterMerge turned x [] (mergeOf j)) e
-
-        not-taken-for : (y : ℕ) → mergeOf j .answer ≡ written.Refused y → NotTaken t q (n + x .steps) (length before) y
-        not-taken-for y e =
-            subst (λ l. NotTaken t q (n + x .steps) l y) (ap length kept-whole ∙ kept-length)
-            (merging.merge-refused t plan a turned turned-keeps others x [] one-waits (drop used kept) y (ap (λ d. mergeOf d .answer) same-input ∙ e))
-
-        by-answer : (w : Written) → mergeOf j .answer ≡ w → TakenAs (mergeOf j .kept) w
-        by-answer (written.Refused y) e = (
-          refusals.merge-refusals j .unchanged y e .buffer,
-          left-list (merged-kept keep (q .ending) not-rows) y (not-taken-for y e),
-        )
-        by-answer (written.Words words) e =
-            let w = merge-writes j (λ y f. let z : _≡_ {A = ℕ} 0 1 = cc in omega arith) in
-            let count-is : wordsIn (mergeOf j .answer) ≡ words = ap wordsIn e in
-            let list = take words (mergeOf j .kept) in
-            let fits = merging.merge-fits t plan a turned turned-keeps others x [] one-waits (drop used kept) words
-            (ap (λ d. mergeOf d .answer) same-input ∙ e) in
-            let front : list ≡ _ = ap (λ d. take d (mergeOf j .kept)) (sym count-is) ∙ w .kept .front in
-            let all = sym (kept-all list) in
-            advancing.goes-on keep t plan a first k before count state saved kept used u quantum output served (merges (drop used kept)) tt list
-            (merges-made words e) fits (mergeOf j .kept) words (w .kept .whole ∙ ap (λ l. over l kept) (sym front ∙ all))
-            (sym count-is ∙ w .kept .counted ∙ ap length (sym front ∙ all)) (omega (arith, w .room, count-is)) (g .alive)
-
-        by-others : TakenAs (m .kept) (m .answer)
-        by-others = subst⁻¹ (λ (r : MergeResult). TakenAs (r .kept) (r .answer)) merged-is (by-answer (mergeOf j .answer) refl)
-
-      by-plan : (e : Ending) → q .ending ≡ e → TakenAs (m .kept) (m .answer)
-      by-plan (rows vs) e = by-rows vs e
-      by-plan (top n vs keys) e = by-others (subst⁻¹ merging.Merged e tt) (ap isRows e)
-      by-plan (group vs n) e = by-others (subst⁻¹ merging.Merged e tt) (ap isRows e)
-
-    abbrev Then : List ℕ → List ℕ → Went → Type 0
-    Then now left w = Becomes keep t plan first before quantum most (length output) count now left w
-
-    stopped : (y : ℕ) (left : List ℕ) → (left ≡ kept) × Cause keep t plan quantum (length output) before n y → Then (turnOf i .state) left (Stopped y)
-    stopped y left p = stops count state saved kept used u quantum most (length output) fewer (g .made) left y (p .1) (p .0)
-
-    -- the list of a turn is taken: the query goes on, or is over
-    module _ (e : TurnEnding) (f : turnOf i .answer .ending ≡ e) (s : isServed e ≡ true) (words : ℕ) (p : TakenAs (m .kept) (written.Words words)) where
-      made-then : Turns t plan quantum (length output) (count + 1) (stepsIn (p .0 .held .taken))
-      made-then = subst⁻¹ (Turns t plan quantum (length output) (count + 1)) (p .2) (made-more (ap isServed f ∙ s))
-
-      goes : isDone e ≡ false → Then (turnOf i .state) (m .kept) (On (turnOf i .answer .saved) words)
-      goes d =
-          record {
-            under = p .0;
-            alive = not-over (count + 1) _ _ _ words (p .0) (p .1 ∙ ap isDone f ∙ d);
-            made = made-then;
-          }
-
-      over-then : isDone e ≡ true → Then (turnOf i .state) (m .kept) (Over words)
-      over-then d =
-          record {
-            count = count + 1;
-            allowed = omega arith;
-            steps = stepsIn (p .0 .held .taken);
-            made = made-then;
-            ends = ends (count + 1) _ _ _ words (p .0) (p .1 ∙ ap isDone f ∙ d);
-            list = holds (count + 1) _ _ _ words (p .0);
-          }
-
-    by-taking : (e : TurnEnding) → turnOf i .answer .ending ≡ e → isServed e ≡ true → (w : Written) → TakenAs (m .kept) w
-        → Then (turnOf i .state) (m .kept) (wentAs e (turnOf i .answer .saved) w)
-    by-taking e f s (written.Refused y) p = stopped y (m .kept) p
-    by-taking ending.Done f s (written.Words words) p = over-then ending.Done f s words p refl
-    by-taking ending.Spent f s (written.Words words) p = goes ending.Spent f s words p refl
-    by-taking ending.Full f s (written.Words words) p = goes ending.Full f s words p refl
-    by-taking (ending.Refused y) f s (written.Words words) p = absurd-true s refl
-
-    module _ (e : TurnEnding) (f : turnOf i .answer .ending ≡ e) where
-      served-becomes : isServed e ≡ true → Then (turnOf i .state) (m .kept) (wentAs e (turnOf i .answer .saved) (m .answer))
-      served-becomes s = by-taking e f s (m .answer) (by-plan (ap isServed f ∙ s) (q .ending) refl)
-
-      -- nothing is taken of a turn that is refused
-      not-taken : isServed e ≡ false → m ≡ leftAsIs kept used
-      not-taken s = ap (λ b. cond b (listTaken keep plan kept used (x .list)) (leftAsIs kept used)) (ap isServed f ∙ s)
-
-    turn-cause : (y : ℕ) → turnOf i .answer .ending ≡ ending.Refused y → Cause keep t plan quantum (length output) before n y
-    turn-cause y f =
-        turn-stopped i a (advancing.given-passed keep t plan a first k before count state saved kept used u quantum output (g .alive)) (u .state-room)
-        refl keep before n y f
-
-    by-ending : (e : TurnEnding) → turnOf i .answer .ending ≡ e → Then (turnOf i .state) (m .kept) (wentAs e (turnOf i .answer .saved) (m .answer))
-    by-ending ending.Done f = served-becomes ending.Done f refl
-    by-ending ending.Spent f = served-becomes ending.Spent f refl
-    by-ending ending.Full f = served-becomes ending.Full f refl
-    by-ending (ending.Refused y) f =
-        subst⁻¹ (λ (r : MergeResult). Then (turnOf i .state) (r .kept) (wentAs (ending.Refused y) (turnOf i .answer .saved) (r .answer)))
-        (not-taken (ending.Refused y) f refl) (stopped y kept (refl, turn-cause y f))
-
-    pub becomes : Then (takeTurnOf keep i kept used .state) (takeTurnOf keep i kept used .kept) (wentOf (takeTurnOf keep i kept used .answer))
-    unfolding takeTurnOf
-    becomes = by-ending (turnOf i .answer .ending) refl

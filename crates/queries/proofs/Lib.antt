@@ -6,6 +6,8 @@ pub mod UnderWay
 pub mod Advancing
 pub mod Making
 pub mod Leaving
+pub mod ListTaken
+pub mod Becoming
 pub mod Starting
 pub mod Plays
 pub mod Room

@@ -19,7 +19,8 @@ use Rattle.queries.specs.Playing.{Stands, Finishes, Stops, Leaves, Plays
 use Rattle.queries.proofs.UnderWay.{startAt}
 use Rattle.queries.proofs.Taking.{same-room}
 use Rattle.queries.proofs.Rounds.{rounds-none, rounds-on, rounds-over, rounds-stopped}
-use Rattle.queries.proofs.Leaving.{Going, Becomes, becomes, pauses}
+use Rattle.queries.proofs.Leaving.{Going, Becomes, pauses}
+use Rattle.queries.proofs.Becoming.{becomes}
 use Rattle.queries.proofs.Starting.{start-accepts, start-keeps, start-goes, goes-stands, opens, started, not-opened}
 
 module _ (keep : Keeping) (t : Tables) (plan state : List ℕ) (saved : ℕ) (s : Started t plan state saved) (output kept : List ℕ) (quantum : ℕ) where

@@ -1,0 +1,120 @@
+-- What one turn more makes of a query that goes on, by what it answers: it goes on again, is finished, or is stopped.
+use Prim.Native.Nat.{ℕ, _+_, _<_}
+use native.Mathlib.Omega.{arith}
+use mathlib.Core.Path.{_≡_, refl, _∙_, ap, subst, subst⁻¹}
+use mathlib.Core.Bool.{true, false, cond}
+use mathlib.Core.List.{List, []}
+use lib.ListN.{length}
+use Rattle.words.specs.declared.Written.{Written}
+use Rattle.words.specs.declared.Written.the-variants as written
+use Rattle.words.specs.Sequences.{over}
+use Rattle.words.proofs.Booleans.{absurd-true}
+use Rattle.tables.specs.Tables.{Tables}
+use Rattle.plans.specs.Plans.{Plan, planOf}
+use Rattle.turns.specs.declared.TurnEnding.{TurnEnding}
+use Rattle.turns.specs.declared.TurnEnding.the-variants as ending
+use Rattle.turns.specs.Turns.{TurnInput, turnOf}
+use Rattle.merges.specs.Merging.{MergeResult}
+use Rattle.cuts.specs.Histories.{Held, Served, stepsIn, isDone, servedOf}
+use Rattle.cuts.proofs.Accepting.{Accepted}
+use Rattle.cuts.proofs.Turning.{Kept}
+use Rattle.queries.specs.declared.Keeping.{Keeping}
+use Rattle.queries.specs.declared.Went.{Went}
+use Rattle.queries.specs.declared.Went.the-variants.{On, Over, Stopped}
+use Rattle.queries.specs.Stepping.{isServed, leftAsIs, listTaken, takenBy, takeTurnOf, wentAs, wentOf}
+use Rattle.queries.specs.Playing.{Turns, Cause}
+use Rattle.queries.proofs.UnderWay.{UnderWay}
+use Rattle.queries.proofs.Refusing.{turn-stopped}
+use Rattle.queries.proofs.Advancing as advancing
+use Rattle.queries.proofs.Leaving.{Going, Becomes}
+use Rattle.queries.proofs.Leaving as leaving
+use Rattle.queries.proofs.ListTaken as taking
+
+module _ (keep : Keeping) (t : Tables) (plan : List ℕ) (a : Accepted t plan) (first : Held) (k : Kept t (planOf plan) first) (before : List ℕ) where
+  abbrev q : Plan
+  q = planOf plan
+
+  module _ (quantum most count : ℕ) (fewer : count < most) (output state : List ℕ) (saved : ℕ) (kept : List ℕ) (used : ℕ)
+      (g : Going keep t plan first before quantum (length output) count state saved kept used) where
+    abbrev u : UnderWay keep t plan first before count state saved kept used
+    u = g .under
+
+    abbrev i : TurnInput
+    i = record { tables = t; plan = plan; state = state; given = saved; quantum = quantum; threshold = []; output = output }
+
+    -- the steps of the lists taken so far
+    abbrev n : ℕ
+    n = stepsIn (u .held .taken)
+
+    abbrev m : MergeResult
+    m = takenBy keep i (turnOf i) kept used
+
+    abbrev x : Served
+    x = servedOf quantum (turnOf i)
+
+    abbrev Taken : List ℕ → Written → Type 0
+    Taken = taking.TakenAs keep t plan a first k before quantum count output state saved kept used g
+
+    abbrev Then : List ℕ → List ℕ → Went → Type 0
+    Then now left w = Becomes keep t plan first before quantum most (length output) count now left w
+
+    stopped : (y : ℕ) (left : List ℕ) → (left ≡ kept) × Cause keep t plan quantum (length output) before n y → Then (turnOf i .state) left (Stopped y)
+    stopped y left p = leaving.stops keep t plan a first k before count state saved kept used u quantum most (length output) fewer (g .made) left y (p .1) (p .0)
+
+    -- the list of a turn is taken: the query goes on, or is over
+    module _ (e : TurnEnding) (f : turnOf i .answer .ending ≡ e) (s : isServed e ≡ true) (words : ℕ) (p : Taken (m .kept) (written.Words words)) where
+      made-then : Turns t plan quantum (length output) (count + 1) (stepsIn (p .0 .held .taken))
+      made-then = subst⁻¹ (Turns t plan quantum (length output) (count + 1)) (p .2) (taking.made-more keep t plan a first k before quantum count output state saved kept used g (ap isServed f ∙ s))
+
+      goes : isDone e ≡ false → Then (turnOf i .state) (m .kept) (On (turnOf i .answer .saved) words)
+      goes d =
+          record {
+            under = p .0;
+            alive = leaving.not-over keep t plan a first k before (count + 1) _ _ _ words (p .0) (p .1 ∙ ap isDone f ∙ d);
+            made = made-then;
+          }
+
+      over-then : isDone e ≡ true → Then (turnOf i .state) (m .kept) (Over words)
+      over-then d =
+          record {
+            count = count + 1;
+            allowed = omega arith;
+            steps = stepsIn (p .0 .held .taken);
+            made = made-then;
+            ends = leaving.ends keep t plan a first k before (count + 1) _ _ _ words (p .0) (p .1 ∙ ap isDone f ∙ d);
+            list = leaving.holds keep t plan a first k before (count + 1) _ _ _ words (p .0);
+          }
+
+    by-taking : (e : TurnEnding) → turnOf i .answer .ending ≡ e → isServed e ≡ true → (w : Written) → Taken (m .kept) w
+        → Then (turnOf i .state) (m .kept) (wentAs e (turnOf i .answer .saved) w)
+    by-taking e f s (written.Refused y) p = stopped y (m .kept) p
+    by-taking ending.Done f s (written.Words words) p = over-then ending.Done f s words p refl
+    by-taking ending.Spent f s (written.Words words) p = goes ending.Spent f s words p refl
+    by-taking ending.Full f s (written.Words words) p = goes ending.Full f s words p refl
+    by-taking (ending.Refused y) f s (written.Words words) p = absurd-true s refl
+
+    module _ (e : TurnEnding) (f : turnOf i .answer .ending ≡ e) where
+      served-becomes : isServed e ≡ true → Then (turnOf i .state) (m .kept) (wentAs e (turnOf i .answer .saved) (m .answer))
+      served-becomes s = by-taking e f s (m .answer)
+          (taking.list-taken keep t plan a first k before quantum count output state saved kept used g (ap isServed f ∙ s))
+
+      -- nothing is taken of a turn that is refused
+      not-taken : isServed e ≡ false → m ≡ leftAsIs kept used
+      not-taken s = ap (λ b. cond b (listTaken keep plan kept used (x .list)) (leftAsIs kept used)) (ap isServed f ∙ s)
+
+    turn-cause : (y : ℕ) → turnOf i .answer .ending ≡ ending.Refused y → Cause keep t plan quantum (length output) before n y
+    turn-cause y f =
+        turn-stopped i a (advancing.given-passed keep t plan a first k before count state saved kept used u quantum output (g .alive)) (u .state-room)
+        refl keep before n y f
+
+    by-ending : (e : TurnEnding) → turnOf i .answer .ending ≡ e → Then (turnOf i .state) (m .kept) (wentAs e (turnOf i .answer .saved) (m .answer))
+    by-ending ending.Done f = served-becomes ending.Done f refl
+    by-ending ending.Spent f = served-becomes ending.Spent f refl
+    by-ending ending.Full f = served-becomes ending.Full f refl
+    by-ending (ending.Refused y) f =
+        subst⁻¹ (λ (r : MergeResult). Then (turnOf i .state) (r .kept) (wentAs (ending.Refused y) (turnOf i .answer .saved) (r .answer)))
+        (not-taken (ending.Refused y) f refl) (stopped y kept (refl, turn-cause y f))
+
+    pub becomes : Then (takeTurnOf keep i kept used .state) (takeTurnOf keep i kept used .kept) (wentOf (takeTurnOf keep i kept used .answer))
+    unfolding takeTurnOf
+    becomes = by-ending (turnOf i .answer .ending) refl
