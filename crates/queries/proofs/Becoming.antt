@@ -64,7 +64,9 @@ module _ (keep : Keeping) (t : Tables) (plan : List ℕ) (a : Accepted t plan) (
     -- the list of a turn is taken: the query goes on, or is over
     module _ (e : TurnEnding) (f : turnOf i .answer .ending ≡ e) (s : isServed e ≡ true) (words : ℕ) (p : Taken (m .kept) (written.Words words)) where
       made-then : Turns t plan quantum (length output) (count + 1) (stepsIn (p .0 .held .taken))
-      made-then = subst⁻¹ (Turns t plan quantum (length output) (count + 1)) (p .2) (taking.made-more keep t plan a first k before quantum count output state saved kept used g (ap isServed f ∙ s))
+      made-then =
+          subst⁻¹ (Turns t plan quantum (length output) (count + 1)) (p .2)
+          (taking.made-more keep t plan a first k before quantum count output state saved kept used g (ap isServed f ∙ s))
 
       goes : isDone e ≡ false → Then (turnOf i .state) (m .kept) (On (turnOf i .answer .saved) words)
       goes d =

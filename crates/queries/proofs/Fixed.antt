@@ -64,7 +64,8 @@ module _ (keep : Keeping) (t : Tables) (plan : List ℕ) (a : Accepted t plan) (
   made-sized c n (one-more k from to ts x) l = x .sized
 
   -- a list that holds has no list up to an earlier step that is not taken
-  all-taken : keeps keep (q .ending) ≡ true → (m n : ℕ) → m ≤ n → (kept : List ℕ) (words : ℕ) → Holds keep t plan n before kept words → (x : ℕ) → NotTaken t q m (length before) x → ⊥
+  all-taken : keeps keep (q .ending) ≡ true → (m n : ℕ) → m ≤ n → (kept : List ℕ) (words : ℕ) → Holds keep t plan n before kept words
+      → (x : ℕ) → NotTaken t q m (length before) x → ⊥
   all-taken b m n l kept words h x c =
       let d : m + (n - m) ≡ n = omega arith in
       let more = rows-later t plan a m (n - m) in
@@ -80,7 +81,8 @@ module _ (keep : Keeping) (t : Tables) (plan : List ℕ) (a : Accepted t plan) (
       go f r y (no-room p k) = omega arith
 
   -- where a cause stops a play, no more turns are made and taken
-  not-stopped : (c m y : ℕ) → Made c m → For m y → (d n : ℕ) → Made d n → c < d → (kept : List ℕ) (words : ℕ) → Holds keep t plan n before kept words → ⊥
+  not-stopped : (c m y : ℕ) → Made c m → For m y → (d n : ℕ) → Made d n → c < d
+      → (kept : List ℕ) (words : ℕ) → Holds keep t plan n before kept words → ⊥
   not-stopped c m y ts (output-short l) d n us f kept words h = let z = made-sized d n us (omega arith) in omega (arith, z .output)
   not-stopped c m y ts (quantum-wrong l g) d n us f kept words h =
       let z = made-sized d n us (omega arith) in
@@ -117,7 +119,8 @@ module _ (keep : Keeping) (t : Tables) (plan : List ℕ) (a : Accepted t plan) (
 
   -- ---- two plays
   module _ (most : ℕ) where
-    same-list : (m n : ℕ) → m ≡ n → (kept kept₁ : List ℕ) (words words₁ : ℕ) → Holds keep t plan m before kept words → Holds keep t plan n before kept₁ words₁
+    same-list : (m n : ℕ) → m ≡ n → (kept kept₁ : List ℕ) (words words₁ : ℕ)
+        → Holds keep t plan m before kept words → Holds keep t plan n before kept₁ words₁
         → (words ≡ words₁) × (kept ≡ kept₁)
     same-list m n e kept kept₁ words words₁ h k = (
       h .counted ∙ ap (λ j. length (keptAfter keep t plan j)) e ∙ sym (k .counted),

@@ -11,7 +11,10 @@ take-turn-requires : tie.Need-take-turn-requires
 take-turn-requires c κs = search needs
 
 add-number : tie.Need-add-number
-add-number c = let s = c .before .before .before .before .before .before .before .before .before .before .before .before .before .before .before .before .before .before .pre .1 .1 .0 in search needs
+add-number c =
+    let t = c .before .before .before .before .before .before .before in
+    let fewer = t .before .before .before .before .before .before .before .before .before .before .before .pre .1 .1 .0 in
+    search needs
 
 slice-reshare-prefix-print-shown : tie.Need-slice-reshare-prefix-print-shown
 slice-reshare-prefix-print-shown c = list-room _ _ _ _ _ _ _ (c .before .before .before .before .before .before .before .take-turn .ensures)

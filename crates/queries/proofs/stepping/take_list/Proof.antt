@@ -18,7 +18,8 @@ same-length c = search needs
 returns : tie.Need-returns
 returns c =
     let s = c .before .before .before .before .before .before .before .before .before in
-    let h : isRows (planOf (s .args .plan .now) .ending) ≡ _ = sym (c .before .before .before .before .before .is-rows .ensures) ∙ c .before .before .before .before .if1 .taken in
+    let k = c .before .before .before .before in
+    let h : isRows (planOf (s .args .plan .now) .ending) ≡ _ = sym (k .before .is-rows .ensures) ∙ k .if1 .taken in
     rw h (c .before .before .take-rows .ensures)
 
 merge-requires : tie.Need-merge-requires
@@ -30,7 +31,8 @@ same-length-2 c = search needs
 returns-2 : tie.Need-returns-2
 returns-2 c =
     let s = c .before .before .before .before .before .before .before .before .before in
-    let h : isRows (planOf (s .args .plan .now) .ending) ≡ _ = sym (c .before .before .before .before .before .is-rows .ensures) ∙ c .before .before .before .before .if1 .left in
+    let k = c .before .before .before .before in
+    let h : isRows (planOf (s .args .plan .now) .ending) ≡ _ = sym (k .before .is-rows .ensures) ∙ k .if1 .left in
     rw h (c .before .before .merge .ensures)
 
 pub take-list-spec : {M : Type 1} → statement M
