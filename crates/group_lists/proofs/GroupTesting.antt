@@ -17,9 +17,9 @@ use Rattle.lists.specs.Groups.{Group, totalsWidth, keysBefore, groupIn}
 use Rattle.lists.specs.Gathering.{recordsIn, groupRight, listRight}
 use Rattle.group_lists.specs.Keys.{keysFirst}
 use Rattle.group_lists.specs.GroupTests.{totalsRight, followsAt}
-use Rattle.group_lists.specs.GroupTotals.{totalsIn}
+use Rattle.group_totals.specs.GroupTotals.{totalsIn}
 use Rattle.lists.proofs.Records.{records-nil}
-use Rattle.group_lists.proofs.TotalsWords.{group-at}
+use Rattle.group_totals.proofs.TotalsWords.{group-at}
 use Rattle.group_lists.proofs.RecordSteps.{whole-one, whole-rest, records-step}
 
 -- the records of a list with g keys each

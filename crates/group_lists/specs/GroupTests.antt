@@ -4,10 +4,10 @@ use mathlib.Core.Bool.{Bool, true, cond, _&&_}
 use mathlib.Core.List.{List, []}
 use lib.Dec.{eqb, leb}
 use lib.ListN.{take, drop}
-use Rattle.group_lists.specs.declared.group_totals.Totals.{Totals}
+use Rattle.group_totals.specs.declared.Totals.{Totals}
 use Rattle.lists.specs.Groups.{totalsWidth}
 use Rattle.lists.specs.Gathering.{extremesRight}
-use Rattle.group_lists.specs.GroupTotals.{groupOf}
+use Rattle.group_totals.specs.GroupTotals.{groupOf}
 use Rattle.group_lists.specs.Keys.{keysFirst}
 
 -- the totals of a record

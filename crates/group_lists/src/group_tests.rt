@@ -1,8 +1,8 @@
 // Test 12 of a list of groups.
-use crate::group_totals::TOTALS;
-use crate::group_totals::Totals;
-use crate::group_totals::read_totals;
 use crate::groups::by_group;
+use group_totals::TOTALS;
+use group_totals::Totals;
+use group_totals::read_totals;
 use lists::Side;
 use lists::is_values;
 use words::Term;
@@ -13,7 +13,7 @@ ghost use lib.ListN.{length, take, drop};
 ghost use Rattle.plans.specs.Endings.{group, mostGroupVariables};
 ghost use Rattle.lists.specs.Groups.{totalsWidth, groupIn};
 ghost use Rattle.lists.specs.Gathering.{extremesRight, groupRight, listRight};
-ghost use Rattle.group_lists.specs.GroupTotals.{groupOf};
+ghost use Rattle.group_totals.specs.GroupTotals.{groupOf};
 ghost use Rattle.group_lists.specs.GroupTests.{totalsRight, followsAt};
 
 // Whether sum, least and greatest can be those of so many numbers.

@@ -14,9 +14,9 @@ use Rattle.words.proofs.Testing.{orElse, first-append}
 use Rattle.words.proofs.Booleans.{and-left, and-right}
 use Rattle.plans.specs.Endings.{Ending, rows, top, group}
 use Rattle.plans.specs.Plans.{planTests}
-use Rattle.group_lists.specs.declared.Merged.{Merged}
+use Rattle.group_merges.specs.declared.Merged.{Merged}
 use Rattle.lists.specs.Gathering.{listRight, totalsFit, merged}
-use Rattle.group_lists.specs.MergingGroups as groups
+use Rattle.group_merges.specs.MergingGroups as groups
 use Rattle.lists.specs.Putting.{Listed}
 use Rattle.merges.specs.Merging.{MergeInput, MergeResult, givenKept, givenEnding, listTests, mergeTests, mergedWith, mergedAs, mergeOf}
 use Rattle.merges.specs.Answering.{Accepted, bothRight, writtenOf}

@@ -10,8 +10,8 @@ use Rattle.words.specs.declared.Written.the-variants.{Words, Refused}
 use Rattle.words.specs.Tests.{firstFailing}
 use Rattle.plans.specs.Endings.{Ending, rows, top, group, mostGroupVariables}
 use Rattle.plans.specs.Plans.{planOf, planTests}
-use Rattle.group_lists.specs.declared.Merged.{Merged}
-use Rattle.group_lists.specs.declared.Merged.the-variants as groups
+use Rattle.group_merges.specs.declared.Merged.{Merged}
+use Rattle.group_merges.specs.declared.Merged.the-variants as groups
 use Rattle.lists.specs.Gathering.{listRight}
 use Rattle.best_lists.specs.BestLists.{TopParts}
 use Rattle.merges.specs.Merging.{MergeResult, mergeOf}

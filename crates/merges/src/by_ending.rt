@@ -2,7 +2,7 @@
 use crate::LISTS;
 use crate::ROOM;
 use crate::TOTALS;
-use group_lists::Merged;
+use group_merges::Merged;
 use plans::Last;
 use words::Written;
 ghost use mathlib.Core.Path.{_≡_};
@@ -76,7 +76,7 @@ fn merge_groups(g: usize, kept: &mut [u32], given: usize, list: &[u32]) -> Writt
     if !are_groups(g, &kept[..given], list) {
         return Written::Refused(LISTS);
     }
-    written(group_lists::merge_groups(g, kept, given, list))
+    written(group_merges::merge_groups(g, kept, given, list))
 }
 
 // Merges by an ending, the words from it on: no list of rows is merged.

@@ -11,7 +11,7 @@ use Rattle.words.specs.Sequences.{over}
 use Rattle.words.proofs.Buffers.{over-next, take-over}
 use Rattle.lists.specs.Gathering.{recordsIn}
 use Rattle.lists.proofs.Records.{length-records}
-use Rattle.group_lists.proofs.RecordAt.{part-at}
+use Rattle.group_totals.proofs.RecordAt.{part-at}
 use Rattle.printing.specs.declared.Layout.the-variants.{Parts, Refused}
 use Rattle.printing.specs.Files.{wordBytes, littleEndian, fileWords, mostFileBytes, posAt, ospAt, planAt, rowsAt, countsRight, partsIn, layoutOf, wordsRead}
 use Rattle.printing.proofs.Records.{take-cons}

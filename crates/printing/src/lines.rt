@@ -41,7 +41,7 @@ fn put_total(line: &mut [u8], at: usize, group: &[u32], total: usize) -> usize
     requires { ⌜ (total + 2 ≤ length (now group)) × (at + length (numberField (pairAt (now group) total)) ≤ length (now line)) ⌝ }
     ensures { λ r. ⌜ Placed (numberField (pairAt (now (group .entry)) total)) at (now (line .entry)) (now (line .exit)) r ⌝ }
 {
-    put_number(line, at, group_lists::read64(group, total))
+    put_number(line, at, group_totals::read64(group, total))
 }
 
 // The rows, the numbers and the sum of a record of so many keys.
@@ -84,7 +84,7 @@ pub fn refused_line(line: &mut [u8], number: u32) -> usize
     ensures room { λ r. ⌜ r ≤ turnLineRoom ⌝ }
 {
     let next = put_bytes(line, 0, b"refused");
-    let end = put_number(line, next, group_lists::long(number));
+    let end = put_number(line, next, group_totals::long(number));
     put_byte(line, end, b'\n')
 }
 
@@ -104,7 +104,7 @@ fn served_line(line: &mut [u8], number: u64, steps: u32, ending: &[u8]) -> usize
     ensures room { λ r. ⌜ r ≤ turnLineRoom ⌝ }
 {
     let after_number = put_named(line, 0, b"turn", number);
-    let after_steps = put_named(line, after_number, b" steps", group_lists::long(steps));
+    let after_steps = put_named(line, after_number, b" steps", group_totals::long(steps));
     put_bytes(line, after_steps, ending)
 }
 

@@ -59,7 +59,7 @@ fn put_text(line: &mut [u8], at: usize, word: u32) -> usize
         return put_byte(line, at, b'-');
     }
     let next = put_byte(line, at, letter_of(term.kind()));
-    put_decimal(line, next, group_lists::long(term.value()))
+    put_decimal(line, next, group_totals::long(term.value()))
 }
 
 // A term, after a blank.
@@ -95,7 +95,7 @@ pub fn put_numbers(line: &mut [u8], at: usize, words: &[u32]) -> usize
     let mut i: usize = 0;
     while i < words.len() {
         let word = words[i];
-        next = put_number(line, next, group_lists::long(word));
+        next = put_number(line, next, group_totals::long(word));
         i += 1;
     }
     next

@@ -54,7 +54,7 @@ fn least_output(ending: &[u32]) -> usize
     match plans::ending_kind(ending) {
         Last::Rows => width,
         Last::Top => plans::best_count(ending) * width,
-        Last::Group => width + group_lists::TOTALS,
+        Last::Group => width + group_totals::TOTALS,
         Last::Neither => 0,
     }
 }

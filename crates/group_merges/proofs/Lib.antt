@@ -1,0 +1,10 @@
+pub mod AddingLast
+pub mod BackWalks
+pub mod WalkSteps
+pub mod Unions
+pub mod WovenRecords
+pub mod WovenGroups
+pub mod LastRecords
+pub mod Weaves
+pub mod Laying
+pub mod MergedGroups

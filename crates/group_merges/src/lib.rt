@@ -1,0 +1,18 @@
+// Two lists of groups merged over the kept list.
+mod weave;
+
+pub use weave::merge_groups;
+
+// Two lists of groups together: the number of their records, or that a total would pass 2^64 - 1.
+pub enum Union {
+    Records(usize),
+    Overflows,
+}
+
+// What a merge of groups answers: the words of the merged list, that a total would pass 2^64 - 1, or that the buffer of the kept list has
+// no room.
+pub enum Merged {
+    Words(usize),
+    Overflow,
+    NoRoom,
+}

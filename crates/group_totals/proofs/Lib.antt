@@ -1,0 +1,3 @@
+pub mod TotalsWords
+pub mod FlatGroups
+pub mod RecordAt
