@@ -1,15 +1,15 @@
 // Comparisons of two terms.
-use crate::Truth;
-use crate::Value;
-use crate::truths::negation;
-use crate::truths::of_test;
+use conditions::Truth;
+use conditions::Value;
+use conditions::negation;
+use conditions::of_test;
 use words::PlanWord;
 use words::Term;
 use words::value_of;
 ghost use mathlib.Core.Path.{_≡_};
 ghost use lib.Dec.{ltb, leb};
 ghost use Rattle.conditions.specs.Truth.{kindsAre, equality, inequality, comparison};
 ghost use Rattle.conditions.specs.Values.{haveOrder, areMixed, comparisonAt};
 
 // Whether two terms are of two kinds, in that order.
 fn kinds_are(j: u32, k: u32, a: u32, b: u32) -> bool

@@ -2,9 +2,9 @@
 use borrow.Author.Needs.{needs}
 use mathlib.Core.Path.{sym, _∙_}
 use Rattle.plans.specs.Conditions.{readCondition, mostDepth}
 use Rattle.conditions.proofs.Evaluating.{keeps-unread, keeps-is}
-use Rattle.conditions.proofs.keeps.Statement.{statement}
-use Rattle.conditions.proofs.keeps.Tie as tie
+use Rattle.evaluation.proofs.keeps.Statement.{statement}
+use Rattle.evaluation.proofs.keeps.Tie as tie
 
 evaluate-requires : tie.Need-evaluate-requires
 evaluate-requires c κs = search needs

@@ -1,9 +1,9 @@
 -- `compared` meets its contract: a comparison is three words, and its value is that of its value-ofs' values.
 use borrow.Author.Needs.{needs}
 use mathlib.Core.Path.{sym, _∙_}
 use Rattle.conditions.proofs.Evaluating.{short-comparison, whole-comparison}
-use Rattle.conditions.proofs.comparisons.compared.Statement.{statement}
-use Rattle.conditions.proofs.comparisons.compared.Tie as tie
+use Rattle.comparisons.proofs.compared.Statement.{statement}
+use Rattle.comparisons.proofs.compared.Tie as tie
 
 returns : tie.Need-returns
 returns c =

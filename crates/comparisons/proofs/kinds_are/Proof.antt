@@ -1,8 +1,8 @@
 -- `kinds_are` meets its contract: the second kind is looked at where the first is as it should be.
 use borrow.Author.Needs.{needs}
 use borrow.Author.Tests.{eq-eqb, ne-eqb}
-use Rattle.conditions.proofs.comparisons.kinds_are.Statement.{statement}
-use Rattle.conditions.proofs.comparisons.kinds_are.Tie as tie
+use Rattle.comparisons.proofs.kinds_are.Statement.{statement}
+use Rattle.comparisons.proofs.kinds_are.Tie as tie
 
 kind-requires : tie.Need-kind-requires
 kind-requires c κs = search needs

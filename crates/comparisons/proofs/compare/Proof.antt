@@ -2,9 +2,9 @@
 use borrow.Author.Needs.{needs}
 use borrow.Author.Tests.{ne-eqb}
 use mathlib.Core.Path.{ap, _∙_}
 use Rattle.conditions.specs.Truth.{negation, comparison}
-use Rattle.conditions.proofs.comparisons.compare.Statement.{statement}
-use Rattle.conditions.proofs.comparisons.compare.Tie as tie
+use Rattle.comparisons.proofs.compare.Statement.{statement}
+use Rattle.comparisons.proofs.compare.Tie as tie
 
 equality-requires : tie.Need-equality-requires
 equality-requires c κs = search needs

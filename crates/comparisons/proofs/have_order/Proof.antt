@@ -1,8 +1,8 @@
--- `are_mixed` meets its contract: a number and a text, or else a text and a number.
+-- `have_order` meets its contract: two numbers, or else two texts.
 use borrow.Author.Needs.{needs}
 use Rattle.conditions.proofs.ComparisonCases.{first-part, second-part}
-use Rattle.conditions.proofs.comparisons.are_mixed.Statement.{statement}
-use Rattle.conditions.proofs.comparisons.are_mixed.Tie as tie
+use Rattle.comparisons.proofs.have_order.Statement.{statement}
+use Rattle.comparisons.proofs.have_order.Tie as tie
 
 kinds-are-requires : tie.Need-kinds-are-requires
 kinds-are-requires c κs = search needs
@@ -16,5 +16,5 @@ returns c = first-part _ (c .before .kinds-are .ensures) (c .if1 .taken)
 returns-2 : tie.Need-returns-2
 returns-2 c = second-part (c .before .before .kinds-are .ensures) (c .before .if1 .left) (c .kinds-are2 .ensures)
 
-pub are-mixed-spec : {M : Type 1} → statement M
-are-mixed-spec = tie.close (tie.spec kinds-are-requires kinds-are-requires-2 returns returns-2)
+pub have-order-spec : {M : Type 1} → statement M
+have-order-spec = tie.close (tie.spec kinds-are-requires kinds-are-requires-2 returns returns-2)

@@ -1,9 +1,9 @@
 -- `equality` meets its contract, by its three cases.
 use borrow.Author.Needs.{needs}
 use mathlib.Core.Path.{sym, _∙_}
 use Rattle.conditions.proofs.ComparisonCases.{equal-same, equal-mixed, unequal}
-use Rattle.conditions.proofs.comparisons.equality.Statement.{statement}
-use Rattle.conditions.proofs.comparisons.equality.Tie as tie
+use Rattle.comparisons.proofs.equality.Statement.{statement}
+use Rattle.comparisons.proofs.equality.Tie as tie
 
 returns : tie.Need-returns
 returns c = sym (equal-same _ _ (c .if1 .taken))

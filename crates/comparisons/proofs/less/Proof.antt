@@ -1,9 +1,9 @@
 -- `less` meets its contract: of two numbers or two texts the words are compared, and all else is an error.
 use borrow.Author.Needs.{needs}
 use mathlib.Core.Path.{sym, _∙_}
 use Rattle.conditions.proofs.ComparisonCases.{less-ordered, no-order}
-use Rattle.conditions.proofs.comparisons.less.Statement.{statement}
-use Rattle.conditions.proofs.comparisons.less.Tie as tie
+use Rattle.comparisons.proofs.less.Statement.{statement}
+use Rattle.comparisons.proofs.less.Tie as tie
 
 have-order-requires : tie.Need-have-order-requires
 have-order-requires c κs = search needs

@@ -7,16 +7,16 @@ use native.Mathlib.Omega.{arith}
 use mathlib.Core.Path.{sym, _∙_}
 use lib.ListN.{length}
 use Rattle.plans.proofs.node_of.Reads as node-of-reads
 use Rattle.conditions.proofs.Reading.{no-depth, no-words, Begins}
 use Rattle.conditions.proofs.Evaluating.{at-wrong, at-always, at-compared, at-negated, at-pair, at-second, first-fits, second-fits}
-use Rattle.conditions.proofs.comparisons.compared.Reads as compared-reads
-use Rattle.conditions.proofs.truths.join.Reads as join-reads
-use Rattle.conditions.proofs.truths.negation.Reads as negation-reads
-use Rattle.conditions.proofs.evaluate.Reads as evaluate
-use Rattle.conditions.proofs.evaluate.Kinds as evaluate-kinds
-use Rattle.conditions.proofs.+evaluate.Lts-evaluate as evaluate-lts
-use Rattle.conditions.proofs.+evaluate.{statement}
-use Rattle.conditions.proofs.+evaluate.Tie.{close}
+use Rattle.comparisons.proofs.compared.Reads as compared-reads
+use Rattle.conditions.proofs.join.Reads as join-reads
+use Rattle.conditions.proofs.negation.Reads as negation-reads
+use Rattle.evaluation.proofs.evaluate.Reads as evaluate
+use Rattle.evaluation.proofs.evaluate.Kinds as evaluate-kinds
+use Rattle.evaluation.proofs.+evaluate.Lts-evaluate as evaluate-lts
+use Rattle.evaluation.proofs.+evaluate.{statement}
+use Rattle.evaluation.proofs.+evaluate.Tie.{close}
 
 abbrev μ-evaluate : Measures 2 evaluate-kinds.ps ℕ
 μ-evaluate κs a = a .1 .0

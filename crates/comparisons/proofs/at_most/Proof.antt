@@ -1,9 +1,9 @@
 -- `at_most` meets its contract: of two numbers or two texts the words are compared, and all else is an error.
 use borrow.Author.Needs.{needs}
 use mathlib.Core.Path.{sym, _∙_}
 use Rattle.conditions.proofs.ComparisonCases.{at-most-ordered, no-order}
-use Rattle.conditions.proofs.comparisons.at_most.Statement.{statement}
-use Rattle.conditions.proofs.comparisons.at_most.Tie as tie
+use Rattle.comparisons.proofs.at_most.Statement.{statement}
+use Rattle.comparisons.proofs.at_most.Tie as tie
 
 have-order-requires : tie.Need-have-order-requires
 have-order-requires c κs = search needs
