@@ -3,9 +3,9 @@ use borrow.Author.Needs.{needs}
 use mathlib.Core.Path.{sym, _∙_}
 use Rattle.plans.specs.Endings.{endingAt}
 use Rattle.plans.proofs.EndingRead.{some-kind}
-use Rattle.runs.proofs.Receiving.{rows-room, rows-taken, top-ready, top-taken, group-ready, group-taken}
-use Rattle.runs.proofs.delivering.deliver.Statement.{statement}
-use Rattle.runs.proofs.delivering.deliver.Tie as tie
+use Rattle.deliveries.proofs.Receiving.{rows-room, rows-taken, top-ready, top-taken, group-ready, group-taken}
+use Rattle.deliveries.proofs.deliver.Statement.{statement}
+use Rattle.deliveries.proofs.deliver.Tie as tie
 
 variables-requires : tie.Need-variables-requires
 variables-requires c κs = search needs

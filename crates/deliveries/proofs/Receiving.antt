@@ -17,7 +17,7 @@ use Rattle.best_lists.specs.BestLists.{Deliverable}
 use Rattle.group_lists.specs.TakingRows.{TakesRow}
 use Rattle.best_lists.proofs.DeliveredBest.{never-full}
 use Rattle.group_lists.proofs.DeliveredGroups.{with-any}
-use Rattle.runs.specs.Running.{Receives}
+use Rattle.deliveries.specs.Receiving.{Receives}
 
 -- a threshold plays no part in rows
 rows-any : (vs threshold list : List ℕ) (b : Bindings) → withRow (rows vs) threshold list b ≡ withRow (rows vs) [] list b
