@@ -10,10 +10,10 @@ use Rattle.words.specs.Words.{termKind, termValue, isVariable}
 use Rattle.lists.specs.Groups.{groupIn, pairAt, totalsWidth}
 use Rattle.turns.specs.declared.TurnEnding.{TurnEnding}
 use Rattle.turns.specs.declared.TurnEnding.the-variants.{Done, Spent, Full, Refused}
-use Rattle.printing.specs.Texts.{Text, newline, dash, decimal, kindLetter, termText, numberField, termField, numberFields, termFields, turnWord, stepsWord, doneWord, spentWord, fullWord}
+use Rattle.texts.specs.Texts.{Text, newline, dash, decimal, kindLetter, termText, numberField, termField, numberFields, termFields, turnWord, stepsWord, doneWord, spentWord, fullWord}
 use Rattle.printing.specs.Lines.{rowLine, groupFields, groupLine, listLine, refusedLine, servedLine, turnLine, rowLineRoom, groupLineRoom, turnLineRoom}
-use Rattle.printing.proofs.Decimals.{length-long, length-word}
-use Rattle.printing.proofs.Fields.{fields-most, three-length}
+use Rattle.texts.proofs.Decimals.{length-long, length-word}
+use Rattle.texts.proofs.Fields.{fields-most, three-length}
 use Rattle.printing.proofs.Records.{fields-length}
 
 -- ---- fields

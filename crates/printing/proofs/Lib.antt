@@ -1,7 +1,3 @@
-pub mod Decimals
-pub mod Placements
-pub mod Fields
-pub mod Terms
 pub mod LineTexts
 pub mod Records
 pub mod Lengths

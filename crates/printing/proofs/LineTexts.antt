@@ -4,7 +4,7 @@ use mathlib.Core.Path.{_≡_, subst, refl}
 use mathlib.Core.List.{List, [], _∷_, _++_}
 use Rattle.lists.specs.Groups.{Group}
 use Rattle.lists.specs.Putting.{Listed}
-use Rattle.printing.specs.Texts.{Text, newline, numberField, numberFields, termFields, rowWord, groupWord, listWord, refusedWord}
+use Rattle.texts.specs.Texts.{Text, newline, numberField, numberFields, termFields, rowWord, groupWord, listWord, refusedWord}
 use Rattle.printing.specs.Lines.{rowLine, groupFields, groupLine, listLine, refusedLine, servedLine}
 
 pub row-text : (ws : List ℕ) → rowLine ws ≡ rowWord ++ (termFields ws ++ (newline ∷ []))

@@ -6,7 +6,7 @@ use mathlib.Core.List.{List, [], _∷_, _++_}
 use lib.ListN.{length, getD, take, drop, length-append}
 use lib.Seq.{drop-cons}
 use Rattle.lists.specs.Groups.{groupIn, totalsWidth}
-use Rattle.printing.specs.Texts.{termFields, numberFields}
+use Rattle.texts.specs.Texts.{termFields, numberFields}
 use Rattle.printing.specs.Lines.{totalsIn, groupFields}
 
 -- the first elements from a place on

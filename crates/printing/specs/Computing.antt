@@ -1,5 +1,5 @@
 -- One name that opens every definition of this crate, for proofs that compute.
-use Rattle.printing.specs.Texts.{digitsIn, decimal, termText, fields}
+use Rattle.texts.specs.Texts.{digitsIn, decimal, termText, fields}
 use Rattle.printing.specs.Lines.{rowLine, groupFields, groupLine, listLine, refusedLine, turnLine}
 use Rattle.printing.specs.Files.{littleEndian, fileWords, countsRight, partsIn, layoutOf, wordsRead}
 

@@ -5,7 +5,7 @@ use mathlib.Core.List.{List, [], _∷_, _++_}
 use Rattle.lists.specs.Groups.{Group, pairAt}
 use Rattle.turns.specs.declared.TurnEnding.{TurnEnding}
 use Rattle.turns.specs.declared.TurnEnding.the-variants.{Done, Spent, Full, Refused}
-use Rattle.printing.specs.Texts.{Text, newline, numberField, termFields, numberFields, rowWord, groupWord, listWord, turnWord, stepsWord, doneWord, spentWord, fullWord, refusedWord}
+use Rattle.texts.specs.Texts.{Text, newline, numberField, termFields, numberFields, rowWord, groupWord, listWord, turnWord, stepsWord, doneWord, spentWord, fullWord, refusedWord}
 
 -- a row: its terms
 unfoldable pub rowLine : List ℕ → Text

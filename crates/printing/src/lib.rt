@@ -1,8 +1,6 @@
 // The turn printer's lines, written into a line that is lent, and its file, read from bytes. The program over it only reads and writes.
-mod digits;
 mod files;
 mod lines;
-mod texts;
 
 pub use files::read_file;
 pub use lines::group_line;

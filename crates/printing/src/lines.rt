@@ -1,9 +1,9 @@
 // The lines of the turn printer, each at the front of a line that is lent.
-use crate::texts::put_byte;
-use crate::texts::put_bytes;
-use crate::texts::put_number;
-use crate::texts::put_numbers;
-use crate::texts::put_terms;
+use texts::put_byte;
+use texts::put_bytes;
+use texts::put_number;
+use texts::put_numbers;
+use texts::put_terms;
 use turns::TurnEnding;
 ghost use mathlib.Core.List.{_++_};
 ghost use Prim.Native.Nat.{_+_, _≤_};
@@ -11,9 +11,9 @@ ghost use lib.ListN.{length};
 ghost use Rattle.plans.specs.Endings.{mostRowVariables, mostGroupVariables};
 ghost use Rattle.lists.specs.Groups.{groupIn, totalsWidth, pairAt};
 ghost use Rattle.lists.specs.Putting.{Listed};
-ghost use Rattle.printing.specs.Texts.{numberField, numberFields};
+ghost use Rattle.texts.specs.Texts.{numberField, numberFields};
 ghost use Rattle.printing.specs.Lines.{rowLine, totalsIn, groupFields, groupLine, listLine, refusedLine, servedLine, turnLine, rowLineRoom, groupLineRoom, turnLineRoom};
-ghost use Rattle.printing.specs.Placing.{Placed};
+ghost use Rattle.texts.specs.Placing.{Placed};
 
 // A row's line.
 pub fn row_line(line: &mut [u8], row: &[u32]) -> usize

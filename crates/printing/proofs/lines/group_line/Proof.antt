@@ -2,8 +2,8 @@
 use borrow.Author.Needs.{needs}
 use native.Mathlib.Omega.{arith}
 use Rattle.lists.specs.Groups.{groupIn}
-use Rattle.printing.specs.Texts.{groupWord}
-use Rattle.printing.proofs.Placements.{whole-line}
+use Rattle.texts.specs.Texts.{groupWord}
+use Rattle.texts.proofs.Placements.{whole-line}
 use Rattle.printing.proofs.Lengths.{group-fields-most}
 use Rattle.printing.proofs.LineTexts.{group-text}
 use Rattle.printing.specs.Lines.{groupFields}

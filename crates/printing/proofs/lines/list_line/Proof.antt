@@ -1,8 +1,8 @@
 -- `list_line` meets its contract: the word, the numbers and the end of the line.
 use borrow.Author.Needs.{needs}
 use native.Mathlib.Omega.{arith}
-use Rattle.printing.specs.Texts.{numberFields, listWord}
-use Rattle.printing.proofs.Placements.{whole-line}
+use Rattle.texts.specs.Texts.{numberFields, listWord}
+use Rattle.texts.proofs.Placements.{whole-line}
 use Rattle.printing.proofs.LineTexts.{list-text}
 use Rattle.printing.proofs.Lengths.{list-length}
 use Rattle.printing.proofs.lines.list_line.Statement.{statement}

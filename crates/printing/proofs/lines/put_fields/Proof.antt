@@ -6,8 +6,8 @@ use mathlib.Core.List.{[], _∷_, _++_}
 use mathlib.Core.Path.{sym}
 use lib.Seq.{length-take-le}
 use lib.ListN.{getD, take, length-append}
-use Rattle.printing.specs.Texts.{numberFields, termFields}
-use Rattle.printing.proofs.Placements.{placed-then}
+use Rattle.texts.specs.Texts.{numberFields, termFields}
+use Rattle.texts.proofs.Placements.{placed-then}
 use Rattle.printing.specs.Lines.{totalsIn}
 use Rattle.printing.proofs.Records.{fields-of, fields-length, last-two}
 use Rattle.printing.proofs.lines.put_fields.Statement.{statement}

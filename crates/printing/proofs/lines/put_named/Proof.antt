@@ -1,8 +1,8 @@
 -- `put_named` meets its contract: the word, and the number behind it.
 use borrow.Author.Needs.{needs}
 use native.Mathlib.Omega.{arith}
-use Rattle.printing.specs.Texts.{numberField}
-use Rattle.printing.proofs.Placements.{placed-then}
+use Rattle.texts.specs.Texts.{numberField}
+use Rattle.texts.proofs.Placements.{placed-then}
 use Rattle.printing.proofs.lines.put_named.Statement.{statement}
 use Rattle.printing.proofs.lines.put_named.Tie as tie
 

@@ -5,9 +5,9 @@ use native.Mathlib.Omega.{arith}
 use mathlib.Core.List.{_++_}
 use lib.ListN.{length-append}
 use Rattle.lists.specs.Groups.{pairAt}
-use Rattle.printing.specs.Texts.{numberField}
-use Rattle.printing.proofs.Placements.{placed-then}
-use Rattle.printing.proofs.Fields.{fields-three, three-length}
+use Rattle.texts.specs.Texts.{numberField}
+use Rattle.texts.proofs.Placements.{placed-then}
+use Rattle.texts.proofs.Fields.{fields-three, three-length}
 use Rattle.printing.proofs.lines.put_totals.Statement.{statement}
 use Rattle.printing.proofs.lines.put_totals.Tie as tie
 

@@ -1,9 +1,9 @@
 -- `refused_line` meets its contract: the word, its number and the end of the line.
 use borrow.Author.Needs.{needs}
 use native.Mathlib.Omega.{arith}
-use Rattle.printing.specs.Texts.{numberField, refusedWord}
-use Rattle.printing.proofs.Placements.{whole-line}
-use Rattle.printing.proofs.Decimals.{length-word}
+use Rattle.texts.specs.Texts.{numberField, refusedWord}
+use Rattle.texts.proofs.Placements.{whole-line}
+use Rattle.texts.proofs.Decimals.{length-word}
 use Rattle.printing.proofs.LineTexts.{refused-text}
 use Rattle.printing.proofs.lines.refused_line.Statement.{statement}
 use Rattle.printing.proofs.lines.refused_line.Tie as tie

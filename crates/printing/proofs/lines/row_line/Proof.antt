@@ -1,8 +1,8 @@
 -- `row_line` meets its contract: the word, the terms and the end of the line.
 use borrow.Author.Needs.{needs}
 use native.Mathlib.Omega.{arith}
-use Rattle.printing.specs.Texts.{termFields, rowWord}
-use Rattle.printing.proofs.Placements.{whole-line}
+use Rattle.texts.specs.Texts.{termFields, rowWord}
+use Rattle.texts.proofs.Placements.{whole-line}
 use Rattle.printing.proofs.Lengths.{terms-most}
 use Rattle.printing.proofs.LineTexts.{row-text}
 use Rattle.printing.proofs.lines.row_line.Statement.{statement}

@@ -3,9 +3,9 @@ use borrow.Author.Needs.{needs}
 use native.Mathlib.Omega.{arith}
 use mathlib.Core.List.{_++_}
 use lib.ListN.{length-append}
-use Rattle.printing.specs.Texts.{numberField, turnWord, stepsWord}
-use Rattle.printing.proofs.Placements.{placed-then, placed-front}
-use Rattle.printing.proofs.Decimals.{length-long, length-word}
+use Rattle.texts.specs.Texts.{numberField, turnWord, stepsWord}
+use Rattle.texts.proofs.Placements.{placed-then, placed-front}
+use Rattle.texts.proofs.Decimals.{length-long, length-word}
 use Rattle.printing.proofs.LineTexts.{served-text}
 use Rattle.printing.proofs.lines.served_line.Statement.{statement}
 use Rattle.printing.proofs.lines.served_line.Tie as tie

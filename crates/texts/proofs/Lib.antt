@@ -1,0 +1,4 @@
+pub mod Decimals
+pub mod Placements
+pub mod Fields
+pub mod Terms
