@@ -1,7 +1,7 @@
 // Best-of lists: the first k rows by the keys, rows equal in all keys in their order of delivery.
-use crate::order::comes_before;
 use lists::insert;
 use lists::row_of;
+use row_orders::comes_before;
 ghost use mathlib.Core.Path.{_≡_};
 ghost use mathlib.Core.Bool.{true};
 ghost use Prim.Native.Nat.{_*_, _≤_, _<_};

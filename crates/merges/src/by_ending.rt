@@ -19,8 +19,8 @@ fn are_best(vars: &[u32], keys: &[u32], k: usize, kept: &[u32], list: &[u32]) ->
     requires { ⌜ TopParts k (now vars) (now keys) ⌝ }
     ensures { λ r. ⌜ r ≡ bothRight (top k (now (vars .entry)) (now (keys .entry))) (now (kept .entry)) (now (list .entry)) ⌝ }
 {
-    if best_lists::is_best(vars, keys, k, kept) {
-        return best_lists::is_best(vars, keys, k, list);
+    if best_tests::is_best(vars, keys, k, kept) {
+        return best_tests::is_best(vars, keys, k, list);
     }
     false
 }
@@ -40,7 +40,7 @@ fn merge_top(
     if !are_best(vars, keys, k, &kept[..given], list) {
         return Written::Refused(LISTS);
     }
-    if !best_lists::has_best_room(vars, k, &kept[..], given, list) {
+    if !best_tests::has_best_room(vars, k, &kept[..], given, list) {
         return Written::Refused(ROOM);
     }
     Written::Words(best_lists::merge_best(vars, keys, k, kept, given, list))

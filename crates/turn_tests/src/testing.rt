@@ -85,7 +85,7 @@ fn threshold_right(ending: &[u32], threshold: &[u32]) -> bool
     ensures { λ r. ⌜ r ≡ thresholdRight (endingAt (now (ending .entry))) (now (threshold .entry)) ⌝ }
 {
     match plans::ending_kind(ending) {
-        Last::Top => best_lists::best_threshold(plans::variables(ending), threshold),
+        Last::Top => best_tests::best_threshold(plans::variables(ending), threshold),
         Last::Rows => lists::no_threshold(threshold),
         Last::Group => lists::no_threshold(threshold),
         Last::Neither => false,

@@ -1,7 +1,7 @@
 -- `best_threshold` meets its contract: empty, or one row of values.
 use Rattle.best_lists.proofs.RightLists.{threshold-empty, threshold-row, threshold-wrong}
-use Rattle.best_lists.proofs.tests.best_threshold.Statement.{statement}
-use Rattle.best_lists.proofs.tests.best_threshold.Tie as tie
+use Rattle.best_tests.proofs.best_threshold.Statement.{statement}
+use Rattle.best_tests.proofs.best_threshold.Tie as tie
 
 returns : tie.Need-returns
 returns c =

@@ -1,8 +1,8 @@
 -- `is_best` meets its contract: the parts of test 12, the quickest first.
 use native.Mathlib.Omega.{arith}
 use Rattle.best_lists.proofs.RightLists.{part-row, too-many, no-value, by-order}
-use Rattle.best_lists.proofs.tests.is_best.Statement.{statement}
-use Rattle.best_lists.proofs.tests.is_best.Tie as tie
+use Rattle.best_tests.proofs.is_best.Statement.{statement}
+use Rattle.best_tests.proofs.is_best.Tie as tie
 
 rem-if1 : tie.Need-rem-if1
 rem-if1 c = omega (arith, c .before .before .before .pre .some)

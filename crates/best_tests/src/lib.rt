@@ -1,6 +1,6 @@
 // The tests of a threshold (11) and of a best-of list (12), and the room for a merged one (14).
-use crate::order::comes_before;
 use lists::is_values;
+use row_orders::comes_before;
 ghost use mathlib.Core.Path.{_≡_};
 ghost use mathlib.Core.Bool.{true, not};
 ghost use mathlib.Core.List.{List};

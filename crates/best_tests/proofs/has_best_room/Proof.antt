@@ -1,9 +1,9 @@
 -- `has_best_room` meets its contract: the merged list has the words of both, and at most those of k rows.
 use native.Mathlib.Omega.{arith}
 use native.Mathlib.Nat.{mul-le-mul}
 use Rattle.best_lists.proofs.RightLists.{room-both, room-most}
-use Rattle.best_lists.proofs.tests.has_best_room.Statement.{statement}
-use Rattle.best_lists.proofs.tests.has_best_room.Tie as tie
+use Rattle.best_tests.proofs.has_best_room.Statement.{statement}
+use Rattle.best_tests.proofs.has_best_room.Tie as tie
 
 mul-most : tie.Need-mul-most
 mul-most c = omega (arith, mul-le-mul (c .pre .2) (c .pre .1))

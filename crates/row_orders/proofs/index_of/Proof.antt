@@ -4,9 +4,9 @@ use mathlib.Core.Path.{_≡_}
 use native.Mathlib.Omega.{arith}
 use lib.ListN.{length, drop}
 use Rattle.lists.specs.Rows.{indexOf}
-use Rattle.best_lists.proofs.Comparing.{index-end, index-here, index-later}
-use Rattle.best_lists.proofs.order.index_of.Statement.{statement}
-use Rattle.best_lists.proofs.order.index_of.Tie as tie
+use Rattle.row_orders.proofs.Comparing.{index-end, index-here, index-later}
+use Rattle.row_orders.proofs.index_of.Statement.{statement}
+use Rattle.row_orders.proofs.index_of.Tie as tie
 
 abbrev Inv-loop : tie.InvT-loop
 Inv-loop word words i₀ i = (i ≤ length words) × (indexOf word words ≡ i + indexOf word (drop i words))

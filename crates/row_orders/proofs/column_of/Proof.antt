@@ -4,8 +4,8 @@ use mathlib.Core.Path.{_≡_, ap, _∙_}
 use native.Mathlib.Omega.{arith}
 use Rattle.words.specs.Words.{variable, low}
 use Rattle.lists.specs.Rows.{indexOf}
-use Rattle.best_lists.proofs.order.column_of.Statement.{statement}
-use Rattle.best_lists.proofs.order.column_of.Tie as tie
+use Rattle.row_orders.proofs.column_of.Statement.{statement}
+use Rattle.row_orders.proofs.column_of.Tie as tie
 
 low-requires : tie.Need-low-requires
 low-requires c κs = search needs

@@ -4,9 +4,9 @@ use mathlib.Core.Path.{_≡_, refl, sym, _∙_}
 use native.Mathlib.Omega.{arith}
 use lib.ListN.{length, drop}
 use Rattle.lists.specs.Rows.{rowBefore}
-use Rattle.best_lists.proofs.Comparing.{column-there, before-less, before-more, before-same, before-end}
-use Rattle.best_lists.proofs.order.comes_before.Statement.{statement}
-use Rattle.best_lists.proofs.order.comes_before.Tie as tie
+use Rattle.row_orders.proofs.Comparing.{column-there, before-less, before-more, before-same, before-end}
+use Rattle.row_orders.proofs.comes_before.Statement.{statement}
+use Rattle.row_orders.proofs.comes_before.Tie as tie
 
 abbrev Inv-loop : tie.InvT-loop
 Inv-loop vars keys a b i₀ i =

@@ -2,9 +2,9 @@
 use Prim.Native.Nat.{_-_}
 use native.Mathlib.Omega.{arith}
 use lib.ListN.{length}
 use Rattle.best_lists.proofs.BestTests.{Rising, rising-start, rising-end, second, widths, rising-more, rising-stops}
-use Rattle.best_lists.proofs.tests.rises.Statement.{statement}
-use Rattle.best_lists.proofs.tests.rises.Tie as tie
+use Rattle.best_tests.proofs.rises.Statement.{statement}
+use Rattle.best_tests.proofs.rises.Tie as tie
 
 abbrev Inv-loop : tie.InvT-loop
 Inv-loop vars keys list w at₀ at = Rising vars keys list at

@@ -3,9 +3,9 @@ use borrow.Author.Needs.{needs}
 use Prim.Native.Nat.{_-_}
 use mathlib.Core.Path.{sym, ap, _∙_}
 use Rattle.words.specs.Words.{lastRank}
-use Rattle.best_lists.proofs.Comparing.{rank-falling, rank-rising}
-use Rattle.best_lists.proofs.order.rank_by.Statement.{statement}
-use Rattle.best_lists.proofs.order.rank_by.Tie as tie
+use Rattle.row_orders.proofs.Comparing.{rank-falling, rank-rising}
+use Rattle.row_orders.proofs.rank_by.Statement.{statement}
+use Rattle.row_orders.proofs.rank_by.Tie as tie
 
 key-rank-requires : tie.Need-key-rank-requires
 key-rank-requires c κs = search needs
