@@ -1,3 +1,2 @@
 pub mod Parts
-pub mod EndingRight
 pub mod Checked

@@ -2,21 +2,10 @@
 use Prim.Native.Nat.{ℕ}
 use mathlib.Core.Bool.{Bool, cond}
 use mathlib.Core.Option.{Option, none, some}
-use Rattle.words.specs.Words.{isVariable}
 use Rattle.plans.specs.Conditions.{Read}
-use Rattle.plans.specs.Branches.{termRight}
-use Rattle.plans.specs.Endings.{isKey}
 use Rattle.plans.specs.Plans.{Plan, variablesRight}
 use Rattle.plan_tests.specs.declared.Part.{Part}
 use Rattle.plan_tests.specs.declared.Part.the-variants.{Ends, Broken}
-use Rattle.plan_tests.specs.declared.Wanted.{Wanted}
-use Rattle.plan_tests.specs.declared.Wanted.the-variants.{Variable, Key, RightTerm}
-
--- a word is what is wanted of each word of a part
-abbrev pub isWanted : Wanted → ℕ → Bool
-isWanted Variable = isVariable
-isWanted Key = isKey
-isWanted RightTerm = termRight
 
 -- a part: its words, and a test of what was read
 abbrev pub partOf : {A : Type 0} → (A → Bool) → Read A → Part

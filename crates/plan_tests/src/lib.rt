@@ -1,9 +1,8 @@
 // The test of a plan's form (5) and that of its variables (6).
-mod bindings;
 mod branches;
-mod endings;
-mod searches;
 
+use ending_forms::ending_form;
+use ending_variables::ending_right;
 use plans::both;
 ghost use mathlib.Core.Path.{_≡_};
 ghost use mathlib.Core.List.{_∷_, []};
@@ -23,13 +22,6 @@ pub const VARIABLES: u32 = 6;
 pub enum Part {
     Ends { words: usize, right: bool },
     Broken,
-}
-
-// What each word of a part must be.
-pub enum Wanted {
-    Variable,
-    Key,
-    RightTerm,
 }
 
 // The number of the first of tests 5 and 6 that fails, or 0.
@@ -53,10 +45,7 @@ fn check_body(body: &[u32], count: u32) -> u32
         Part::Broken => FORM,
         Part::Ends { words, right } => {
             let e = &body[words..];
-            number_of(
-                endings::ending_form(e),
-                both(right, bindings::ending_right(body, count, e)),
-            )
+            number_of(ending_form(e), both(right, ending_right(body, count, e)))
         }
     }
 }
