@@ -1,5 +1,4 @@
 pub mod Storing
-pub mod ShapeCases
 pub mod Restoring
 pub mod WalkedLevels
 pub mod Loads

@@ -1,16 +1,4 @@
-// Saved states in code: the words of a cursor's state, and the cursor that a state's words stand for, if they pass tests 9 and 10.
-mod loading;
+// Saved states in code: the words of a cursor's state.
 mod saving;
-mod shapes;
-mod walks;
 
-use cursors::Cursor;
-pub use loading::load;
-pub use loading::refused;
 pub use saving::save;
-
-// A state's cursor. `refused` is 0, or the number of the test that the state's words fail.
-pub struct Loaded {
-    pub refused: u32,
-    pub from: Cursor,
-}

@@ -1,7 +1,7 @@
 // The tests of opening and of a turn, in their order.
+use loaded_states::Loaded;
+use loaded_states::refused;
 use plans::Last;
-use saved_states::Loaded;
-use saved_states::refused;
 ghost use mathlib.Core.Path.{_≡_};
 ghost use mathlib.Core.Bool.{true, _&&_};
 ghost use mathlib.Core.List.{_++_};
@@ -111,7 +111,7 @@ fn load(
     if given > state.len() {
         return refused(STATE);
     }
-    let loaded = saved_states::load(rows, pos, osp, plan, &state[..given], bound);
+    let loaded = loaded_states::load(rows, pos, osp, plan, &state[..given], bound);
     if loaded.refused != ACCEPTED {
         return loaded;
     }

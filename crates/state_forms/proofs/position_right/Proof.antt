@@ -7,9 +7,9 @@ use Rattle.plans.specs.Plans.{Plan, planOf, branchAt}
 use Rattle.plans.proofs.Given.{given-read, given-is}
 use Rattle.plans.proofs.PlanRead.{plan-in}
 use Rattle.steps.specs.Saved.{depthRight}
-use Rattle.saved_states.proofs.ShapeCases.{position-of-no-kind, position-past, position-in}
-use Rattle.saved_states.proofs.shapes.position_right.Statement.{statement}
-use Rattle.saved_states.proofs.shapes.position_right.Tie as tie
+use Rattle.state_forms.proofs.ShapeCases.{position-of-no-kind, position-past, position-in}
+use Rattle.state_forms.proofs.position_right.Statement.{statement}
+use Rattle.state_forms.proofs.position_right.Tie as tie
 
 abbrev lent : tie.Start → Plan
 lent s = planOf (s .args .plan .now)

@@ -4,9 +4,9 @@ use Prim.Native.Nat.{_-_}
 use mathlib.Core.Path.{sym, _∙_}
 use native.Mathlib.Omega.{arith}
 use Rattle.tables.specs.Tables.{Tables, tablesOf}
 use Rattle.saved_states.proofs.Restoring.{before-start, at-start, past-start}
-use Rattle.saved_states.proofs.walks.up_to_end.Statement.{statement}
-use Rattle.saved_states.proofs.walks.up_to_end.Tie as tie
+use Rattle.loaded_states.proofs.walks.up_to_end.Statement.{statement}
+use Rattle.loaded_states.proofs.walks.up_to_end.Tie as tie
 
 abbrev lent : tie.Start → Tables
 lent s = tablesOf (s .args .rows .now) (s .args .pos .now) (s .args .osp .now)

@@ -5,9 +5,9 @@ use native.Mathlib.Omega.{arith}
 use borrow.Author.Tests.{not-true, not-false}
 use Rattle.words.proofs.Booleans.{absurd-true}
 use Rattle.tables.specs.Tables.{Tables, tablesOf}
 use Rattle.saved_states.proofs.WalkedLevels.{Walked, walked-none, walked-next, walked-fails}
-use Rattle.saved_states.proofs.walks.upper_right.Statement.{statement}
-use Rattle.saved_states.proofs.walks.upper_right.Tie as tie
+use Rattle.loaded_states.proofs.walks.upper_right.Statement.{statement}
+use Rattle.loaded_states.proofs.walks.upper_right.Tie as tie
 
 abbrev Inv-loop : tie.InvT-loop
 Inv-loop rows pos osp terms bound₀ upper last level₀ bound level =

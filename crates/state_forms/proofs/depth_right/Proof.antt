@@ -3,8 +3,8 @@ use borrow.Author.Needs.{needs}
 use Prim.Native.Nat.{_-_}
 use native.Mathlib.Omega.{arith}
 use borrow.Author.Tests.{le-leb}
-use Rattle.saved_states.proofs.shapes.depth_right.Statement.{statement}
-use Rattle.saved_states.proofs.shapes.depth_right.Tie as tie
+use Rattle.state_forms.proofs.depth_right.Statement.{statement}
+use Rattle.state_forms.proofs.depth_right.Tie as tie
 
 returns : tie.Need-returns
 returns c = rw (c .if1 .taken)

@@ -9,8 +9,8 @@ use Rattle.words.specs.Sequences.{all}
 use Rattle.words.specs.Words.{placeKind}
 use Rattle.words.proofs.Walking.{all-end, all-goes, all-stops}
 use Rattle.steps.specs.Saved.{isPlace}
-use Rattle.saved_states.proofs.shapes.all_places.Statement.{statement}
-use Rattle.saved_states.proofs.shapes.all_places.Tie as tie
+use Rattle.state_forms.proofs.all_places.Statement.{statement}
+use Rattle.state_forms.proofs.all_places.Tie as tie
 
 abbrev Inv-loop : tie.InvT-loop
 Inv-loop state i₀ i = (i ≤ length state) × (all isPlace state ≡ all isPlace (drop i state))

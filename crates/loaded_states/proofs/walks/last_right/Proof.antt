@@ -4,9 +4,9 @@ use mathlib.Core.Path.{sym, ap, _∙_}
 use Rattle.tables.specs.declared.Prefix.{Prefix}
 use Rattle.tables.specs.Tables.{tablesOf}
 use Rattle.levels.proofs.LevelFields.{level-prefix}
 use Rattle.saved_states.specs.Loading.{upToEnd}
-use Rattle.saved_states.proofs.walks.last_right.Statement.{statement}
-use Rattle.saved_states.proofs.walks.last_right.Tie as tie
+use Rattle.loaded_states.proofs.walks.last_right.Statement.{statement}
+use Rattle.loaded_states.proofs.walks.last_right.Tie as tie
 
 level-of-requires : tie.Need-level-of-requires
 level-of-requires c κs = search needs

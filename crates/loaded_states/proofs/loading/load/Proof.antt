@@ -14,9 +14,9 @@ use Rattle.plans.specs.Plans.{Plan, planOf, branchAt}
 use Rattle.plans.specs.Reading.{branchStart}
 use Rattle.plans.proofs.Given.{given-read, given-is}
 use Rattle.steps.specs.Saved.{shapeRight}
 use Rattle.saved_states.proofs.Loads.{refused-shape, placed, whole, begins, level-there, loads-not, loads, loads-held}
-use Rattle.saved_states.proofs.loading.load.Statement.{statement}
-use Rattle.saved_states.proofs.loading.load.Tie as tie
+use Rattle.loaded_states.proofs.loading.load.Statement.{statement}
+use Rattle.loaded_states.proofs.loading.load.Tie as tie
 
 abbrev lent : tie.Start → Tables
 lent s = tablesOf (s .args .rows .now) (s .args .pos .now) (s .args .osp .now)

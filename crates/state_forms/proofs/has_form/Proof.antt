@@ -8,9 +8,9 @@ use Rattle.words.specs.Sequences.{all}
 use Rattle.words.proofs.Walking.{rest-of}
 use Rattle.plans.specs.Plans.{Plan, planOf}
 use Rattle.steps.specs.Saved.{isPlace}
-use Rattle.saved_states.proofs.ShapeCases.{shape-none, shape-elsewhere, shape-longer, shape-places}
-use Rattle.saved_states.proofs.shapes.has_form.Statement.{statement}
-use Rattle.saved_states.proofs.shapes.has_form.Tie as tie
+use Rattle.state_forms.proofs.ShapeCases.{shape-none, shape-elsewhere, shape-longer, shape-places}
+use Rattle.state_forms.proofs.has_form.Statement.{statement}
+use Rattle.state_forms.proofs.has_form.Tie as tie
 
 abbrev lent : tie.Start → Plan
 lent s = planOf (s .args .plan .now)

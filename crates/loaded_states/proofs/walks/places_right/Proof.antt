@@ -3,9 +3,9 @@ use borrow.Author.Needs.{needs}
 use mathlib.Core.Path.{refl, sym, _∙_}
 use Rattle.words.proofs.Booleans.{absurd-true}
 use Rattle.tables.specs.Tables.{Tables, tablesOf}
 use Rattle.saved_states.proofs.WalkedLevels.{upper-fails, upper-passes}
-use Rattle.saved_states.proofs.walks.places_right.Statement.{statement}
-use Rattle.saved_states.proofs.walks.places_right.Tie as tie
+use Rattle.loaded_states.proofs.walks.places_right.Statement.{statement}
+use Rattle.loaded_states.proofs.walks.places_right.Tie as tie
 
 abbrev lent : tie.Start → Tables
 lent s = tablesOf (s .args .rows .now) (s .args .pos .now) (s .args .osp .now)
