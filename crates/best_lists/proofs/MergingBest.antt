@@ -91,7 +91,8 @@ module _ (k : ℕ) (vs keys : List ℕ) (some : 0 < length vs) (ws : List ℕ) (
       let B = rowBefore vs keys in
       let R = recordsIn (length vs) ws ++ recordsIn (length vs) list in
       ap length (merged-top k vs keys ws list)
-      ∙ length-flatten (length vs) (bestBy B k R) (wide-best (length vs) B k R (wide-append (length vs) (recordsIn (length vs) ws) (recordsIn (length vs) list) (wide-records (length vs) ws) (wide-records (length vs) list)))
+      ∙ length-flatten (length vs) (bestBy B k R) (wide-best (length vs) B k R
+      (wide-append (length vs) (recordsIn (length vs) ws) (recordsIn (length vs) list) (wide-records (length vs) ws) (wide-records (length vs) list)))
 
   words-of : length ws ≡ length ws / length vs * length vs
   words-of = omega (arith, div-add-mod' (length ws) (length vs), b .whole)

@@ -74,7 +74,8 @@ module _ (t : Tables) (plan : List ℕ) (a : Accepted t plan) (h : Held) (k : Ke
       served-merge serve =
           let p = refusals.merge-refusals i .serves .0 serve .1 .1 .0 in
           let kept : take (i .given) (i .kept) ≡ h .kept = take-append-seam (h .kept) behind in
-          let right = and-left (listRight (q .ending) (take (i .given) (i .kept))) (listRight (q .ending) (x .list)) (and-right (leb (i .given) (length (i .kept))) _ p) in
+          let right = and-left (listRight (q .ending) (take (i .given) (i .kept))) (listRight (q .ending) (x .list))
+          (and-right (leb (i .given) (length (i .kept))) _ p) in
           merge-writes i serve .kept .front
           ∙ ap (λ l. merged (q .ending) l (x .list)) kept
           ∙ merged-taken (q .ending) (h .kept) (x .list) (ap (listRight (q .ending)) (sym kept) ∙ right)

@@ -90,7 +90,8 @@ module _ {g : ℕ} {list : List ℕ} {at : ℕ} (t : Tested g list at) where
         | no k ↦
             let l : length (drop (at - w) list) ≡ w = length-drop (at - w) list ∙ omega arith in
             let d : drop w (drop (at - w) list) ≡ [] = drop-of-length-le (drop (at - w) list) {i = w} (omega arith) in
-            ap (neighbours keysBefore) (groups-step g (drop (at - w) list) (omega arith) ∙ ap (λ gs. groupIn g (take w (drop (at - w) list)) ∷ gs) (groups-none g (drop w (drop (at - w) list)) d))
+            ap (neighbours keysBefore) (groups-step g (drop (at - w) list) (omega arith) ∙ ap (λ gs. groupIn g (take w (drop (at - w) list)) ∷ gs)
+            (groups-none g (drop w (drop (at - w) list)) d))
       ]
 
   module _ (h : at < length list) where
@@ -118,7 +119,8 @@ module _ {g : ℕ} {list : List ℕ} {at : ℕ} (t : Tested g list at) where
           let l = left in
           let m = length-drop (at - w) list in
           groups-step g (drop (at - w) list) (omega arith)
-          ∙ ap (λ ws. groupIn g (take w (drop (at - w) list)) ∷ groupsAt g ws) (drop-drop w (at - w) list ∙ ap (λ n. drop n list) (let z : at - w + w ≡ at = omega arith in z))
+          ∙ ap (λ ws. groupIn g (take w (drop (at - w) list)) ∷ groupsAt g ws)
+          (drop-drop w (at - w) list ∙ ap (λ n. drop n list) (let z : at - w + w ≡ at = omega arith in z))
 
       follow : neighbours keysBefore (groupsAt g (drop (at - w) list)) ≡ (followsAt g list at && neighbours keysBefore (groupsAt g (drop at list)))
       unfolding neighbours
@@ -154,7 +156,9 @@ module _ {g : ℕ} {list : List ℕ} {at : ℕ} (t : Tested g list at) where
         let l = left in
         let m = length-drop (at + w) list in
         record {
-          whole = ap (λ n. n % w) (let z : length (drop (at + w) list) ≡ length (drop at list) - w = omega arith in z) ∙ whole-rest w (length (drop at list)) (t .whole) one;
+          whole =
+              ap (λ n. n % w) (let z : length (drop (at + w) list) ≡ length (drop at list) - w = omega arith in z) ∙ whole-rest w
+              (length (drop at list)) (t .whole) one;
           inside = tested-fits;
           first = λ k. absurd (omega arith);
           rest =

@@ -132,4 +132,6 @@ module _ {A : Type 0} (Alike : A → Type 0) (before : A → A → Bool) (join :
       go false s false r x y z =
           let k : side (suc p) (suc q) ≡ Same = agrees ∙ rw (s, r) in
           rw k (ap (λ l. l ++ (join (f p) (h q) ∷ [])) z
-          ∙ sym (last-both before join asym left (f p) (h q) (first h q) (first f p) (below-same (h q) (f p) (first h q) (ah q (omega arith)) (af p (omega arith)) s lh) (below-same (f p) (h q) (first f p) (af p (omega arith)) (ah q (omega arith)) r lf) lh r s))
+          ∙ sym (last-both before join asym left (f p) (h q) (first h q) (first f p)
+          (below-same (h q) (f p) (first h q) (ah q (omega arith)) (af p (omega arith)) s lh)
+          (below-same (f p) (h q) (first f p) (af p (omega arith)) (ah q (omega arith)) r lf) lh r s))

@@ -54,7 +54,8 @@ module _ (g : ℕ) (a b : List ℕ) (x y : ℕ) where
       → length (lastRecord g a x b y s) ≡ g + totalsWidth
   last-wide Before hy ly hx lx = record-wide g b y hy ly
   last-wide Same hy ly hx lx =
-      join-wide g (recordAt g a (x - (g + totalsWidth))) (recordAt g b (y - (g + totalsWidth))) (record-wide g a x (hx (λ e. let z : _≡_ {A = ℕ} 0 1 = cc in omega arith)) lx)
+      join-wide g (recordAt g a (x - (g + totalsWidth))) (recordAt g b (y - (g + totalsWidth)))
+      (record-wide g a x (hx (λ e. let z : _≡_ {A = ℕ} 0 1 = cc in omega arith)) lx)
   last-wide After hy ly hx lx = record-wide g a x (hx (λ e. let z : _≡_ {A = ℕ} 0 1 = cc in omega arith)) lx
 
   pub last-kept : (p : List ℕ) (s : Side) → ((s ≡ Before → ⊥) → g + totalsWidth ≤ x) → take x p ≡ take x a

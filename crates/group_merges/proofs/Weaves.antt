@@ -62,7 +62,8 @@ enough g a b (suc i) (suc j) k e = go (sides g a b (suc i) (suc j)) refl (λ n. 
         let z = q (k - 1) (m .0) in
         (omega arith, omega arith)
     go Same s p q r =
-        let t = cond-records (joinFits g (recordAt g a (i * (g + totalsWidth))) (recordAt g b (j * (g + totalsWidth)))) (moreBy 1 (unionOf g a b i j)) k (sym (rw s) ∙ e) in
+        let t = cond-records (joinFits g (recordAt g a (i * (g + totalsWidth))) (recordAt g b (j * (g + totalsWidth)))) (moreBy 1 (unionOf g a b i j))
+        k (sym (rw s) ∙ e) in
         let m = more-records (unionOf g a b i j) k (t .1) in
         let z = r (k - 1) (m .0) in
         (omega arith, omega arith)

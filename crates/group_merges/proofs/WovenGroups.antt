@@ -148,7 +148,8 @@ module _ (vs : List ℕ) (m : ℕ) (kept : List ℕ) (used : ℕ) (list : List �
   ends-count zero h = refl
   ends-count (suc i) h =
       count-last (first (groupAt g kept) i) (groupAt g kept i)
-      ∙ ap₂ (λ b c. cond b (moreBy 1 c) Overflows) (record-fits g (recordAt g kept (i * w)) (record-words g kept wk (i * w) (old-in i (omega arith)))) (ends-count i (omega arith))
+      ∙ ap₂ (λ b c. cond b (moreBy 1 c) Overflows) (record-fits g (recordAt g kept (i * w)) (record-words g kept wk (i * w) (old-in i (omega arith))))
+      (ends-count i (omega arith))
       ∙ ap Records (add-one i)
 
   pub union-count : countOf groups ≡ unionOf g kept list n k
@@ -156,8 +157,10 @@ module _ (vs : List ℕ) (m : ℕ) (kept : List ℕ) (used : ℕ) (list : List �
   union-count =
       walk-map (sides g kept list) (listWalk together (groupAt g kept) (groupAt g list)) (countWalk g kept list) countOf n k
       ends-count
-      (λ q h r. count-last r (groupAt g list q) ∙ ap (λ b. cond b (moreBy 1 (countOf r)) Overflows) (record-fits g (recordAt g list (q * w)) (record-words g list wl (q * w) (new-in q h))))
-      (λ p h r. count-last r (groupAt g kept p) ∙ ap (λ b. cond b (moreBy 1 (countOf r)) Overflows) (record-fits g (recordAt g kept (p * w)) (record-words g kept wk (p * w) (old-in p h))))
+      (λ q h r. count-last r (groupAt g list q) ∙ ap (λ b. cond b (moreBy 1 (countOf r)) Overflows)
+      (record-fits g (recordAt g list (q * w)) (record-words g list wl (q * w) (new-in q h))))
+      (λ p h r. count-last r (groupAt g kept p) ∙ ap (λ b. cond b (moreBy 1 (countOf r)) Overflows)
+      (record-fits g (recordAt g kept (p * w)) (record-words g kept wk (p * w) (old-in p h))))
       (λ p q h l r.
       count-last r (together (groupAt g kept p) (groupAt g list q))
       ∙ ap (λ b. cond b (moreBy 1 (countOf r)) Overflows) (join-fits g (recordAt g kept (p * w)) (recordAt g list (q * w))))
@@ -215,7 +218,9 @@ module _ (vs : List ℕ) (m : ℕ) (kept : List ℕ) (used : ℕ) (list : List �
         gs = addGroups (groupsIn vs (take used kept)) (groupsIn vs list)
 
         size : length (flat gs) ≡ length gs * w
-        size = length-flat (length vs) gs (have-addAll (length vs) (groupsIn vs (take used kept)) (groupsIn vs list) (have-keys-in vs (take used kept)) (have-keys-in vs list))
+        size =
+            length-flat (length vs) gs (have-addAll (length vs) (groupsIn vs (take used kept)) (groupsIn vs list) (have-keys-in vs (take used kept))
+            (have-keys-in vs list))
 
         go : (b : Bool) → all groupFits gs ≡ b → cond b (Records (length gs)) Overflows ≡ Records c
             → (all groupFits gs ≡ true) × (length (flat gs) ≡ c * w)

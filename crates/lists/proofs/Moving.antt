@@ -43,7 +43,13 @@ insert-both b r a e h l =
     let size : length (take (a + length r) b) ≡ a + length r = length-take-le (a + length r) b (omega arith) in
     let low : a ≤ length (take (a + length r) b) = rw size (omega arith) in
     let low′ : a ≤ a + length r = omega arith in
-    rw (take-append-le a (take (a + length r) b) _ low, take-take a (a + length r) b low′, drop-at (take (a + length r) b) _ (a + length r) size, take-length, append-assoc)
+    rw (
+      take-append-le a (take (a + length r) b) _ low,
+      take-take a (a + length r) b low′,
+      drop-at (take (a + length r) b) _ (a + length r) size,
+      take-length,
+      append-assoc,
+    )
 
 -- the words over the front of a buffer into which some were put in
 pub insert-over : (b r : List ℕ) (a e : ℕ) → a ≤ e → e ≤ length b

@@ -68,7 +68,10 @@ module _ (t : Tables) (terms : List ℕ) where
       walked-next h =
           record {
             right = right-level ∙ h;
-            bound = bound-passes level (placeAt places level) b h ∙ sym (ap (bindings t terms) (upper-next places level) ∙ bindings-next (placeAt places level) (upperOf places level) ∙ rw (upper-length places level, w .bound));
+            bound =
+                bound-passes level (placeAt places level) b h
+                ∙ sym (ap (bindings t terms) (upper-next places level) ∙ bindings-next (placeAt places level) (upperOf places level)
+                ∙ rw (upper-length places level, w .bound));
           }
 
       -- a level that fails: the places of any level below it fail

@@ -43,7 +43,12 @@ module _ (t : Tables) where
   unfolding lengthsRight
   sized-lengths s =
       let w : length (t .rows) % columnCount ≡ 0 = omega arith in
-      rw (eq-eqb (length (t .rows) % columnCount) 0 w, eq-eqb (length (t .pos)) (rowCount t) (s .pos-length), eq-eqb (length (t .osp)) (rowCount t) (s .osp-length), le-leb (rowCount t) mostRows (s .few))
+      rw (
+        eq-eqb (length (t .rows) % columnCount) 0 w,
+        eq-eqb (length (t .pos)) (rowCount t) (s .pos-length),
+        eq-eqb (length (t .osp)) (rowCount t) (s .osp-length),
+        le-leb (rowCount t) mostRows (s .few),
+      )
 
   -- test 2
   kinds-at : kindsRight t ≡ true → (row column : ℕ) → row < rowCount t → column < columnCount
@@ -87,7 +92,9 @@ module _ (t : Tables) where
       record {
         sized = s;
         kinds = kinds-at (p .1 .0);
-        named = named (named-at (t .pos) (s .pos-length) (and-left (namesRows t (t .pos)) _ (p .1 .1 .1 .0))) (named-at (t .osp) (s .osp-length) (and-left (namesRows t (t .osp)) _ l₁));
+        named =
+            named (named-at (t .pos) (s .pos-length) (and-left (namesRows t (t .pos)) _ (p .1 .1 .1 .0)))
+            (named-at (t .osp) (s .osp-length) (and-left (namesRows t (t .osp)) _ l₁));
         up = up (up-at Spo (p .1 .1 .0)) (up-at Pos (and-left (ascends Pos t) _ l₂)) (up-at Osp (and-right (ascends Pos t) _ l₂));
       }
     where
@@ -109,7 +116,10 @@ module _ (t : Tables) where
       (sized-lengths (r .sized), (at-kinds (r .kinds), (at-up Spo (r .up Spo), (lists, tt))))
     where
       lists : listsRight t ≡ true
-      lists = and-both (namesRows t (t .pos)) _ (at-named (t .pos) (r .sized .pos-length) (r .named Pos)) (and-both (namesRows t (t .osp)) _ (at-named (t .osp) (r .sized .osp-length) (r .named Osp)) (and-both (ascends Pos t) _ (at-up Pos (r .up Pos)) (at-up Osp (r .up Osp))))
+      lists =
+          and-both (namesRows t (t .pos)) _ (at-named (t .pos) (r .sized .pos-length) (r .named Pos))
+          (and-both (namesRows t (t .osp)) _ (at-named (t .osp) (r .sized .osp-length) (r .named Osp))
+          (and-both (ascends Pos t) _ (at-up Pos (r .up Pos)) (at-up Osp (r .up Osp))))
 
   -- what an answer of 0 gives
   pub all-pass : numberOf (firstFailing (tableTests t)) ≡ 0 → firstFailing (tableTests t) ≡ none

@@ -14,12 +14,14 @@ add-both c = omega arith
 returns : tie.Need-returns
 returns c =
     let s = c .before in
-    λ keys best. room-both (s .args .k) (s .args .vars .now) keys (s .args .kept .now) (s .args .used) (s .args .list .now) (s .pre .0) (s .pre .3) (s .pre .4) best (c .if1 .taken)
+    λ keys best. room-both (s .args .k) (s .args .vars .now) keys (s .args .kept .now) (s .args .used) (s .args .list .now) (s .pre .0) (s .pre .3)
+    (s .pre .4) best (c .if1 .taken)
 
 returns-2 : tie.Need-returns-2
 returns-2 c =
     let s = c .before in
-    λ keys best. room-most (s .args .k) (s .args .vars .now) keys (s .args .kept .now) (s .args .used) (s .args .list .now) (s .pre .0) (s .pre .3) (s .pre .4) best (omega arith)
+    λ keys best. room-most (s .args .k) (s .args .vars .now) keys (s .args .kept .now) (s .args .used) (s .args .list .now) (s .pre .0) (s .pre .3)
+    (s .pre .4) best (omega arith)
 
 pub has-best-room-spec : {M : Type 1} → statement M
 has-best-room-spec = tie.close (tie.spec mul-most add-both returns returns-2)

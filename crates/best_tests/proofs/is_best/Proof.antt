@@ -31,7 +31,8 @@ rises-requires c κs =
 returns-3 : tie.Need-returns-3
 returns-3 c =
     let s = c .before .before .before .before .before .before .before .before in
-    by-order (s .args .k) (s .args .vars .now) (s .args .keys .now) (s .args .list .now) (c .before .before .before .before .if1 .left) (c .before .before .before .if2 .left) (c .before .before .is-values .ensures) (c .before .if3 .taken) (c .rises .ensures)
+    by-order (s .args .k) (s .args .vars .now) (s .args .keys .now) (s .args .list .now) (c .before .before .before .before .if1 .left)
+    (c .before .before .before .if2 .left) (c .before .before .is-values .ensures) (c .before .if3 .taken) (c .rises .ensures)
 
 returns-4 : tie.Need-returns-4
 returns-4 c =

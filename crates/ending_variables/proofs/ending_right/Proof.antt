@@ -31,7 +31,8 @@ returns-2 c =
     let if1 = c .before .before .before .if1 in
     let variables = c .before .before .variables in
     let f = binds (branchesIn (args .count) (args .p .now)) in let q = endingAt (args .e .now) in let v = c .before .variables-right in
-    rw (← ending-form .ensures, not-false (ending-form .result) (if1 .left)) (sym (wrong-variables f (v .result) q (rw (variables .ensures) at (v .ensures)) (not-true _ (c .if2 .taken))))
+    rw (← ending-form .ensures, not-false (ending-form .result) (if1 .left))
+    (sym (wrong-variables f (v .result) q (rw (variables .ensures) at (v .ensures)) (not-true _ (c .if2 .taken))))
 
 ending-kind-requires : tie.Need-ending-kind-requires
 ending-kind-requires c κs =
@@ -82,7 +83,9 @@ returns-3 c =
     let if2 = c .before .before .before .if2 in
     let ending-kind = c .before .before .ending-kind in
     let f = binds (branchesIn (args .count) (args .p .now)) in let q = endingAt (args .e .now) in let v = variables-right in
-    rw (← ending-form .ensures, not-false (ending-form .result) (if1 .left)) (sym (right-rows f (v .result) q (rw (variables .ensures) at (v .ensures)) (not-false _ (if2 .left)) (sym (ending-kind .ensures) ∙ c .enum-told .given .1)))
+    rw (← ending-form .ensures, not-false (ending-form .result) (if1 .left))
+    (sym (right-rows f (v .result) q (rw (variables .ensures) at (v .ensures)) (not-false _ (if2 .left))
+    (sym (ending-kind .ensures) ∙ c .enum-told .given .1)))
 
 returns-4 : tie.Need-returns-4
 returns-4 c =
@@ -95,7 +98,10 @@ returns-4 c =
     let ending-kind = c .before .before .before .before .ending-kind in
     let enum-told2 = c .before .before .enum-told2 in
     let f = binds (branchesIn (args .count) (args .p .now)) in let q = endingAt (args .e .now) in let v = variables-right in
-    rw (← ending-form .ensures, not-false (ending-form .result) (if1 .left)) (rw (variables .ensures, c .before .keys .ensures) at (c .keys-among .ensures) ∙ sym (right-top f (v .result) q (rw (variables .ensures) at (v .ensures)) (not-false _ (if2 .left)) (sym (ending-kind .ensures) ∙ enum-told2 .given .1)))
+    rw (← ending-form .ensures, not-false (ending-form .result) (if1 .left))
+    (rw (variables .ensures, c .before .keys .ensures) at (c .keys-among .ensures)
+    ∙ sym (right-top f (v .result) q (rw (variables .ensures) at (v .ensures)) (not-false _ (if2 .left))
+    (sym (ending-kind .ensures) ∙ enum-told2 .given .1)))
 
 returns-5 : tie.Need-returns-5
 returns-5 c =
@@ -108,7 +114,10 @@ returns-5 c =
     let ending-kind = c .before .before .before .before .ending-kind in
     let enum-told3 = c .before .before .enum-told3 in
     let f = binds (branchesIn (args .count) (args .p .now)) in let q = endingAt (args .e .now) in let v = variables-right in
-    rw (← ending-form .ensures, not-false (ending-form .result) (if1 .left)) (c .some-binds .ensures ∙ ap f (c .before .measured .ensures) ∙ sym (right-group f (v .result) q (rw (variables .ensures) at (v .ensures)) (not-false _ (if2 .left)) (sym (ending-kind .ensures) ∙ enum-told3 .given .1)))
+    rw (← ending-form .ensures, not-false (ending-form .result) (if1 .left))
+    (c .some-binds .ensures ∙ ap f (c .before .measured .ensures)
+    ∙ sym (right-group f (v .result) q (rw (variables .ensures) at (v .ensures)) (not-false _ (if2 .left))
+    (sym (ending-kind .ensures) ∙ enum-told3 .given .1)))
 
 returns-6 : tie.Need-returns-6
 returns-6 c =

@@ -32,7 +32,8 @@ returns : tie.Need-returns Inv-loop μ-loop
 returns c =
     let loop = c .before .before .before .before .loop in
     let args = c .before .before .before .before .before .before .before .args in
-    sym (loop .inv .1 ∙ all-stops (args .keys .now) (loop .i) (keyAmong (args .list .now)) (omega arith) (sym (c .before .is-key-among .ensures) ∙ not-true _ (c .if1 .taken)))
+    sym (loop .inv .1 ∙ all-stops (args .keys .now) (loop .i) (keyAmong (args .list .now)) (omega arith)
+    (sym (c .before .is-key-among .ensures) ∙ not-true _ (c .if1 .taken)))
 
 add-i : tie.Need-add-i Inv-loop μ-loop
 add-i c = omega arith
@@ -43,8 +44,11 @@ loop-less c = omega arith
 loop-again : tie.Need-loop-again Inv-loop μ-loop
 loop-again c =
     let loop = c .before .before .before .before .loop in
-    let args = c .before .before .before .before .before .before .before .args in
-    (omega arith, loop .inv .1 ∙ all-goes (args .keys .now) (loop .i) (keyAmong (args .list .now)) (omega arith) (sym (c .before .is-key-among .ensures) ∙ not-false _ (c .if1 .left)))
+    let args = c .before .before .before .before .before .before .before .args in (
+      omega arith,
+      loop .inv .1 ∙ all-goes (args .keys .now) (loop .i) (keyAmong (args .list .now)) (omega arith)
+          (sym (c .before .is-key-among .ensures) ∙ not-false _ (c .if1 .left)),
+    )
 
 returns-2 : tie.Need-returns-2 Inv-loop μ-loop
 returns-2 c =

@@ -45,7 +45,8 @@ returns c =
     let loop = c .before .before .before .before .before .loop in
     let args = c .before .before .before .before .before .before .before .args in
     let terms = c .before .before .terms in
-    sym (loop .inv .1 ∙ binds-stops (args .count) (args .p .now) (loop .at) (loop .left) (loop .inv .0) (omega arith) _ refl (args .word) (q .result) (q .ensures ∙ ap (member (args .word)) (terms .ensures)) (c .if1 .taken))
+    sym (loop .inv .1 ∙ binds-stops (args .count) (args .p .now) (loop .at) (loop .left) (loop .inv .0) (omega arith) _ refl (args .word) (q .result)
+    (q .ensures ∙ ap (member (args .word)) (terms .ensures)) (c .if1 .taken))
 
 branch-words-requires : tie.Need-branch-words-requires Inv-loop μ-loop
 branch-words-requires c κs =
@@ -74,7 +75,8 @@ loop-again c =
     let loop = c .before .before .before .before .before .before .loop in
     let terms = c .before .before .before .terms in (
       walk-next (args .count) (args .p .now) (loop .at) (loop .left) (loop .inv .0) (omega arith) (b .result) (b .ensures),
-      loop .inv .1 ∙ binds-goes (args .count) (args .p .now) (loop .at) (loop .left) (loop .inv .0) (omega arith) (b .result) (b .ensures) (args .word) (q .result) (q .ensures ∙ ap (member (args .word)) (terms .ensures)) (c .before .if1 .left),
+      loop .inv .1 ∙ binds-goes (args .count) (args .p .now) (loop .at) (loop .left) (loop .inv .0) (omega arith) (b .result) (b .ensures)
+          (args .word) (q .result) (q .ensures ∙ ap (member (args .word)) (terms .ensures)) (c .before .if1 .left),
     )
 
 returns-2 : tie.Need-returns-2 Inv-loop μ-loop

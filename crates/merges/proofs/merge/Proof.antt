@@ -41,7 +41,8 @@ same-length c = search needs
 returns-3 : tie.Need-returns-3
 returns-3 c =
     let s = c .before .before .before .before .before .before .before .before .before .before .before in
-    let passes = check-passes (s .args .plan .now) (sym (c .before .before .before .before .before .before .before .check .ensures) ∙ c .before .before .before .before .before .before .if1 .left) in
+    let passes = check-passes (s .args .plan .now) (sym (c .before .before .before .before .before .before .before .check .ensures)
+    ∙ c .before .before .before .before .before .before .if1 .left) in
     c .before .before .merge-ending .ensures (s .args .plan .now) (record { passes = passes; ending = sym (c .before .before .before .before .ending-part .ensures .1) })
 
 pub merge-spec : {M : Type 1} → statement M

@@ -12,7 +12,8 @@ use Rattle.plan_tests.proofs.check_body.Tie as tie
 branches-room : (c : tie.After-known-told) → c .before .words .given .0 .0 ≤ length (c .before .before .before .before .before .args .body .now)
 branches-room c =
     let l = c .before .before .before .branches in
-    body-words (c .before .before .before .before .before .args .count) (c .before .before .before .before .before .args .body .now) (l .result) (l .ensures) _ _ (c .before .words .given .1)
+    body-words (c .before .before .before .before .before .args .count) (c .before .before .before .before .before .args .body .now) (l .result)
+    (l .ensures) _ _ (c .before .words .given .1)
 
 branches-requires : tie.Need-branches-requires
 branches-requires c κs = search needs
@@ -64,7 +65,8 @@ returns-2 c =
     let words = c .before .before .before .before .before .before .words in
     let ending-form = c .before .before .before .ending-form in
     let ending-right = c .before .before .ending-right in
-    c .number-of .ensures ∙ sym (body-whole (args .count) (args .body .now) (l .result) (l .ensures) _ _ (words .given .1) _ refl (ending-form .result) (c .before .both .result) (ending-form .ensures) (rw (ending-right .ensures) at (c .before .both .ensures)))
+    c .number-of .ensures ∙ sym (body-whole (args .count) (args .body .now) (l .result) (l .ensures) _ _ (words .given .1) _ refl
+    (ending-form .result) (c .before .both .result) (ending-form .ensures) (rw (ending-right .ensures) at (c .before .both .ensures)))
 
 pub check-body-spec : {M : Type 1} → statement M
 check-body-spec =

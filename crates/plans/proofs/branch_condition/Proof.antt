@@ -16,7 +16,8 @@ condition-part-requires c κs =
 returns : tie.Need-returns
 returns c =
     let args = c .before .before .before .args in
-    rw (given-is (branchAt (planOf (args .plan .now)) (args .number)) noBranch (readBranch (c .before .branch-part .result .now)) (c .before .branch-part .ensures .1)) at (c .condition-part .ensures)
+    rw (given-is (branchAt (planOf (args .plan .now)) (args .number)) noBranch (readBranch (c .before .branch-part .result .now))
+    (c .before .branch-part .ensures .1)) at (c .condition-part .ensures)
 
 pub branch-condition-spec : {M : Type 1} → statement M
 branch-condition-spec = tie.close (tie.spec branch-part-requires condition-part-requires returns)

@@ -17,7 +17,8 @@ terms-requires c κs =
 returns : tie.Need-returns
 returns c =
     let args = c .before .before .before .args in
-    c .terms .ensures ∙ ap (λ (b : Branch). b .terms) (given-is (branchAt (planOf (args .plan .now)) (args .number)) noBranch (readBranch (c .before .branch-part .result .now)) (c .before .branch-part .ensures .1))
+    c .terms .ensures ∙ ap (λ (b : Branch). b .terms) (given-is (branchAt (planOf (args .plan .now)) (args .number)) noBranch
+    (readBranch (c .before .branch-part .result .now)) (c .before .branch-part .ensures .1))
 
 pub branch-terms-spec : {M : Type 1} → statement M
 branch-terms-spec = tie.close (tie.spec branch-part-requires terms-requires returns)

@@ -42,7 +42,16 @@ returns-7 c = rw (← c .before .before .before .before .kind .ensures, ← c .b
 returns-8 : tie.Need-returns-8
 unfolding nodeOf
 returns-8 c = let r = c .match .rest in
-    rw (← c .before .before .before .before .kind .ensures, ← c .before .before .before .low .ensures, ne-eqb _ _ (c .before .before .if1 .left), eq-eqb _ _ (c .before .if3 .left), ne-eqb _ _ (r .0 .0 .0 .1), ne-eqb _ _ (r .0 .0 .1), ne-eqb _ _ (r .0 .1), ne-eqb _ _ (r .1))
+    rw (
+      ← c .before .before .before .before .kind .ensures,
+      ← c .before .before .before .low .ensures,
+      ne-eqb _ _ (c .before .before .if1 .left),
+      eq-eqb _ _ (c .before .if3 .left),
+      ne-eqb _ _ (r .0 .0 .0 .1),
+      ne-eqb _ _ (r .0 .0 .1),
+      ne-eqb _ _ (r .0 .1),
+      ne-eqb _ _ (r .1),
+    )
 
 pub node-of-spec : {M : Type 1} → statement M
 node-of-spec =

@@ -64,7 +64,8 @@ returns c =
     let s = l .before .before .before .before .before in
     let t = column-there (s .args .vars .now) (s .args .keys .now) (s .args .a .now) (s .args .b .now) (l .loop .i) (omega arith) (s .pre .0) in
     sym (l .loop .inv .1 ∙ before-less (s .args .vars .now) (s .args .keys .now) (s .args .a .now) (s .args .b .now) (l .loop .i) (omega arith)
-    (r .before .before .before .before .column-of .result) (r .before .before .rank-by .result) (r .rank-by2 .result) (r .before .before .before .before .column-of .ensures)
+    (r .before .before .before .before .column-of .result) (r .before .before .rank-by .result) (r .rank-by2 .result)
+    (r .before .before .before .before .column-of .ensures)
     (omega arith) (omega arith) (r .before .before .rank-by .ensures) (r .rank-by2 .ensures) (c .if1 .taken))
 
 returns-2 : tie.Need-returns-2 Inv-loop μ-loop
@@ -74,7 +75,8 @@ returns-2 c =
     let s = l .before .before .before .before .before in
     let t = column-there (s .args .vars .now) (s .args .keys .now) (s .args .a .now) (s .args .b .now) (l .loop .i) (omega arith) (s .pre .0) in
     sym (l .loop .inv .1 ∙ before-more (s .args .vars .now) (s .args .keys .now) (s .args .a .now) (s .args .b .now) (l .loop .i) (omega arith)
-    (r .before .before .before .before .column-of .result) (r .before .before .rank-by .result) (r .rank-by2 .result) (r .before .before .before .before .column-of .ensures)
+    (r .before .before .before .before .column-of .result) (r .before .before .rank-by .result) (r .rank-by2 .result)
+    (r .before .before .before .before .column-of .ensures)
     (omega arith) (omega arith) (r .before .before .rank-by .ensures) (r .rank-by2 .ensures) (c .if2 .taken))
 
 add-i : tie.Need-add-i Inv-loop μ-loop
@@ -91,7 +93,8 @@ loop-again c =
     let t = column-there (s .args .vars .now) (s .args .keys .now) (s .args .a .now) (s .args .b .now) (l .loop .i) (omega arith) (s .pre .0) in (
       omega arith,
       l .loop .inv .1 ∙ before-same (s .args .vars .now) (s .args .keys .now) (s .args .a .now) (s .args .b .now) (l .loop .i) (omega arith)
-          (r .before .before .before .before .column-of .result) (r .before .before .rank-by .result) (r .rank-by2 .result) (r .before .before .before .before .column-of .ensures)
+          (r .before .before .before .before .column-of .result) (r .before .before .rank-by .result) (r .rank-by2 .result)
+          (r .before .before .before .before .column-of .ensures)
           (omega arith) (omega arith) (r .before .before .rank-by .ensures) (r .rank-by2 .ensures) (omega arith) (omega arith),
     )
 

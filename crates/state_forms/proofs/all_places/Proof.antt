@@ -34,7 +34,8 @@ returns : tie.Need-returns Inv-loop μ-loop
 returns c =
     let l = c .before .before .before .before in
     let ws = l .before .before .args .state .now in
-    sym (l .loop .inv .1 ∙ all-stops ws (l .loop .i) isPlace (omega arith) (ap (λ k. eqb k placeKind) (sym (c .before .kind .ensures)) ∙ ne-eqb _ placeKind (c .if1 .taken)))
+    sym (l .loop .inv .1 ∙ all-stops ws (l .loop .i) isPlace (omega arith)
+    (ap (λ k. eqb k placeKind) (sym (c .before .kind .ensures)) ∙ ne-eqb _ placeKind (c .if1 .taken)))
 
 add-i : tie.Need-add-i Inv-loop μ-loop
 add-i c = omega arith
@@ -45,8 +46,11 @@ loop-less c = omega arith
 loop-again : tie.Need-loop-again Inv-loop μ-loop
 loop-again c =
     let l = c .before .before .before .before in
-    let ws = l .before .before .args .state .now in
-    (omega arith, l .loop .inv .1 ∙ all-goes ws (l .loop .i) isPlace (omega arith) (ap (λ k. eqb k placeKind) (sym (c .before .kind .ensures)) ∙ eq-eqb _ placeKind (c .if1 .left)))
+    let ws = l .before .before .args .state .now in (
+      omega arith,
+      l .loop .inv .1 ∙ all-goes ws (l .loop .i) isPlace (omega arith)
+          (ap (λ k. eqb k placeKind) (sym (c .before .kind .ensures)) ∙ eq-eqb _ placeKind (c .if1 .left)),
+    )
 
 returns-2 : tie.Need-returns-2 Inv-loop μ-loop
 returns-2 c =

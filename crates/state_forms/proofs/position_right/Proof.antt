@@ -60,7 +60,8 @@ returns-3 c =
     let k = n .before .before in
     let b = k .before in
     let s = b .before .before in
-    let terms-are = t .terms .ensures ∙ ap (λ (x : Branch). x .terms) (given-is _ noBranch _ (p .branch-part .ensures .1) ∙ ap (branchAt (lent s)) (b .branch .ensures)) in
+    let terms-are = t .terms .ensures ∙ ap (λ (x : Branch). x .terms)
+    (given-is _ noBranch _ (p .branch-part .ensures .1) ∙ ap (branchAt (lent s)) (b .branch .ensures)) in
     c .depth-right .ensures
     ∙ ap₂ depthRight terms-are (c .before .depth .ensures)
     ∙ sym (position-in (lent s) (s .args .word) (sym (k .kind .ensures) ∙ n .before .if1 .left)

@@ -21,8 +21,11 @@ slice-aggregate-is-ahead c =
 is-ahead-requires : tie.Need-is-ahead-requires
 is-ahead-requires c κs =
     let r = c .before in
-    let s = r .before .before .before .before .before in
-    (s .pre .parts .among, omega (arith, row-width (s .pre) (s .args .bound .now) (r .row-of .ensures)), threshold-width (s .args .k) (s .args .vars .now) (s .args .keys .now) (s .args .threshold .now) (s .pre .sent))
+    let s = r .before .before .before .before .before in (
+      s .pre .parts .among,
+      omega (arith, row-width (s .pre) (s .args .bound .now) (r .row-of .ensures)),
+      threshold-width (s .args .k) (s .args .vars .now) (s .args .keys .now) (s .args .threshold .now) (s .pre .sent),
+    )
 
 array-share-prefix-row-2 : tie.Need-array-share-prefix-row-2
 array-share-prefix-row-2 c = omega (arith, c .before .before .before .before .before .before .before .before .pre .parts .narrow)

@@ -98,7 +98,12 @@ returns-2 c =
     let enum-told2 = c .before .before .before .before .before .before .enum-told2 in
     let rows-form2 = c .before .before .before .before .rows-form2 in
     let if2 = c .before .before .before .if2 in
-    rw (form-top p (t .result) (t .ensures ∙ ap lastOf (first .ensures)) (enum-told2 .given .1), ← rows-form2 .ensures, if2 .taken, ← rows-after (take (length p - 1) (drop 1 p)) (n .result) (n .ensures .0)) (c .keys-form .ensures)
+    rw (
+      form-top p (t .result) (t .ensures ∙ ap lastOf (first .ensures)) (enum-told2 .given .1),
+      ← rows-form2 .ensures,
+      if2 .taken,
+      ← rows-after (take (length p - 1) (drop 1 p)) (n .result) (n .ensures .0),
+    ) (c .keys-form .ensures)
 
 enum-told-3 : tie.Need-enum-told-3
 enum-told-3 c = search needs
@@ -137,7 +142,13 @@ returns-3 c =
     let low = c .before .before .before .before .low in
     let wide = c .before .before .before .wide in
     let if3 = c .before .before .if3 in
-    rw (form-group p (t .result) (t .ensures ∙ ap lastOf (first .ensures)) (enum-told3 .given .1), ← first2 .ensures, ← low .ensures, ← wide .ensures, eq-eqb _ _ (if3 .taken)) (c .all-wanted .ensures)
+    rw (
+      form-group p (t .result) (t .ensures ∙ ap lastOf (first .ensures)) (enum-told3 .given .1),
+      ← first2 .ensures,
+      ← low .ensures,
+      ← wide .ensures,
+      eq-eqb _ _ (if3 .taken),
+    ) (c .all-wanted .ensures)
 
 enum-told-4 : tie.Need-enum-told-4
 enum-told-4 c = search needs
@@ -166,7 +177,13 @@ returns-6 c =
     let enum-told3 = c .before .before .before .before .enum-told3 in
     let first2 = c .before .before .before .first2 in
     let low = c .before .before .low in
-    rw (form-group p (t .result) (t .ensures ∙ ap lastOf (first .ensures)) (enum-told3 .given .1), ← first2 .ensures, ← low .ensures, ← c .before .wide .ensures, ne-eqb _ _ (c .if3 .left))
+    rw (
+      form-group p (t .result) (t .ensures ∙ ap lastOf (first .ensures)) (enum-told3 .given .1),
+      ← first2 .ensures,
+      ← low .ensures,
+      ← c .before .wide .ensures,
+      ne-eqb _ _ (c .if3 .left),
+    )
 
 returns-7 : tie.Need-returns-7
 returns-7 c =

@@ -43,8 +43,11 @@ loop-less c = omega arith
 loop-again : tie.Need-loop-again Inv-loop μ-loop
 loop-again c =
     let loop = c .before .before .before .before .loop in
-    let args = c .before .before .before .before .before .before .args in
-    (omega arith, loop .inv .1 ∙ all-goes (args .words .now) (loop .i) (isWanted (args .wanted)) (omega arith) (sym (c .before .is-wanted .ensures) ∙ not-false _ (c .if1 .left)))
+    let args = c .before .before .before .before .before .before .args in (
+      omega arith,
+      loop .inv .1 ∙ all-goes (args .words .now) (loop .i) (isWanted (args .wanted)) (omega arith)
+          (sym (c .before .is-wanted .ensures) ∙ not-false _ (c .if1 .left)),
+    )
 
 returns-2 : tie.Need-returns-2 Inv-loop μ-loop
 returns-2 c =

@@ -63,7 +63,8 @@ returns-6 c =
     let t = c .before .before .before .before .before .before .before .before .args .t in
     rw (
       ne-eqb (t .numbers) 0 (c .before .before .before .before .before .before .if1 .left),
-      sym (c .before .before .before .before .before .is-number .ensures) ∙ not-false (c .before .before .before .before .before .is-number .result) (c .before .before .before .before .if4 .left),
+      sym (c .before .before .before .before .before .is-number .ensures) ∙ not-false (c .before .before .before .before .before .is-number .result)
+          (c .before .before .before .before .if4 .left),
       sym (c .before .before .before .is-number2 .ensures) ∙ not-false (c .before .before .before .is-number2 .result) (c .before .before .if5 .left),
       c .before .value .ensures,
       c .value2 .ensures,

@@ -67,21 +67,27 @@ returns-2 : tie.Need-returns-2
 returns-2 c =
     let s = c .before .before .before .before .before .before .before in
     let f = s .args .at - (s .args .g + 8) in
-    is-before keysFirst (take (f + s .args .g - f) (drop f (s .args .list .now))) (take (s .args .at + s .args .g - s .args .at) (drop (s .args .at) (s .args .list .now))) (c .before .before .by-group .result) (c .before .before .by-group .ensures) (c .enum-told .given .1)
+    is-before keysFirst (take (f + s .args .g - f) (drop f (s .args .list .now)))
+    (take (s .args .at + s .args .g - s .args .at) (drop (s .args .at) (s .args .list .now))) (c .before .before .by-group .result)
+    (c .before .before .by-group .ensures) (c .enum-told .given .1)
     ∙ follows-lent (s .args .g) (s .args .list .now) (s .args .at) (c .before .before .before .before .before .if1 .left)
 
 returns-3 : tie.Need-returns-3
 returns-3 c =
     let s = c .before .before .before .before .before .before .before in
     let f = s .args .at - (s .args .g + 8) in
-    is-same keysFirst (take (f + s .args .g - f) (drop f (s .args .list .now))) (take (s .args .at + s .args .g - s .args .at) (drop (s .args .at) (s .args .list .now))) (c .before .before .by-group .result) (c .before .before .by-group .ensures) (c .enum-told2 .given .1)
+    is-same keysFirst (take (f + s .args .g - f) (drop f (s .args .list .now)))
+    (take (s .args .at + s .args .g - s .args .at) (drop (s .args .at) (s .args .list .now))) (c .before .before .by-group .result)
+    (c .before .before .by-group .ensures) (c .enum-told2 .given .1)
     ∙ follows-lent (s .args .g) (s .args .list .now) (s .args .at) (c .before .before .before .before .before .if1 .left)
 
 returns-4 : tie.Need-returns-4
 returns-4 c =
     let s = c .before .before .before .before .before .before .before in
     let f = s .args .at - (s .args .g + 8) in
-    is-after keysFirst (take (f + s .args .g - f) (drop f (s .args .list .now))) (take (s .args .at + s .args .g - s .args .at) (drop (s .args .at) (s .args .list .now))) (c .before .before .by-group .result) (c .before .before .by-group .ensures) (c .enum-told3 .given .1)
+    is-after keysFirst (take (f + s .args .g - f) (drop f (s .args .list .now)))
+    (take (s .args .at + s .args .g - s .args .at) (drop (s .args .at) (s .args .list .now))) (c .before .before .by-group .result)
+    (c .before .before .by-group .ensures) (c .enum-told3 .given .1)
     ∙ follows-lent (s .args .g) (s .args .list .now) (s .args .at) (c .before .before .before .before .before .if1 .left)
 
 pub follows-spec : {M : Type 1} → statement M

@@ -55,7 +55,8 @@ totals-right-requires c κs = search needs
 returns-2 : tie.Need-returns-2
 returns-2 c =
     let s = c .before .before .before .before .before .before .before in
-    let v = sym (c .before .before .before .before .is-values .ensures) ∙ not-false (c .before .before .before .before .is-values .result) (c .before .before .before .if1 .left) in
+    let v = sym (c .before .before .before .before .is-values .ensures) ∙ not-false (c .before .before .before .before .is-values .result)
+    (c .before .before .before .if1 .left) in
     c .totals-right .ensures ∙ ap totalsRight (c .before .read-totals .ensures) ∙ sym (right-parts (s .args .g) (s .args .list .now) (s .args .at) (s .pre .1) ∙ rw v)
 
 pub record-right-spec : {M : Type 1} → statement M

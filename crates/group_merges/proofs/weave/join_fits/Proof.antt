@@ -55,7 +55,8 @@ returns c =
     let s = c .before .before .before .before .before .before .before in
     c .totals-fit .ensures
     ∙ fits-lent (s .args .g) (s .args .kept .now) (s .args .x) (s .args .list .now) (s .args .y) (s .pre .1) (s .pre .2)
-    (c .before .before .before .read-totals .result) (c .before .read-totals2 .result) (c .before .before .before .read-totals .ensures) (c .before .read-totals2 .ensures)
+    (c .before .before .before .read-totals .result) (c .before .read-totals2 .result) (c .before .before .before .read-totals .ensures)
+    (c .before .read-totals2 .ensures)
 
 pub join-fits-spec : {M : Type 1} → statement M
 join-fits-spec =

@@ -39,7 +39,8 @@ enum-told-2 c = search needs
 sub-lay-both : tie.Need-sub-lay-both
 sub-lay-both c =
     let s = c .before .before .before .before .before in
-    same-old (s .args .g) (s .args .kept .now) (s .args .x) (s .args .list .now) (s .args .y) (s .args .to) (s .args .side) (s .pre .1) (c .before .enum-told2 .given .1) .0
+    same-old (s .args .g) (s .args .kept .now) (s .args .x) (s .args .list .now) (s .args .y) (s .args .to) (s .args .side) (s .pre .1)
+    (c .before .enum-told2 .given .1) .0
 
 mul-lay-both : tie.Need-mul-lay-both
 mul-lay-both c = search needs
@@ -56,8 +57,16 @@ part-lay-both-end c = search needs
 lay-both-requires : tie.Need-lay-both-requires
 lay-both-requires c κs =
     let s = c .before .before .before .before .before .before in
-    let e = c .before .before .enum-told2 .given .1 in
-    (s .pre .0, same-old (s .args .g) (s .args .kept .now) (s .args .x) (s .args .list .now) (s .args .y) (s .args .to) (s .args .side) (s .pre .1) e .1, s .pre .1 .room, new-size (s .args .g) (s .args .kept .now) (s .args .x) (s .args .list .now) (s .args .y) (s .args .to) (s .args .side) (s .pre .1), joined-fits (s .args .g) (s .args .kept .now) (s .args .x) (s .args .list .now) (s .args .y) (s .args .to) (s .args .side) (s .pre .1) e)
+    let e = c .before .before .enum-told2 .given .1 in (
+      s .pre .0,
+      same-old (s .args .g) (s .args .kept .now) (s .args .x) (s .args .list .now) (s .args .y) (s .args .to) (s .args .side) (s .pre .1)
+          e .1,
+      s .pre .1 .room,
+      new-size (s .args .g) (s .args .kept .now) (s .args .x) (s .args .list .now) (s .args .y) (s .args .to) (s .args .side)
+          (s .pre .1),
+      joined-fits (s .args .g) (s .args .kept .now) (s .args .x) (s .args .list .now) (s .args .y) (s .args .to) (s .args .side)
+          (s .pre .1) e,
+    )
 
 enum-told-3 : tie.Need-enum-told-3
 enum-told-3 c = search needs
@@ -65,12 +74,16 @@ enum-told-3 c = search needs
 sub-lay-old : tie.Need-sub-lay-old
 sub-lay-old c =
     let s = c .before .before .before .before .before in
-    after-old (s .args .g) (s .args .kept .now) (s .args .x) (s .args .list .now) (s .args .y) (s .args .to) (s .args .side) (s .pre .1) (c .before .enum-told3 .given .1) .0
+    after-old (s .args .g) (s .args .kept .now) (s .args .x) (s .args .list .now) (s .args .y) (s .args .to) (s .args .side) (s .pre .1)
+    (c .before .enum-told3 .given .1) .0
 
 lay-old-requires : tie.Need-lay-old-requires
 lay-old-requires c κs =
-    let s = c .before .before .before .before .before in
-    (after-old (s .args .g) (s .args .kept .now) (s .args .x) (s .args .list .now) (s .args .y) (s .args .to) (s .args .side) (s .pre .1) (c .before .enum-told3 .given .1) .1, s .pre .1 .room)
+    let s = c .before .before .before .before .before in (
+      after-old (s .args .g) (s .args .kept .now) (s .args .x) (s .args .list .now) (s .args .y) (s .args .to) (s .args .side) (s .pre .1)
+          (c .before .enum-told3 .given .1) .1,
+      s .pre .1 .room,
+    )
 
 same-length : tie.Need-same-length
 same-length c = search needs
@@ -78,7 +91,8 @@ same-length c = search needs
 returns : tie.Need-returns
 returns c =
     let s = c .before .before .before .before .before .before .before .before .before in
-    new-laid (s .args .g) (s .args .kept .now) (s .args .x) (s .args .list .now) (s .args .y) (s .args .to) (s .args .side) (s .pre .1) (c .before .before .before .before .before .enum-told .given .1) (c .before .before .copy-in .last .0) (c .before .before .copy-in .ensures)
+    new-laid (s .args .g) (s .args .kept .now) (s .args .x) (s .args .list .now) (s .args .y) (s .args .to) (s .args .side) (s .pre .1)
+    (c .before .before .before .before .before .enum-told .given .1) (c .before .before .copy-in .last .0) (c .before .before .copy-in .ensures)
 
 same-length-2 : tie.Need-same-length-2
 same-length-2 c = search needs
@@ -86,7 +100,8 @@ same-length-2 c = search needs
 returns-2 : tie.Need-returns-2
 returns-2 c =
     let s = c .before .before .before .before .before .before .before .before .before in
-    joined-laid (s .args .g) (s .args .kept .now) (s .args .x) (s .args .list .now) (s .args .y) (s .args .to) (s .args .side) (s .pre .1) (c .before .before .before .before .before .enum-told2 .given .1) (c .before .before .lay-both .last .1 .0) (c .before .before .lay-both .ensures)
+    joined-laid (s .args .g) (s .args .kept .now) (s .args .x) (s .args .list .now) (s .args .y) (s .args .to) (s .args .side) (s .pre .1)
+    (c .before .before .before .before .before .enum-told2 .given .1) (c .before .before .lay-both .last .1 .0) (c .before .before .lay-both .ensures)
 
 same-length-3 : tie.Need-same-length-3
 same-length-3 c = search needs
@@ -94,7 +109,8 @@ same-length-3 c = search needs
 returns-3 : tie.Need-returns-3
 returns-3 c =
     let s = c .before .before .before .before .before .before .before .before in
-    old-laid (s .args .g) (s .args .kept .now) (s .args .x) (s .args .list .now) (s .args .y) (s .args .to) (s .args .side) (s .pre .1) (c .before .before .before .before .enum-told3 .given .1) (c .before .before .lay-old .last .0) (c .before .before .lay-old .ensures)
+    old-laid (s .args .g) (s .args .kept .now) (s .args .x) (s .args .list .now) (s .args .y) (s .args .to) (s .args .side) (s .pre .1)
+    (c .before .before .before .before .enum-told3 .given .1) (c .before .before .lay-old .last .0) (c .before .before .lay-old .ensures)
 
 pub lay-spec : {M : Type 1} → statement M
 lay-spec =

@@ -45,8 +45,14 @@ part-add-totals-end c = search needs
 
 add-totals-requires : tie.Need-add-totals-requires
 add-totals-requires c κs =
-    let s = c .before .before .before .before .before .before .before .before .before in
-    (both-size (s .args .g) (s .args .kept .now) (s .args .from) (s .args .to) (s .args .more .now) (s .pre .1) (s .pre .2) (s .pre .3) (c .before .before .before .lay-old .last .0) (c .before .before .before .lay-old .ensures) (c .before .before .before .before .before .read-totals .result) (c .before .before .before .before .before .read-totals .ensures), both-fit (s .args .g) (s .args .kept .now) (s .args .from) (s .args .to) (s .args .more .now) (s .pre .1) (s .pre .2) (s .pre .3) (c .before .before .before .lay-old .last .0) (c .before .before .before .lay-old .ensures) (c .before .before .before .before .before .read-totals .result) (c .before .before .before .before .before .read-totals .ensures) (s .pre .4))
+    let s = c .before .before .before .before .before .before .before .before .before in (
+      both-size (s .args .g) (s .args .kept .now) (s .args .from) (s .args .to) (s .args .more .now) (s .pre .1) (s .pre .2) (s .pre .3)
+          (c .before .before .before .lay-old .last .0) (c .before .before .before .lay-old .ensures)
+          (c .before .before .before .before .before .read-totals .result) (c .before .before .before .before .before .read-totals .ensures),
+      both-fit (s .args .g) (s .args .kept .now) (s .args .from) (s .args .to) (s .args .more .now) (s .pre .1) (s .pre .2) (s .pre .3)
+          (c .before .before .before .lay-old .last .0) (c .before .before .before .lay-old .ensures)
+          (c .before .before .before .before .before .read-totals .result) (c .before .before .before .before .before .read-totals .ensures) (s .pre .4),
+    )
 
 same-length : tie.Need-same-length
 same-length c = search needs
@@ -54,7 +60,11 @@ same-length c = search needs
 returns : tie.Need-returns
 returns c =
     let s = c .before .before .before .before .before .before .before .before .before .before .before .before in
-    both-laid (s .args .g) (s .args .kept .now) (s .args .from) (s .args .to) (s .args .more .now) (s .pre .1) (s .pre .2) (s .pre .3) (c .before .before .before .before .before .before .lay-old .last .0) (c .before .before .before .before .before .before .lay-old .ensures) (c .before .before .before .before .before .before .before .before .read-totals .result) (c .before .before .before .before .before .before .before .before .read-totals .ensures) (c .before .before .add-totals .last .0) (c .before .before .add-totals .ensures)
+    both-laid (s .args .g) (s .args .kept .now) (s .args .from) (s .args .to) (s .args .more .now) (s .pre .1) (s .pre .2) (s .pre .3)
+    (c .before .before .before .before .before .before .lay-old .last .0) (c .before .before .before .before .before .before .lay-old .ensures)
+    (c .before .before .before .before .before .before .before .before .read-totals .result)
+    (c .before .before .before .before .before .before .before .before .read-totals .ensures) (c .before .before .add-totals .last .0)
+    (c .before .before .add-totals .ensures)
 
 pub lay-both-spec : {M : Type 1} → statement M
 lay-both-spec =

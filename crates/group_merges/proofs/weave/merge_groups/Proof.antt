@@ -12,8 +12,12 @@ use Rattle.group_merges.proofs.weave.merge_groups.Tie as tie
 
 union-of-requires : tie.Need-union-of-requires
 union-of-requires c κs =
-    let s = c .before .before .before in
-    (s .pre .0, s .pre .1, kept-whole (s .args .g) (s .args .kept .now) (s .args .used) (s .args .list .now) (s .pre .1) (s .pre .2), list-whole (s .args .g) (s .args .kept .now) (s .args .used) (s .args .list .now) (s .pre .1) (s .pre .2))
+    let s = c .before .before .before in (
+      s .pre .0,
+      s .pre .1,
+      kept-whole (s .args .g) (s .args .kept .now) (s .args .used) (s .args .list .now) (s .pre .1) (s .pre .2),
+      list-whole (s .args .g) (s .args .kept .now) (s .args .used) (s .args .list .now) (s .pre .1) (s .pre .2),
+    )
 
 enum-told : tie.Need-enum-told
 enum-told c = search needs
@@ -33,7 +37,10 @@ same-length c = search needs
 returns : tie.Need-returns
 returns c =
     let s = c .before .before .before .before .before .before .before .before in
-    λ vs m e. merge-small (s .args .g) (s .args .kept .now) (s .args .used) (s .args .list .now) (s .pre .1) (s .pre .2) (c .before .before .before .before .before .before .before .slice-known .given) (c .before .before .before .before .before .before .shared-slice-known .given) vs m e (c .before .before .n .given .0 .0) (sym (c .before .before .before .before .union-of .ensures) ∙ c .before .before .n .given .1) (c .if1 .taken)
+    λ vs m e. merge-small (s .args .g) (s .args .kept .now) (s .args .used) (s .args .list .now) (s .pre .1) (s .pre .2)
+    (c .before .before .before .before .before .before .before .slice-known .given)
+    (c .before .before .before .before .before .before .shared-slice-known .given) vs m e (c .before .before .n .given .0 .0)
+    (sym (c .before .before .before .before .union-of .ensures) ∙ c .before .before .n .given .1) (c .if1 .taken)
 
 mul-words : tie.Need-mul-words
 mul-words c =
@@ -60,7 +67,9 @@ same-length-2 c = search needs
 returns-2 : tie.Need-returns-2
 returns-2 c =
     let s = c .before .before .before .before .before .before in
-    λ vs m e. merge-over (s .args .g) (s .args .kept .now) (s .args .used) (s .args .list .now) (s .pre .1) (s .pre .2) (c .before .before .before .before .before .slice-known .given) (c .before .before .before .before .shared-slice-known .given) vs m e (sym (c .before .before .union-of .ensures) ∙ c .enum-told .given .1)
+    λ vs m e. merge-over (s .args .g) (s .args .kept .now) (s .args .used) (s .args .list .now) (s .pre .1) (s .pre .2)
+    (c .before .before .before .before .before .slice-known .given) (c .before .before .before .before .shared-slice-known .given) vs m e
+    (sym (c .before .before .union-of .ensures) ∙ c .enum-told .given .1)
 
 same-length-3 : tie.Need-same-length-3
 same-length-3 c = search needs
@@ -69,7 +78,12 @@ returns-3 : tie.Need-returns-3
 returns-3 c =
     let s = c .before .before .before .before .before .before .before .before .before .before .before .before in
     λ vs m e.
-    merge-words (s .args .g) (s .args .kept .now) (s .args .used) (s .args .list .now) (s .pre .1) (s .pre .2) (c .before .before .before .before .before .before .before .before .before .before .before .slice-known .given) (c .before .before .before .before .before .before .before .before .before .before .shared-slice-known .given) vs m e (c .before .before .before .before .before .before .n .given .0 .0) (sym (c .before .before .before .before .before .before .before .before .union-of .ensures) ∙ c .before .before .before .before .before .before .n .given .1) (c .before .before .before .before .if1 .left)
+    merge-words (s .args .g) (s .args .kept .now) (s .args .used) (s .args .list .now) (s .pre .1) (s .pre .2)
+    (c .before .before .before .before .before .before .before .before .before .before .before .slice-known .given)
+    (c .before .before .before .before .before .before .before .before .before .before .shared-slice-known .given) vs m e
+    (c .before .before .before .before .before .before .n .given .0 .0)
+    (sym (c .before .before .before .before .before .before .before .before .union-of .ensures)
+    ∙ c .before .before .before .before .before .before .n .given .1) (c .before .before .before .before .if1 .left)
     (c .before .before .weave .last .1 .0) (c .before .before .weave .ensures)
 
 pub merge-groups-spec : {M : Type 1} → statement M

@@ -64,7 +64,19 @@ loop-again c =
     let i = c .before .before .before .before .before .before .before .before .before .loop .inv in
     let e = sym (c .before .before .before .before .before .before .pick .ensures) ∙ c .enum-told .given .1 in
     held-next i (omega arith) Before e (c .before .before .before .before .lay .last .1 .0)
-    (c .before .before .before .before .lay .ensures ∙ ap (λ d. take (c .before .before .before .before .before .before .before .before .before .loop .to - (c .before .before .before .before .before .before .before .before .before .before .before .before .args .g + 8)) (c .before .before .before .before .before .before .before .before .before .loop .kept) ++ (lastRecord (c .before .before .before .before .before .before .before .before .before .before .before .before .args .g) (c .before .before .before .before .before .before .before .before .before .loop .kept) (c .before .before .before .before .before .before .before .before .before .loop .x) (c .before .before .before .before .before .before .before .before .before .before .before .before .args .list .now) (c .before .before .before .before .before .before .before .before .before .loop .y) d ++ drop (c .before .before .before .before .before .before .before .before .before .loop .to - (c .before .before .before .before .before .before .before .before .before .before .before .before .args .g + 8) + (c .before .before .before .before .before .before .before .before .before .before .before .before .args .g + 8)) (c .before .before .before .before .before .before .before .before .before .loop .kept))) (c .enum-told .given .1))
+    (c .before .before .before .before .lay .ensures ∙ ap (λ d. take
+    (c .before .before .before .before .before .before .before .before .before .loop .to
+    - (c .before .before .before .before .before .before .before .before .before .before .before .before .args .g + 8))
+    (c .before .before .before .before .before .before .before .before .before .loop .kept)
+    ++ (lastRecord (c .before .before .before .before .before .before .before .before .before .before .before .before .args .g)
+    (c .before .before .before .before .before .before .before .before .before .loop .kept)
+    (c .before .before .before .before .before .before .before .before .before .loop .x)
+    (c .before .before .before .before .before .before .before .before .before .before .before .before .args .list .now)
+    (c .before .before .before .before .before .before .before .before .before .loop .y) d ++ drop
+    (c .before .before .before .before .before .before .before .before .before .loop .to
+    - (c .before .before .before .before .before .before .before .before .before .before .before .before .args .g + 8)
+    + (c .before .before .before .before .before .before .before .before .before .before .before .before .args .g + 8))
+    (c .before .before .before .before .before .before .before .before .before .loop .kept))) (c .enum-told .given .1))
 
 enum-told-2 : tie.Need-enum-told-2 Inv-loop μ-loop
 enum-told-2 c = search needs
@@ -87,7 +99,19 @@ loop-again-2 c =
     let i = c .before .before .before .before .before .before .before .before .before .loop .inv in
     let e = sym (c .before .before .before .before .before .before .pick .ensures) ∙ c .enum-told2 .given .1 in
     held-next i (omega arith) After e (c .before .before .before .before .lay .last .1 .0)
-    (c .before .before .before .before .lay .ensures ∙ ap (λ d. take (c .before .before .before .before .before .before .before .before .before .loop .to - (c .before .before .before .before .before .before .before .before .before .before .before .before .args .g + 8)) (c .before .before .before .before .before .before .before .before .before .loop .kept) ++ (lastRecord (c .before .before .before .before .before .before .before .before .before .before .before .before .args .g) (c .before .before .before .before .before .before .before .before .before .loop .kept) (c .before .before .before .before .before .before .before .before .before .loop .x) (c .before .before .before .before .before .before .before .before .before .before .before .before .args .list .now) (c .before .before .before .before .before .before .before .before .before .loop .y) d ++ drop (c .before .before .before .before .before .before .before .before .before .loop .to - (c .before .before .before .before .before .before .before .before .before .before .before .before .args .g + 8) + (c .before .before .before .before .before .before .before .before .before .before .before .before .args .g + 8)) (c .before .before .before .before .before .before .before .before .before .loop .kept))) (c .enum-told2 .given .1))
+    (c .before .before .before .before .lay .ensures ∙ ap (λ d. take
+    (c .before .before .before .before .before .before .before .before .before .loop .to
+    - (c .before .before .before .before .before .before .before .before .before .before .before .before .args .g + 8))
+    (c .before .before .before .before .before .before .before .before .before .loop .kept)
+    ++ (lastRecord (c .before .before .before .before .before .before .before .before .before .before .before .before .args .g)
+    (c .before .before .before .before .before .before .before .before .before .loop .kept)
+    (c .before .before .before .before .before .before .before .before .before .loop .x)
+    (c .before .before .before .before .before .before .before .before .before .before .before .before .args .list .now)
+    (c .before .before .before .before .before .before .before .before .before .loop .y) d ++ drop
+    (c .before .before .before .before .before .before .before .before .before .loop .to
+    - (c .before .before .before .before .before .before .before .before .before .before .before .before .args .g + 8)
+    + (c .before .before .before .before .before .before .before .before .before .before .before .before .args .g + 8))
+    (c .before .before .before .before .before .before .before .before .before .loop .kept))) (c .enum-told2 .given .1))
 
 enum-told-3 : tie.Need-enum-told-3 Inv-loop μ-loop
 enum-told-3 c = search needs
@@ -116,7 +140,19 @@ loop-again-3 c =
     let i = c .before .before .before .before .before .before .before .before .before .loop .inv in
     let e = sym (c .before .before .before .before .before .before .pick .ensures) ∙ c .enum-told3 .given .1 in
     held-next i (omega arith) Same e (c .before .before .before .before .lay .last .1 .0)
-    (c .before .before .before .before .lay .ensures ∙ ap (λ d. take (c .before .before .before .before .before .before .before .before .before .loop .to - (c .before .before .before .before .before .before .before .before .before .before .before .before .args .g + 8)) (c .before .before .before .before .before .before .before .before .before .loop .kept) ++ (lastRecord (c .before .before .before .before .before .before .before .before .before .before .before .before .args .g) (c .before .before .before .before .before .before .before .before .before .loop .kept) (c .before .before .before .before .before .before .before .before .before .loop .x) (c .before .before .before .before .before .before .before .before .before .before .before .before .args .list .now) (c .before .before .before .before .before .before .before .before .before .loop .y) d ++ drop (c .before .before .before .before .before .before .before .before .before .loop .to - (c .before .before .before .before .before .before .before .before .before .before .before .before .args .g + 8) + (c .before .before .before .before .before .before .before .before .before .before .before .before .args .g + 8)) (c .before .before .before .before .before .before .before .before .before .loop .kept))) (c .enum-told3 .given .1))
+    (c .before .before .before .before .lay .ensures ∙ ap (λ d. take
+    (c .before .before .before .before .before .before .before .before .before .loop .to
+    - (c .before .before .before .before .before .before .before .before .before .before .before .before .args .g + 8))
+    (c .before .before .before .before .before .before .before .before .before .loop .kept)
+    ++ (lastRecord (c .before .before .before .before .before .before .before .before .before .before .before .before .args .g)
+    (c .before .before .before .before .before .before .before .before .before .loop .kept)
+    (c .before .before .before .before .before .before .before .before .before .loop .x)
+    (c .before .before .before .before .before .before .before .before .before .before .before .before .args .list .now)
+    (c .before .before .before .before .before .before .before .before .before .loop .y) d ++ drop
+    (c .before .before .before .before .before .before .before .before .before .loop .to
+    - (c .before .before .before .before .before .before .before .before .before .before .before .before .args .g + 8)
+    + (c .before .before .before .before .before .before .before .before .before .before .before .before .args .g + 8))
+    (c .before .before .before .before .before .before .before .before .before .loop .kept))) (c .enum-told3 .given .1))
 
 same-length : tie.Need-same-length Inv-loop μ-loop
 same-length c = c .before .loop .inv .size

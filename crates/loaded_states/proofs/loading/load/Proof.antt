@@ -119,7 +119,12 @@ returns-2 c =
     let from = f .cursor-in .result in
     let g = p .branch-part .ensures in (
       sym (loads plan ws (s .pre .1) (shape (b .before)) from (e .0) (e .2) _ (terms-are t) (lent s) _ (r .places-right .ensures .0) passes),
-      λ z. (e .0, loads-held plan ws (s .pre .1) (shape (b .before)) from (e .0) (e .2) _ (terms-are t) (lent s) _ (r .places-right .ensures .0) passes (begins plan (p .branch-part .result .now) (b .branch .result) _ (branchStart (b .branch .result) plan) (from .at) (g .0) (g .1) (b .branch .ensures) (e .1)) (e .3) _ (r .places-right .ensures .1 passes) _ (c .level-of .ensures)),
+      λ z. (
+        e .0,
+        loads-held plan ws (s .pre .1) (shape (b .before)) from (e .0) (e .2) _ (terms-are t) (lent s) _ (r .places-right .ensures .0)
+            passes (begins plan (p .branch-part .result .now) (b .branch .result) _ (branchStart (b .branch .result) plan) (from .at) (g .0) (g .1)
+            (b .branch .ensures) (e .1)) (e .3) _ (r .places-right .ensures .1 passes) _ (c .level-of .ensures),
+      ),
     )
 
 refused-requires-2 : tie.Need-refused-requires-2
@@ -133,7 +138,8 @@ returns-3 c =
     let s = entry (f .before .before .before) in
     let e = f .cursor-in .ensures in
     let n = c .refused2 .ensures in (
-      n ∙ sym (loads-not (s .args .plan .now) (words s) (s .pre .1) (shape (f .before .before .before)) (f .cursor-in .result) (e .0) (e .2) _ (terms-are t) (lent s) _ (r .places-right .ensures .0) (c .before .if2 .left)),
+      n ∙ sym (loads-not (s .args .plan .now) (words s) (s .pre .1) (shape (f .before .before .before)) (f .cursor-in .result) (e .0) (e .2) _
+          (terms-are t) (lent s) _ (r .places-right .ensures .0) (c .before .if2 .left)),
       λ z. absurd (omega (arith, z, n)),
     )
 

@@ -25,7 +25,8 @@ returns c =
     let t = tablesOf (s .args .rows .now) (s .args .pos .now) (s .args .osp .now) in
     c .up-to-end .ensures
     ∙ ap (λ (p : Prefix). upToEnd t p (s .args .place .0))
-    (sym (level-prefix (s .args .terms .now) (s .args .level) (s .args .bound .now) (f .level-of .result) (f .level-of .ensures) (x .prefix-of .result) (x .prefix-of .ensures .0)))
+    (sym (level-prefix (s .args .terms .now) (s .args .level) (s .args .bound .now) (f .level-of .result) (f .level-of .ensures)
+    (x .prefix-of .result) (x .prefix-of .ensures .0)))
 
 pub last-right-spec : {M : Type 1} → statement M
 last-right-spec = tie.close (tie.spec level-of-requires prefix-of-requires up-to-end-requires returns)

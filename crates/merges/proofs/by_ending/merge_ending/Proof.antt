@@ -25,13 +25,17 @@ keys-requires : tie.Need-keys-requires
 keys-requires c κs = search needs
 
 best-count-requires : tie.Need-best-count-requires
-best-count-requires c κs =
-    (c .before .before .before .before .before .before .before .before .pre .0, sym (c .before .before .before .before .ending-kind .ensures) ∙ c .before .before .enum-told2 .given .1)
+best-count-requires c κs = (
+  c .before .before .before .before .before .before .before .before .pre .0,
+  sym (c .before .before .before .before .ending-kind .ensures) ∙ c .before .before .enum-told2 .given .1,
+)
 
 merge-top-requires : tie.Need-merge-top-requires
 merge-top-requires c κs =
     let s = c .before .before .before .before .before .before .before .before .before .before in
-    let is = top-of (endingAt (s .args .e .now)) (c .before .before .before .before .before .before .ending-kind .ensures) (c .before .before .before .before .enum-told2 .given .1) (c .before .best-count .ensures) (c .before .before .before .variables .ensures) (c .before .before .keys .ensures) in
+    let is = top-of (endingAt (s .args .e .now)) (c .before .before .before .before .before .before .ending-kind .ensures)
+    (c .before .before .before .before .enum-told2 .given .1) (c .before .best-count .ensures) (c .before .before .before .variables .ensures)
+    (c .before .before .keys .ensures) in
     (subst PiecesRight is (s .pre .1), s .pre .2)
 
 enum-told-3 : tie.Need-enum-told-3
@@ -43,7 +47,8 @@ variables-requires-2 c κs = search needs
 merge-groups-requires : tie.Need-merge-groups-requires
 merge-groups-requires c κs =
     let s = c .before .before .before .before .before .before .before .before in
-    let is = group-of (endingAt (s .args .e .now)) (c .before .before .before .before .ending-kind .ensures) (c .before .before .enum-told3 .given .1) (c .before .variables2 .ensures) in
+    let is = group-of (endingAt (s .args .e .now)) (c .before .before .before .before .ending-kind .ensures) (c .before .before .enum-told3 .given .1)
+    (c .before .variables2 .ensures) in
     (subst PiecesRight is (s .pre .1), s .pre .2)
 
 enum-told-4 : tie.Need-enum-told-4
@@ -60,7 +65,9 @@ same-length c = search needs
 returns-2 : tie.Need-returns-2
 returns-2 c =
     let s = c .before .before .before .before .before .before .before .before .before .before .before .before .before in
-    let is = top-of (endingAt (s .args .e .now)) (c .before .before .before .before .before .before .before .before .before .ending-kind .ensures) (c .before .before .before .before .before .before .before .enum-told2 .given .1) (c .before .before .before .before .best-count .ensures) (c .before .before .before .before .before .before .variables .ensures) (c .before .before .before .before .before .keys .ensures) in
+    let is = top-of (endingAt (s .args .e .now)) (c .before .before .before .before .before .before .before .before .before .ending-kind .ensures)
+    (c .before .before .before .before .before .before .before .enum-told2 .given .1) (c .before .before .before .before .best-count .ensures)
+    (c .before .before .before .before .before .before .variables .ensures) (c .before .before .before .before .before .keys .ensures) in
     λ plan a. c .before .before .merge-top .ensures plan (subst (Accepted plan) is a)
 
 same-length-2 : tie.Need-same-length-2
@@ -69,11 +76,14 @@ same-length-2 c = search needs
 returns-3 : tie.Need-returns-3
 returns-3 c =
     let s = c .before .before .before .before .before .before .before .before .before .before .before in
-    let is = group-of (endingAt (s .args .e .now)) (c .before .before .before .before .before .before .before .ending-kind .ensures) (c .before .before .before .before .before .enum-told3 .given .1) (c .before .before .before .before .variables2 .ensures) in
+    let is = group-of (endingAt (s .args .e .now)) (c .before .before .before .before .before .before .before .ending-kind .ensures)
+    (c .before .before .before .before .before .enum-told3 .given .1) (c .before .before .before .before .variables2 .ensures) in
     λ plan a. c .before .before .merge-groups .ensures _ _ refl plan (subst (Accepted plan) is a)
 
 returns-4 : tie.Need-returns-4
-returns-4 c = absurd (some-kind (endingAt (c .before .before .before .before .before .before .args .e .now)) (sym (c .before .before .ending-kind .ensures) ∙ c .enum-told4 .given .1))
+returns-4 c =
+    absurd (some-kind (endingAt (c .before .before .before .before .before .before .args .e .now))
+    (sym (c .before .before .ending-kind .ensures) ∙ c .enum-told4 .given .1))
 
 pub merge-ending-spec : {M : Type 1} → statement M
 merge-ending-spec =

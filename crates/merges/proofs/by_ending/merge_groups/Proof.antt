@@ -55,7 +55,8 @@ returns-2 : tie.Need-returns-2
 returns-2 c =
     let s = c .before .before .before .before .before .before .before .before .before .before in
     λ vs m e plan a.
-    let p = goes-on (right s vs m) (c .before .before .before .before .before .before .are-groups .ensures vs m e) (c .before .before .before .before .before .if1 .left) in
+    let p = goes-on (right s vs m) (c .before .before .before .before .before .before .are-groups .ensures vs m e)
+    (c .before .before .before .before .before .if1 .left) in
     let g = c .before .before .before .merge-groups .ensures vs m e in
     rw (c .written .ensures) (groups-merged _ a (s .pre .1) p (g .0) (g .1))
 

@@ -93,7 +93,8 @@ same-length-3 c = search needs
 returns-3 : tie.Need-returns-3
 returns-3 c =
     let s = c .before .before .before .before .before .before .before .before .before .before .before .before .before .before in
-    let p = goes-on (right s) (c .before .before .before .before .before .before .before .before .are-best .ensures) (c .before .before .before .before .before .before .before .if1 .left) in
+    let p = goes-on (right s) (c .before .before .before .before .before .before .before .before .are-best .ensures)
+    (c .before .before .before .before .before .before .before .if1 .left) in
     let e = c .before .before .before .before .before .has-best-room .ensures (s .args .keys .now) (kept-best s p) in
     λ plan a. top-merged _ a (s .pre .1) p (goes-on (room s) e (c .before .before .before .before .if2 .left)) (c .before .before .merge-best .ensures)
 

@@ -82,7 +82,11 @@ branches-add-t18 t c =
     let args = c .before .before .before .before .before .before .before .before .before .before .before .args in
     let if1 = c .before .before .before .before .before .before .before .before .before .if1 in
     let words = c .before .before .before .before .before .before .words in
-    omega (arith, rest-words (args .count) (args .p .now) (if1 .left) (b .result) (b .ensures) _ _ (words .given .1) (r .result) (r .ensures) _ _ (c .before .more .given .1))
+    omega (
+      arith,
+      rest-words (args .count) (args .p .now) (if1 .left) (b .result) (b .ensures) _ _ (words .given .1) (r .result) (r .ensures) _ _
+          (c .before .more .given .1),
+    )
 
 branches-both-requires : (t : ℕ) → branches-lts.Need-both-requires (callees t) (branches-at t) branches.Post
 branches-both-requires t c κs = search needs
@@ -111,7 +115,8 @@ branches-returns-4 t c =
     let if1 = c .before .before .before .before .before .before .before .before .before .before .if1 in
     let words = c .before .before .before .before .before .before .before .words in
     let more = c .before .before .more in
-    sym (branches-two (args .count) (args .p .now) (if1 .left) (b .result) (b .ensures) _ _ (words .given .1) (r .result) (r .ensures) ∙ rw (more .given .1, c .both .ensures))
+    sym (branches-two (args .count) (args .p .now) (if1 .left) (b .result) (b .ensures) _ _ (words .given .1) (r .result) (r .ensures)
+    ∙ rw (more .given .1, c .both .ensures))
 
 pub +branches-spec : {M : Type 1} → statement M
 +branches-spec = close μ-branches λ t. branches-lts.spec (callees t) (branches-at t)

@@ -102,7 +102,8 @@ returns-5 c =
     let if2 = c .before .before .before .before .before .before .before .before .before .if2 in
     let words = c .before .before .before .before .words in
     let if3 = c .before .before .if3 in
-    sym (branch-with (args .p .now) (n .result) (n .ensures .0) (if1 .left) (if2 .left) (l .result) (l .ensures) ∙ rw (words .given .1, le-leb _ _ (if3 .left), c .both .ensures, c .before .all-wanted .ensures))
+    sym (branch-with (args .p .now) (n .result) (n .ensures .0) (if1 .left) (if2 .left) (l .result) (l .ensures)
+    ∙ rw (words .given .1, le-leb _ _ (if3 .left), c .both .ensures, c .before .all-wanted .ensures))
 
 pub branch-spec : {M : Type 1} → statement M
 branch-spec =

@@ -55,7 +55,12 @@ add-result c =
     let l = c .before .before .before .condition in
     let p = c .before .before .before .before .before .before .before .before .args .p .now in
     let pre = c .before .before .before .before .before .before .before .before .pre in
-    omega (arith, branch-in p pre .fit, words-in p pre (n .result) (n .ensures .0), reads-words _ (readCondition mostDepth (lentCondition (n .result) p)) _ _ _ (sym (l .ensures) ∙ c .before .words .given .1))
+    omega (
+      arith,
+      branch-in p pre .fit,
+      words-in p pre (n .result) (n .ensures .0),
+      reads-words _ (readCondition mostDepth (lentCondition (n .result) p)) _ _ _ (sym (l .ensures) ∙ c .before .words .given .1),
+    )
 
 returns : tie.Need-returns
 returns c =
@@ -63,7 +68,11 @@ returns c =
     let l = c .before .before .condition in
     let p = c .before .before .before .before .before .before .before .args .p .now in
     let pre = c .before .before .before .before .before .before .before .pre in
-    omega (arith, words-in p pre (n .result) (n .ensures .0), bad-words _ (readCondition mostDepth (lentCondition (n .result) p)) (sym (l .ensures) ∙ c .enum-told .given .1))
+    omega (
+      arith,
+      words-in p pre (n .result) (n .ensures .0),
+      bad-words _ (readCondition mostDepth (lentCondition (n .result) p)) (sym (l .ensures) ∙ c .enum-told .given .1),
+    )
 
 returns-2 : tie.Need-returns-2
 returns-2 c =
@@ -71,7 +80,11 @@ returns-2 c =
     let l = c .before .before .before .condition in
     let p = c .before .before .before .before .before .before .before .before .args .p .now in
     let pre = c .before .before .before .before .before .before .before .before .pre in
-    omega (arith, words-in p pre (n .result) (n .ensures .0), reads-words _ (readCondition mostDepth (lentCondition (n .result) p)) _ _ _ (sym (l .ensures) ∙ c .before .words .given .1))
+    omega (
+      arith,
+      words-in p pre (n .result) (n .ensures .0),
+      reads-words _ (readCondition mostDepth (lentCondition (n .result) p)) _ _ _ (sym (l .ensures) ∙ c .before .words .given .1),
+    )
 
 pub branch-words-spec : {M : Type 1} → statement M
 branch-words-spec =

@@ -29,7 +29,18 @@ condition-below t =
 
 -- what is asked of each callee and learnt from it
 abbrev callees : ℕ → condition-lts.Claims
-callees t = (node-of-reads.Asked, node-of-reads.Learnt, comparison-reads.Asked, comparison-reads.Learnt, condition-below t, condition.Post, over-reads.Asked, over-reads.Learnt, join-reads.Asked, join-reads.Learnt)
+callees t = (
+  node-of-reads.Asked,
+  node-of-reads.Learnt,
+  comparison-reads.Asked,
+  comparison-reads.Learnt,
+  condition-below t,
+  condition.Post,
+  over-reads.Asked,
+  over-reads.Learnt,
+  join-reads.Asked,
+  join-reads.Learnt,
+)
 
 -- the first condition of two leaves the words behind it
 first-room : (t : ℕ) (c : condition-lts.After-known-told (callees t) (condition-at t) condition.Post)
@@ -38,7 +49,10 @@ first-room t c =
     let args = c .before .before .before .before .before .before .before .before .before .before .before .before .before .args in
     let n = c .before .before .before .before .before .before .before .node-of in
     let l = c .before .before .before .condition2 in
-    first-words (args .terms .now) (args .left) (args .p .now) (c .before .before .before .before .before .before .before .before .before .before .if1 .left) (c .before .before .before .before .before .before .before .before .before .if2 .left) (n .result) (n .ensures) (l .result) (l .ensures) _ _ _ (c .before .first .given .1)
+    first-words (args .terms .now) (args .left) (args .p .now)
+    (c .before .before .before .before .before .before .before .before .before .before .if1 .left)
+    (c .before .before .before .before .before .before .before .before .before .if2 .left) (n .result) (n .ensures) (l .result) (l .ensures) _ _ _
+    (c .before .first .given .1)
 
 condition-returns : (t : ℕ) → condition-lts.Need-returns (callees t) (condition-at t) condition.Post
 condition-returns t c =
@@ -142,8 +156,10 @@ condition-join-requires t c κs =
     let args = c .before .before .before .before .before .before .before .before .before .before .before .before .before .before .before .args in
     let l = c .before .before .before .before .before .condition2 in
     let r = c .condition3 in
-    let first = c .before .before .before .first in
-    (rw (first .given .1) at (part-small (args .terms .now) (args .left - 1) (args .p .now) 1 (l .result) (l .ensures) (omega arith)), part-small (args .terms .now) (args .left - 1) (args .p .now) (1 + first .given .0 .0) (r .result) (r .ensures) (omega arith))
+    let first = c .before .before .before .first in (
+      rw (first .given .1) at (part-small (args .terms .now) (args .left - 1) (args .p .now) 1 (l .result) (l .ensures) (omega arith)),
+      part-small (args .terms .now) (args .left - 1) (args .p .now) (1 + first .given .0 .0) (r .result) (r .ensures) (omega arith),
+    )
 
 condition-returns-3 : (t : ℕ) → condition-lts.Need-returns-3 (callees t) (condition-at t) condition.Post
 condition-returns-3 t c =
@@ -167,7 +183,8 @@ condition-returns-5 t c =
     let n = c .before .before .before .node-of in
     let if1 = c .before .before .before .before .before .before .if1 in
     let if2 = c .before .before .before .before .before .if2 in
-    c .comparison .ensures ∙ sym (at-compared (args .terms .now) (args .left) (args .p .now) (if1 .left) (if2 .left) (n .result) (n .ensures) (c .before .enum-told3 .given .1))
+    c .comparison .ensures ∙ sym (at-compared (args .terms .now) (args .left) (args .p .now) (if1 .left) (if2 .left) (n .result) (n .ensures)
+    (c .before .enum-told3 .given .1))
 
 condition-returns-6 : (t : ℕ) → condition-lts.Need-returns-6 (callees t) (condition-at t) condition.Post
 condition-returns-6 t c =
@@ -177,7 +194,8 @@ condition-returns-6 t c =
     let if1 = c .before .before .before .before .before .before .before .before .if1 in
     let if2 = c .before .before .before .before .before .before .before .if2 in
     let enum-told4 = c .before .before .before .enum-told4 in
-    c .over .ensures ∙ sym (at-not (args .terms .now) (args .left) (args .p .now) (if1 .left) (if2 .left) (n .result) (n .ensures) (l .result) (l .ensures) (enum-told4 .given .1))
+    c .over .ensures ∙ sym (at-not (args .terms .now) (args .left) (args .p .now) (if1 .left) (if2 .left) (n .result) (n .ensures) (l .result)
+    (l .ensures) (enum-told4 .given .1))
 
 condition-returns-7 : (t : ℕ) → condition-lts.Need-returns-7 (callees t) (condition-at t) condition.Post
 condition-returns-7 t c =
@@ -187,7 +205,8 @@ condition-returns-7 t c =
     let if1 = c .before .before .before .before .before .before .before .before .before .if1 in
     let if2 = c .before .before .before .before .before .before .before .before .if2 in
     let enum-told5 = c .before .before .before .before .enum-told5 in
-    sym (at-half (args .terms .now) (args .left) (args .p .now) (if1 .left) (if2 .left) (n .result) (n .ensures) (l .result) (l .ensures) (enum-told5 .given .1) (c .enum-told6 .given .1))
+    sym (at-half (args .terms .now) (args .left) (args .p .now) (if1 .left) (if2 .left) (n .result) (n .ensures) (l .result) (l .ensures)
+    (enum-told5 .given .1) (c .enum-told6 .given .1))
 
 condition-returns-8 : (t : ℕ) → condition-lts.Need-returns-8 (callees t) (condition-at t) condition.Post
 condition-returns-8 t c =
@@ -199,7 +218,8 @@ condition-returns-8 t c =
     let if2 = c .before .before .before .before .before .before .before .before .before .before .before .before .if2 in
     let enum-told5 = c .before .before .before .before .before .before .before .before .enum-told5 in
     let first = c .before .before .before .before .first in
-    c .join .ensures ∙ sym (at-two (args .terms .now) (args .left) (args .p .now) (if1 .left) (if2 .left) (n .result) (n .ensures) (l .result) (l .ensures) (enum-told5 .given .1) _ _ _ (first .given .1) (r .result) (r .ensures) ∙ rw (first .given .1))
+    c .join .ensures ∙ sym (at-two (args .terms .now) (args .left) (args .p .now) (if1 .left) (if2 .left) (n .result) (n .ensures) (l .result)
+    (l .ensures) (enum-told5 .given .1) _ _ _ (first .given .1) (r .result) (r .ensures) ∙ rw (first .given .1))
 
 pub +condition-spec : {M : Type 1} → statement M
 +condition-spec = close μ-condition λ t. condition-lts.spec (callees t) (condition-at t)

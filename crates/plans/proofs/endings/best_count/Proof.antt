@@ -24,7 +24,8 @@ returns c =
     let pre = c .before .before .before .before .before .pre in
     let first = c .before .before .before .first in
     let low = c .before .before .low in
-    c .wide .ensures ∙ sym (ap bestIn (ending-top e (lastOf (getD e 0 0)) refl (sym (last-in e (pre .0)) ∙ pre .1)) ∙ rw (← first .ensures, ← low .ensures, eq-eqb _ _ (c .before .if1 .taken)))
+    c .wide .ensures ∙ sym (ap bestIn (ending-top e (lastOf (getD e 0 0)) refl (sym (last-in e (pre .0)) ∙ pre .1))
+    ∙ rw (← first .ensures, ← low .ensures, eq-eqb _ _ (c .before .if1 .taken)))
 
 wide-requires-2 : tie.Need-wide-requires-2
 wide-requires-2 c κs = search needs
@@ -35,7 +36,8 @@ returns-2 c =
     let pre = c .before .before .before .before .before .pre in
     let first = c .before .before .before .first in
     let low = c .before .before .low in
-    c .wide2 .ensures ∙ sym (ap bestIn (ending-top e (lastOf (getD e 0 0)) refl (sym (last-in e (pre .0)) ∙ pre .1)) ∙ rw (← first .ensures, ← low .ensures, ne-eqb _ _ (c .before .if1 .left)))
+    c .wide2 .ensures ∙ sym (ap bestIn (ending-top e (lastOf (getD e 0 0)) refl (sym (last-in e (pre .0)) ∙ pre .1))
+    ∙ rw (← first .ensures, ← low .ensures, ne-eqb _ _ (c .before .if1 .left)))
 
 pub best-count-spec : {M : Type 1} → statement M
 best-count-spec =

@@ -33,7 +33,11 @@ shared-slice-read-result c =
     let pre = c .before .before .before .before .before .pre in
     let the-low = c .before .before .low in
     let first = c .before .before .before .first in
-    omega (arith, group-room e (lastOf (getD e 0 0)) refl (pre .0) (sym (last-in e (pre .0)) ∙ pre .1) (w .result) (w .ensures ∙ the-low .ensures ∙ ap low (first .ensures)))
+    omega (
+      arith,
+      group-room e (lastOf (getD e 0 0)) refl (pre .0) (sym (last-in e (pre .0)) ∙ pre .1) (w .result)
+          (w .ensures ∙ the-low .ensures ∙ ap low (first .ensures)),
+    )
 
 returns : tie.Need-returns
 returns c =
@@ -42,7 +46,8 @@ returns c =
     let pre = c .before .before .before .before .before .pre in
     let the-low = c .before .before .low in
     let first = c .before .before .before .first in
-    sym (ap measuredIn (ending-group e (lastOf (getD e 0 0)) refl (sym (last-in e (pre .0)) ∙ pre .1) (w .result) (w .ensures ∙ the-low .ensures ∙ ap low (first .ensures))))
+    sym (ap measuredIn (ending-group e (lastOf (getD e 0 0)) refl (sym (last-in e (pre .0)) ∙ pre .1) (w .result)
+    (w .ensures ∙ the-low .ensures ∙ ap low (first .ensures))))
 
 pub measured-spec : {M : Type 1} → statement M
 measured-spec =

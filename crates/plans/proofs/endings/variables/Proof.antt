@@ -87,7 +87,11 @@ part-result-end c =
     let pre = c .before .before .before .before .before .before .before .before .pre in
     let enum-told3 = c .before .before .before .enum-told3 in
     let first2 = c .before .before .first2 in
-    omega (arith, group-room e (t .result) (t .ensures ∙ ap lastOf (first .ensures)) pre (enum-told3 .given .1) (w .result) (w .ensures ∙ c .before .low .ensures ∙ ap low (first2 .ensures)))
+    omega (
+      arith,
+      group-room e (t .result) (t .ensures ∙ ap lastOf (first .ensures)) pre (enum-told3 .given .1) (w .result)
+          (w .ensures ∙ c .before .low .ensures ∙ ap low (first2 .ensures)),
+    )
 
 enum-told-4 : tie.Need-enum-told-4
 enum-told-4 c = search needs
@@ -116,7 +120,8 @@ returns-3 c =
     let enum-told3 = c .before .before .before .before .enum-told3 in
     let the-low = c .before .before .low in
     let first2 = c .before .before .before .first2 in
-    sym (ap variablesIn (ending-group e (t .result) (t .ensures ∙ ap lastOf (first .ensures)) (enum-told3 .given .1) (w .result) (w .ensures ∙ the-low .ensures ∙ ap low (first2 .ensures))))
+    sym (ap variablesIn (ending-group e (t .result) (t .ensures ∙ ap lastOf (first .ensures)) (enum-told3 .given .1) (w .result)
+    (w .ensures ∙ the-low .ensures ∙ ap low (first2 .ensures))))
 
 returns-4 : tie.Need-returns-4
 returns-4 c =

@@ -61,7 +61,12 @@ returns c =
     let s = c .before .before .before .before .before .before .before .before .before in
     let a = s .args in
     let four = four-bytes (a .at) (a .bytes .now) (omega arith) in
-    omega (arith, c .before .before .before .before .before .before .byte .ensures .0, c .before .before .before .before .byte2 .ensures .0, c .before .before .byte3 .ensures .0)
+    omega (
+      arith,
+      c .before .before .before .before .before .before .byte .ensures .0,
+      c .before .before .before .before .byte2 .ensures .0,
+      c .before .before .byte3 .ensures .0,
+    )
 
 pub word-at-spec : {M : Type 1} → statement M
 word-at-spec =

@@ -99,7 +99,8 @@ returns c =
     let l = c .before .before in
     let s = l .before .before .before .before .before in
     let from = s .args .c in
-    let done = saved from (l .before .position .result .0) (l .before .position .ensures) (l .loop .i) (l .loop .state) (s .args .state .now) (omega (arith, s .pre .0 .level)) (omega arith) (l .loop .inv .2) in
+    let done = saved from (l .before .position .result .0) (l .before .position .ensures) (l .loop .i) (l .loop .state) (s .args .state .now)
+    (omega (arith, s .pre .0 .level)) (omega arith) (l .loop .inv .2) in
     let word = c .place3 .ensures ∙ ap placeWord (kept (from .place .0) (s .pre .0 .place)) in
     (done .0, ap (set (l .loop .state) (from .level + 1)) word ∙ done .1)
 

@@ -21,7 +21,8 @@ returns : tie.Need-returns
 returns c =
     let p = c .before in
     let s = p .before .before .before .before .before .before .before .before .before .before .before in
-    let i = turnInput (s .args .rows .now) (s .args .pos .now) (s .args .osp .now) (s .args .plan .now) (s .args .state .now) (s .args .given) (s .args .quantum) (s .args .threshold .now) (s .args .output .now) in
+    let i = turnInput (s .args .rows .now) (s .args .pos .now) (s .args .osp .now) (s .args .plan .now) (s .args .state .now) (s .args .given)
+    (s .args .quantum) (s .args .threshold .now) (s .args .output .now) in
     refuses i (p .prepare .result .refused) (turn-refuses i (p .prepare .result .refused) (p .prepare .ensures .0) (c .if1 .taken))
 
 run-requires : tie.Need-run-requires
@@ -29,7 +30,8 @@ run-requires c κs =
     let f = c .before .before .before in
     let p = f .before in
     let s = p .before .before .before .before .before .before .before .before .before .before .before in
-    let i = turnInput (s .args .rows .now) (s .args .pos .now) (s .args .osp .now) (s .args .plan .now) (s .args .state .now) (s .args .given) (s .args .quantum) (s .args .threshold .now) (s .args .output .now) in
+    let i = turnInput (s .args .rows .now) (s .args .pos .now) (s .args .osp .now) (s .args .plan .now) (s .args .state .now) (s .args .given)
+    (s .args .quantum) (s .args .threshold .now) (s .args .output .now) in
     let a = accepted i (turn-passes i (sym (p .prepare .ensures .0) ∙ f .if1 .left)) in
     (a .right, (p .prepare .ensures .1 (f .if1 .left) .1, runnable i a))
 
@@ -39,7 +41,8 @@ finish-requires c κs =
     let f = r .before .before .before .before in
     let p = f .before in
     let s = p .before .before .before .before .before .before .before .before .before .before .before in
-    let i = turnInput (s .args .rows .now) (s .args .pos .now) (s .args .osp .now) (s .args .plan .now) (s .args .state .now) (s .args .given) (s .args .quantum) (s .args .threshold .now) (s .args .output .now) in
+    let i = turnInput (s .args .rows .now) (s .args .pos .now) (s .args .osp .now) (s .args .plan .now) (s .args .state .now) (s .args .given)
+    (s .args .quantum) (s .args .threshold .now) (s .args .output .now) in
     (accepted i (turn-passes i (sym (p .prepare .ensures .0) ∙ f .if1 .left)) .state-room, r .run .ensures .storable)
 
 same-length-3 : tie.Need-same-length-3
@@ -55,7 +58,8 @@ returns-2 c =
     let f = r .before .before .before .before in
     let p = f .before in
     let s = p .before .before .before .before .before .before .before .before .before .before .before in
-    let i = turnInput (s .args .rows .now) (s .args .pos .now) (s .args .osp .now) (s .args .plan .now) (s .args .state .now) (s .args .given) (s .args .quantum) (s .args .threshold .now) (s .args .output .now) in
+    let i = turnInput (s .args .rows .now) (s .args .pos .now) (s .args .osp .now) (s .args .plan .now) (s .args .state .now) (s .args .given)
+    (s .args .quantum) (s .args .threshold .now) (s .args .output .now) in
     let a = serves i (turn-passes i (sym (p .prepare .ensures .0) ∙ f .if1 .left)) (stateOf (p .prepare .result .from)) (p .prepare .ensures .1 (f .if1 .left) .0)
     (r .run .result) (r .run .last .1 .1 .1 .1 .1 .1 .1 .1 .0) (r .run .ensures) in
     rw (n .finish .ensures .0, n .finish .ensures .1) a

@@ -40,7 +40,8 @@ kinds-right-requires c κs = let s = sized c in omega arith
 returns-2 : tie.Need-returns-2
 returns-2 c =
     let s = c .before .before .before .before .before .before .before in
-    sym (kinds-first (lent s) (lengths (c .before .before)) (sym (kinds-alone (s .args .rows .now) (s .args .pos .now) (s .args .osp .now)) ∙ sym (c .before .kinds-right .ensures) ∙ not-true _ (c .if2 .taken)))
+    sym (kinds-first (lent s) (lengths (c .before .before)) (sym (kinds-alone (s .args .rows .now) (s .args .pos .now) (s .args .osp .now))
+    ∙ sym (c .before .kinds-right .ensures) ∙ not-true _ (c .if2 .taken)))
 
 returns-3 : tie.Need-returns-3
 returns-3 c =

@@ -52,7 +52,8 @@ row-right-requires c κs = tt
 returns : tie.Need-returns Inv-loop μ-loop
 returns c =
     let l = c .before .before .before .before .before .before in
-    sym (kinds-fault (l .before .before .args .rows .now) (l .loop .at) (l .loop .inv .0) (omega arith) (sym (c .before .row-right .ensures) ∙ not-true _ (c .if1 .taken)))
+    sym (kinds-fault (l .before .before .args .rows .now) (l .loop .at) (l .loop .inv .0) (omega arith)
+    (sym (c .before .row-right .ensures) ∙ not-true _ (c .if1 .taken)))
 
 add-at : tie.Need-add-at Inv-loop μ-loop
 add-at c = omega arith
@@ -62,8 +63,12 @@ loop-less c = omega arith
 
 loop-again : tie.Need-loop-again Inv-loop μ-loop
 loop-again c =
-    let l = c .before .before .before .before .before .before in
-    (omega arith, omega arith, kinds-next (l .before .before .args .rows .now) (l .loop .at) (l .loop .inv .0) (l .loop .inv .2) (sym (c .before .row-right .ensures) ∙ not-false _ (c .if1 .left)))
+    let l = c .before .before .before .before .before .before in (
+      omega arith,
+      omega arith,
+      kinds-next (l .before .before .args .rows .now) (l .loop .at) (l .loop .inv .0) (l .loop .inv .2)
+          (sym (c .before .row-right .ensures) ∙ not-false _ (c .if1 .left)),
+    )
 
 returns-2 : tie.Need-returns-2 Inv-loop μ-loop
 returns-2 c =

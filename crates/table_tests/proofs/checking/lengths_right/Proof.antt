@@ -20,13 +20,21 @@ returns-3 : tie.Need-returns-3
 unfolding lengthsRight
 returns-3 c =
     let a = c .before .before .before .args in
-    rw (eq-eqb (length (a .rows .now) % columnCount) 0 (c .before .before .if1 .left), eq-eqb (length (a .pos .now)) (length (a .rows .now) / columnCount) (c .before .if2 .left), ne-eqb (length (a .osp .now)) (length (a .rows .now) / columnCount) (c .if3 .taken))
+    rw (
+      eq-eqb (length (a .rows .now) % columnCount) 0 (c .before .before .if1 .left),
+      eq-eqb (length (a .pos .now)) (length (a .rows .now) / columnCount) (c .before .if2 .left),
+      ne-eqb (length (a .osp .now)) (length (a .rows .now) / columnCount) (c .if3 .taken),
+    )
 
 returns-4 : tie.Need-returns-4
 unfolding lengthsRight
 returns-4 c =
     let a = c .before .before .before .args in
-    rw (eq-eqb (length (a .rows .now) % columnCount) 0 (c .before .before .if1 .left), eq-eqb (length (a .pos .now)) (length (a .rows .now) / columnCount) (c .before .if2 .left), eq-eqb (length (a .osp .now)) (length (a .rows .now) / columnCount) (c .if3 .left))
+    rw (
+      eq-eqb (length (a .rows .now) % columnCount) 0 (c .before .before .if1 .left),
+      eq-eqb (length (a .pos .now)) (length (a .rows .now) / columnCount) (c .before .if2 .left),
+      eq-eqb (length (a .osp .now)) (length (a .rows .now) / columnCount) (c .if3 .left),
+    )
 
 pub lengths-right-spec : {M : Type 1} → statement M
 lengths-right-spec = tie.close (tie.spec returns returns-2 returns-3 returns-4)

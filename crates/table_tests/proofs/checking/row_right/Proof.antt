@@ -20,7 +20,10 @@ kind-requires-2 c κs = search needs
 returns-2 : tie.Need-returns-2
 returns-2 c =
     let a = c .before .before .before .before .args in
-    rw (eq-eqb (termKind (a .s)) nameKind (sym (c .before .before .before .kind .ensures) ∙ c .before .before .if1 .left), ne-eqb (termKind (a .p)) nameKind (λ e. c .if2 .taken (c .before .kind2 .ensures ∙ e)))
+    rw (
+      eq-eqb (termKind (a .s)) nameKind (sym (c .before .before .before .kind .ensures) ∙ c .before .before .if1 .left),
+      ne-eqb (termKind (a .p)) nameKind (λ e. c .if2 .taken (c .before .kind2 .ensures ∙ e)),
+    )
 
 kind-requires-3 : tie.Need-kind-requires-3
 kind-requires-3 c κs = search needs
@@ -28,7 +31,11 @@ kind-requires-3 c κs = search needs
 returns-3 : tie.Need-returns-3
 returns-3 c =
     let a = c .before .before .before .before .before .args in
-    rw (eq-eqb (termKind (a .s)) nameKind (sym (c .before .before .before .before .kind .ensures) ∙ c .before .before .before .if1 .left), eq-eqb (termKind (a .p)) nameKind (sym (c .before .before .kind2 .ensures) ∙ c .before .if2 .left), c .kind3 .ensures)
+    rw (
+      eq-eqb (termKind (a .s)) nameKind (sym (c .before .before .before .before .kind .ensures) ∙ c .before .before .before .if1 .left),
+      eq-eqb (termKind (a .p)) nameKind (sym (c .before .before .kind2 .ensures) ∙ c .before .if2 .left),
+      c .kind3 .ensures,
+    )
 
 pub row-right-spec : {M : Type 1} → statement M
 row-right-spec =

@@ -47,7 +47,8 @@ start l = l .before .before .before .before
 abbrev lent : tie.At-orders Inv-columns μ-columns Inv-places μ-places Inv-orders μ-orders → Tables
 lent l = tablesOf (start l .args .rows .now) (start l .args .pos .now) (start l .args .osp .now)
 
-abbrev walked : tie.At-places Inv-columns μ-columns Inv-places μ-places Inv-orders μ-orders → tie.After-order-at Inv-columns μ-columns Inv-places μ-places Inv-orders μ-orders
+abbrev walked : tie.At-places Inv-columns μ-columns Inv-places μ-places Inv-orders μ-orders → tie.After-order-at Inv-columns μ-columns Inv-places
+    μ-places Inv-orders μ-orders
 walked l = l .before .before .before .before .before
 
 abbrev order : tie.At-places Inv-columns μ-columns Inv-places μ-places Inv-orders μ-orders → Order
@@ -56,7 +57,8 @@ order l = walked l .order-at .result
 abbrev tables : tie.At-places Inv-columns μ-columns Inv-places μ-places Inv-orders μ-orders → Tables
 tables l = lent (walked l .before .before)
 
-abbrev reading : tie.At-columns Inv-columns μ-columns Inv-places μ-places Inv-orders μ-orders → tie.After-read2 Inv-columns μ-columns Inv-places μ-places Inv-orders μ-orders
+abbrev reading : tie.At-columns Inv-columns μ-columns Inv-places μ-places Inv-orders μ-orders → tie.After-read2 Inv-columns μ-columns Inv-places
+    μ-places Inv-orders μ-orders
 reading c = c .before .before .before .before
 
 abbrev places : tie.At-columns Inv-columns μ-columns Inv-places μ-places Inv-orders μ-orders → tie.At-places Inv-columns μ-columns Inv-places μ-places Inv-orders μ-orders
@@ -76,7 +78,8 @@ below c = omega (arith, start (walked (c .before) .before .before) .pre .0 .pos-
 next-named : (c : tie.After-next Inv-columns μ-columns Inv-places μ-places Inv-orders μ-orders) → c .before .before .before .read2 .result .named ≡ true
 next-named c = not-false _ (c .before .if2 .left)
 
-next-is : (c : tie.At-columns Inv-columns μ-columns Inv-places μ-places Inv-orders μ-orders) → next c ≡ fieldsAt (order (places c)) (tables (places c)) (places c .places .place)
+next-is : (c : tie.At-columns Inv-columns μ-columns Inv-places μ-places Inv-orders μ-orders)
+    → next c ≡ fieldsAt (order (places c)) (tables (places c)) (places c .places .place)
 next-is c =
     let l = places c in
     read-fields (tables l) (order l) (l .places .place) (reading c .read2 .result) (reading c .read2 .ensures) (next-named (c .before))
@@ -97,7 +100,8 @@ next-long : (c : tie.At-columns Inv-columns μ-columns Inv-places μ-places Inv-
 next-long c = omega (arith, c .columns .inv .0, next-length c)
 
 -- what the columns from here on say of the two rows
-rows-say : (c : tie.At-columns Inv-columns μ-columns Inv-places μ-places Inv-orders μ-orders) (b : Bool) → lexBefore (drop (c .columns .column) (last c)) (drop (c .columns .column) (next c)) ≡ b
+rows-say : (c : tie.At-columns Inv-columns μ-columns Inv-places μ-places Inv-orders μ-orders) (b : Bool)
+    → lexBefore (drop (c .columns .column) (last c)) (drop (c .columns .column) (next c)) ≡ b
     → let l = places c in
     lexBefore (fieldsAt (order l) (tables l) (l .places .place - 1)) (fieldsAt (order l) (tables l) (l .places .place)) ≡ b
 rows-say c b e = sym (ap₂ lexBefore (places c .places .inv .2) (next-is c)) ∙ c .columns .inv .1 ∙ e
@@ -118,7 +122,8 @@ stops c e =
     let l = c .before .before in
     sym (orders-fault (lent l) (l .orders .turn) (l .orders .inv) (omega arith) (rw (c .order-at .ensures) at e))
 
-descends : (c : tie.At-columns Inv-columns μ-columns Inv-places μ-places Inv-orders μ-orders) → lexBefore (drop (c .columns .column) (last c)) (drop (c .columns .column) (next c)) ≡ false
+descends : (c : tie.At-columns Inv-columns μ-columns Inv-places μ-places Inv-orders μ-orders)
+    → lexBefore (drop (c .columns .column) (last c)) (drop (c .columns .column) (next c)) ≡ false
     → let l = walked (places c) .before .before in
     l .orders .turn ≡ rightOrders (lent l)
 descends c e =
@@ -146,8 +151,12 @@ places-holds c =
     let r = c .before .before .before in
     let a = r .before in
     let t = lent (a .before .before) in
-    let n : r .read .result .named ≡ true = not-false _ (c .before .if1 .left) in
-    (omega arith, omega arith, read-fields t (a .order-at .result) 0 (r .read .result) (r .read .ensures) n, upto-first t (a .order-at .result) (read-row t (a .order-at .result) 0 (r .read .result) (r .read .ensures) n))
+    let n : r .read .result .named ≡ true = not-false _ (c .before .if1 .left) in (
+      omega arith,
+      omega arith,
+      read-fields t (a .order-at .result) 0 (r .read .result) (r .read .ensures) n,
+      upto-first t (a .order-at .result) (read-row t (a .order-at .result) 0 (r .read .result) (r .read .ensures) n),
+    )
 
 read-requires-2 : tie.Need-read-requires-2 Inv-columns μ-columns Inv-places μ-places Inv-orders μ-orders
 read-requires-2 c κs = (start (walked (c .before) .before .before) .pre .0, below c)
@@ -186,8 +195,13 @@ places-again c =
     let r = reading d in
     let back : p + 1 - 1 ≡ p = omega arith in
     let row = read-row (tables l) (order l) p (r .read2 .result) (r .read2 .ensures) (next-named (d .before)) in
-    let up = from-less (last d) (next d) (d .columns .column) (last-long d) (next-long d) (omega (arith, c .before .before .part .ensures, c .before .part2 .ensures, c .if3 .taken)) in
-    (omega arith, omega (arith, r .before .places-test .taken), rw back (next-is d), upto-next (tables l) (order l) p (l .places .inv .0) (l .places .inv .3) row (rows-say d true up))
+    let up = from-less (last d) (next d) (d .columns .column) (last-long d) (next-long d)
+    (omega (arith, c .before .before .part .ensures, c .before .part2 .ensures, c .if3 .taken)) in (
+      omega arith,
+      omega (arith, r .before .places-test .taken),
+      rw back (next-is d),
+      upto-next (tables l) (order l) p (l .places .inv .0) (l .places .inv .3) row (rows-say d true up),
+    )
 
 add-turn : tie.Need-add-turn Inv-columns μ-columns Inv-places μ-places Inv-orders μ-orders
 add-turn c = omega arith
@@ -200,7 +214,8 @@ orders-again c =
     let l = c .before in
     let d = walked l .before .before in
     let whole : l .places .place ≡ rowCount (tables l) = omega (arith, start d .pre .0 .pos-length, l .places .inv .1, c .places-test .left) in
-    orders-next (lent d) (d .orders .turn) (d .orders .inv) (omega (arith, walked l .before .orders-test .taken)) (rw (← walked l .order-at .ensures) (rw whole at (l .places .inv .3)))
+    orders-next (lent d) (d .orders .turn) (d .orders .inv) (omega (arith, walked l .before .orders-test .taken))
+    (rw (← walked l .order-at .ensures) (rw whole at (l .places .inv .3)))
 
 returns : tie.Need-returns Inv-columns μ-columns Inv-places μ-places Inv-orders μ-orders
 returns c =
@@ -212,13 +227,15 @@ returns-2 c =
     let r = c .before .before in
     let a = r .before in
     let t = lent (a .before .before) in
-    stops a (unnamed-fault t (a .order-at .result) 0 (omega arith) (read-none t (a .order-at .result) 0 (r .read .result) (r .read .ensures) (not-true _ (c .if1 .taken))))
+    stops a (unnamed-fault t (a .order-at .result) 0 (omega arith)
+    (read-none t (a .order-at .result) 0 (r .read .result) (r .read .ensures) (not-true _ (c .if1 .taken))))
 
 returns-3 : tie.Need-returns-3 Inv-columns μ-columns Inv-places μ-places Inv-orders μ-orders
 returns-3 c =
     let r = c .before .before in
     let l = r .before .before in
-    stops (walked l) (unnamed-fault (tables l) (order l) (l .places .place) (below (r .before)) (read-none (tables l) (order l) (l .places .place) (r .read2 .result) (r .read2 .ensures) (not-true _ (c .if2 .taken))))
+    stops (walked l) (unnamed-fault (tables l) (order l) (l .places .place) (below (r .before))
+    (read-none (tables l) (order l) (l .places .place) (r .read2 .result) (r .read2 .ensures) (not-true _ (c .if2 .taken))))
 
 returns-4 : tie.Need-returns-4 Inv-columns μ-columns Inv-places μ-places Inv-orders μ-orders
 returns-4 c =
@@ -230,7 +247,8 @@ returns-5 : tie.Need-returns-5 Inv-columns μ-columns Inv-places μ-places Inv-o
 returns-5 c =
     let b = c .before .before .before in
     let d = b .before .before in
-    descends d (same-so-far b (omega (arith, c .before .before .if3 .left, c .before .if4 .left)) ∙ from-end (last d) (next d) (d .columns .column + 1) (omega (arith, next-length d, c .if5 .taken)))
+    descends d (same-so-far b (omega (arith, c .before .before .if3 .left, c .before .if4 .left)) ∙ from-end (last d) (next d)
+    (d .columns .column + 1) (omega (arith, next-length d, c .if5 .taken)))
 
 pub walk-spec : {M : Type 1} → statement M
 walk-spec =

@@ -20,8 +20,11 @@ returns c =
     let s = c .before .before .before .before .before .before .before .before in
     let t = tablesOf (s .args .rows .now) (s .args .pos .now) (s .args .osp .now) in
     let q = planOf (s .args .plan .now) in
-    let ws = take (s .args .given) (s .args .state .now) in
-    (c .refused .ensures ∙ not-given (s .args .given) (length (s .args .state .now)) (shapeRight q ws) (placesRight t q ws) (thresholdRight (q .ending) (s .args .threshold .now)) (c .before .if1 .taken), λ z. absurd (omega arith))
+    let ws = take (s .args .given) (s .args .state .now) in (
+      c .refused .ensures ∙ not-given (s .args .given) (length (s .args .state .now)) (shapeRight q ws) (placesRight t q ws)
+          (thresholdRight (q .ending) (s .args .threshold .now)) (c .before .if1 .taken),
+      λ z. absurd (omega arith),
+    )
 
 slice-aggregate-load : tie.Need-slice-aggregate-load
 slice-aggregate-load c =
@@ -37,8 +40,11 @@ returns-2 c =
     let s = l .before .before .before .before .before .before .before .before .before .before in
     let t = tablesOf (s .args .rows .now) (s .args .pos .now) (s .args .osp .now) in
     let q = planOf (s .args .plan .now) in
-    let ws = take (s .args .given) (s .args .state .now) in
-    (state-fails (s .args .given) (length (s .args .state .now)) (shapeRight q ws) (placesRight t q ws) (thresholdRight (q .ending) (s .args .threshold .now)) (l .before .before .before .if1 .left) _ (l .load .ensures .0) (c .if2 .taken), l .load .ensures .1)
+    let ws = take (s .args .given) (s .args .state .now) in (
+      state-fails (s .args .given) (length (s .args .state .now)) (shapeRight q ws) (placesRight t q ws)
+          (thresholdRight (q .ending) (s .args .threshold .now)) (l .before .before .before .if1 .left) _ (l .load .ensures .0) (c .if2 .taken),
+      l .load .ensures .1,
+    )
 
 ending-part-requires : tie.Need-ending-part-requires
 ending-part-requires c κs = search needs
@@ -54,7 +60,8 @@ returns-3 c =
     let t = tablesOf (s .args .rows .now) (s .args .pos .now) (s .args .osp .now) in
     let q = planOf (s .args .plan .now) in
     let ws = take (s .args .given) (s .args .state .now) in (
-      threshold-passes (s .args .given) (length (s .args .state .now)) (shapeRight q ws) (placesRight t q ws) (thresholdRight (q .ending) (s .args .threshold .now)) (l .before .before .before .if1 .left) _ (l .load .ensures .0) (p .before .if2 .left)
+      threshold-passes (s .args .given) (length (s .args .state .now)) (shapeRight q ws) (placesRight t q ws)
+          (thresholdRight (q .ending) (s .args .threshold .now)) (l .before .before .before .if1 .left) _ (l .load .ensures .0) (p .before .if2 .left)
           (c .before .threshold-right .result) (rw (p .ending-part .ensures .1) at (c .before .threshold-right .ensures)) (c .if3 .taken),
       l .load .ensures .1,
     )
@@ -71,7 +78,8 @@ returns-4 c =
     let t = tablesOf (s .args .rows .now) (s .args .pos .now) (s .args .osp .now) in
     let q = planOf (s .args .plan .now) in
     let ws = take (s .args .given) (s .args .state .now) in (
-      c .refused2 .ensures ∙ threshold-fails (s .args .given) (length (s .args .state .now)) (shapeRight q ws) (placesRight t q ws) (thresholdRight (q .ending) (s .args .threshold .now)) (l .before .before .before .if1 .left) _ (l .load .ensures .0) (p .before .if2 .left)
+      c .refused2 .ensures ∙ threshold-fails (s .args .given) (length (s .args .state .now)) (shapeRight q ws) (placesRight t q ws)
+          (thresholdRight (q .ending) (s .args .threshold .now)) (l .before .before .before .if1 .left) _ (l .load .ensures .0) (p .before .if2 .left)
           (r .threshold-right .result) (rw (p .ending-part .ensures .1) at (r .threshold-right .ensures)) (c .before .if3 .left),
       λ z. absurd (omega arith),
     )

@@ -38,7 +38,8 @@ returns : tie.Need-returns
 returns c =
     let k = c .before .before .before .before in
     let s = k .before .before .before in
-    threshold-top (endingAt (s .args .ending .now)) (s .args .threshold .now) (c .best-threshold .result) (c .before .variables .result .now) (c .before .variables .ensures)
+    threshold-top (endingAt (s .args .ending .now)) (s .args .threshold .now) (c .best-threshold .result) (c .before .variables .result .now)
+    (c .before .variables .ensures)
     (sym (k .ending-kind .ensures) ∙ c .before .before .enum-told .given .1) (c .best-threshold .ensures)
 
 returns-2 : tie.Need-returns-2
