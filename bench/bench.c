@@ -1,6 +1,7 @@
-/* Times the proved engine, the same step machine in C and SQLite on one wood, in turns, and prints the best time of each in
- * nanoseconds, a line a measure: name, steps, engine, C, SQLite ('-': it has nothing like it). The engine's and the C machine's steps and
- * lists are compared word by word; SQLite's rows by their number, and but for ties in a best-of list by the sum of their fields. */
+/* Times the proved engine, the same step machine in C, the portable engine and SQLite on one wood, in turns, and prints the best time of
+ * each in nanoseconds, a line a measure: name, steps, engine, C, SQLite, portable ('-': it has nothing like it, or is not there). The
+ * engines' and the C machine's steps and lists are compared word by word; SQLite's rows by their number, and but for ties in a best-of
+ * list by the sum of their fields. Compiled with -DPORTABLE_THERE it takes the portable engine's calls by names of their own. */
 #include "sotjarn.h"
 #include "step_machine.h"
 
@@ -159,9 +160,29 @@ static struct query pairs = {
     "",
     {W(1, 1), W(2, 3), V(0), N(12), V(1), V(2), N(12), V(1), V(2), N(10), V(3), W(3, 0), W(12, 1), V(3), V(1)}, 15};
 
-/* ---- measures: each is one piece of work by one of three, and answers its time */
+/* ---- measures: each is one piece of work by one of four, and answers its time */
 
-enum who { ENGINE, PEER, SQLITE };
+enum who { ENGINE, PEER, PORTABLE, SQLITE, ALL };
+
+#ifdef PORTABLE_THERE
+enum { WITH_PORTABLE = 1 };
+__typeof__(sotjarn_open) portable_open;
+__typeof__(sotjarn_turn) portable_turn;
+__typeof__(sotjarn_merge) portable_merge;
+#else
+enum { WITH_PORTABLE = 0 };
+#define portable_open 0
+#define portable_turn 0
+#define portable_merge 0
+#endif
+
+/* The calls of those that have them. */
+static const struct {
+    __typeof__(sotjarn_open) *open;
+    __typeof__(sotjarn_turn) *turn;
+    __typeof__(sotjarn_merge) *merge;
+} calls[SQLITE] = {
+    {sotjarn_open, sotjarn_turn, sotjarn_merge}, {c_open, c_turn, c_merge}, {portable_open, portable_turn, portable_merge}};
 
 #define TABLES rows, 3 * COUNT, pos, COUNT, osp, COUNT
 
@@ -170,12 +191,12 @@ struct result {
     uint32_t output[OUTPUT];
 };
 
-static struct result results[2];
+static struct result results[SQLITE];
 static uint64_t found, sum; /* by SQLite */
 
 static struct sotjarn_written open_by(enum who w, const struct query *q, uint32_t *state)
 {
-    return (w == ENGINE ? sotjarn_open : c_open)(TABLES, q->plan, q->words, state, 9);
+    return calls[w].open(TABLES, q->plan, q->words, state, 9);
 }
 
 /* the check alone: the engine refuses a plan of one word 0 after it has checked the tables */
@@ -188,7 +209,7 @@ static double time_check(enum who w, const struct query *q, uint32_t quantum)
         found = run_sql("pragma integrity_check", 1, &sum);
         return now() - t;
     }
-    refused = w == ENGINE ? sotjarn_open(TABLES, zero, 1, zero, 9).refused : c_check(TABLES) + 5;
+    refused = w == PEER ? c_check(TABLES) + 5 : calls[w].open(TABLES, zero, 1, zero, 9).refused;
     t = now() - t;
     if (refused != 5)
         fail("the tables are not accepted");
@@ -215,7 +236,7 @@ static double time_open(enum who w, const struct query *q, uint32_t quantum)
 static double time_turn(enum who w, const struct query *q, uint32_t quantum)
 {
     uint32_t state[9];
-    struct result *r = &results[w == PEER];
+    struct result *r = &results[w == SQLITE ? ENGINE : w];
     size_t words;
     double t;
     if (w == SQLITE) {
@@ -228,7 +249,7 @@ static double time_turn(enum who w, const struct query *q, uint32_t quantum)
     }
     words = open_by(w, q, state).words;
     t = now();
-    r->turned = (w == ENGINE ? sotjarn_turn : c_turn)(TABLES, q->plan, q->words, state, 9, words, quantum, state, 0, r->output, OUTPUT);
+    r->turned = calls[w].turn(TABLES, q->plan, q->words, state, 9, words, quantum, state, 0, r->output, OUTPUT);
     t = now() - t;
     if (r->turned.ending == SOTJARN_REFUSED)
         fail("a turn is refused");
@@ -257,7 +278,7 @@ static double time_pairs(enum who w, const struct query *q, uint32_t quantum)
 
 /* ---- merging: a kept list and a turn's list */
 
-static uint32_t best_a[3 * BEST], best_b[3 * BEST], groups_a[9 * GROUPS], groups_b[9 * GROUPS], kept[2][18 * GROUPS];
+static uint32_t best_a[3 * BEST], best_b[3 * BEST], groups_a[9 * GROUPS], groups_b[9 * GROUPS], kept[SQLITE][18 * GROUPS];
 
 static struct query best_merge = {"", "", {PAIR, W(3, 0), W(9, BEST), W(8, 3), V(0), V(1), V(2), W(11, 2)}, 15};
 
@@ -318,7 +339,7 @@ static double time_merge_best(enum who w, const struct query *q, uint32_t quantu
     }
     for (int i = 0; i < REPEATS; i++) {
         memcpy(kept[w], best_a, sizeof best_a);
-        r = (w == ENGINE ? sotjarn_merge : c_merge)(q->plan, q->words, kept[w], 18 * GROUPS, 3 * BEST, best_b, 3 * BEST);
+        r = calls[w].merge(q->plan, q->words, kept[w], 18 * GROUPS, 3 * BEST, best_b, 3 * BEST);
     }
     t = (now() - t) / REPEATS;
     if (r.refused || r.words != 3 * BEST)
@@ -344,7 +365,7 @@ static double time_merge_groups(enum who w, const struct query *q, uint32_t quan
     }
     memcpy(kept[w], groups_a, sizeof groups_a);
     t = now();
-    r = (w == ENGINE ? sotjarn_merge : c_merge)(q->plan, q->words, kept[w], 18 * GROUPS, 9 * GROUPS, groups_b, 9 * GROUPS);
+    r = calls[w].merge(q->plan, q->words, kept[w], 18 * GROUPS, 9 * GROUPS, groups_b, 9 * GROUPS);
     t = now() - t;
     if (r.refused || r.words != 9 * (GROUPS + GROUPS / 2))
         fail("a merge of groups is refused");
@@ -355,11 +376,18 @@ static double time_merge_groups(enum who w, const struct query *q, uint32_t quan
 
 typedef double (*timer)(enum who, const struct query *, uint32_t);
 
-static void same(const struct result *a, const struct result *b)
+static void same_as(const struct result *a, const struct result *b, const char *what)
 {
     if (a->turned.steps != b->turned.steps || a->turned.ending != b->turned.ending || a->turned.list_words != b->turned.list_words ||
         memcmp(a->output, b->output, a->turned.list_words * sizeof *a->output))
-        fail("the engine and the C machine differ");
+        fail(what);
+}
+
+static void same(void)
+{
+    same_as(&results[ENGINE], &results[PEER], "the engine and the C machine differ");
+    if (WITH_PORTABLE)
+        same_as(&results[ENGINE], &results[PORTABLE], "the proved and the portable engine differ");
 }
 
 /* the sum of the fields of a turn's list, as SQLite has them: there a number has its kind, in sums too */
@@ -376,8 +404,10 @@ static uint64_t fields(const struct result *r, size_t g)
 static void same_merged(size_t words)
 {
     uint64_t all = 0;
-    if (memcmp(kept[0], kept[1], words * sizeof **kept))
+    if (memcmp(kept[ENGINE], kept[PEER], words * sizeof **kept))
         fail("the engine and the C machine merge differently");
+    if (WITH_PORTABLE && memcmp(kept[ENGINE], kept[PORTABLE], words * sizeof **kept))
+        fail("the proved and the portable engine merge differently");
     for (size_t i = 0; i < words; i++)
         all += kept[0][i];
     if (all != sum)
@@ -386,15 +416,21 @@ static void same_merged(size_t words)
 
 static void measure(const char *name, timer f, const struct query *q, uint32_t quantum)
 {
-    double best[3] = {1e18, 1e18, 1e18}, start = now();
+    double best[ALL] = {1e18, 1e18, 1e18, 1e18}, start = now();
     int least = seconds > 0 ? 12 : 1;
     for (int round = 0; round < least || (now() - start < seconds * 1e9 && round < 2000); round++)
-        for (int i = 0; i < 6; i++) { /* each twice, so that the second finds its own words in the caches */
-            double t = f((enum who)(i / 2), q, quantum);
-            if (t < best[i / 2])
-                best[i / 2] = t;
+        for (int i = 0; i < 2 * ALL; i++) { /* each twice, so that the second finds its own words in the caches */
+            enum who w = (enum who)(i / 2);
+            double t = w == PORTABLE && !WITH_PORTABLE ? best[w] : f(w, q, quantum);
+            if (t < best[w])
+                best[w] = t;
         }
-    printf("%s\t%u\t%.0f\t%.0f\t%.0f\n", name, f == time_turn || f == time_pairs ? results[0].turned.steps : 0, best[0], best[1], best[2]);
+    printf("%s\t%u\t%.0f\t%.0f\t%.0f\t", name, f == time_turn || f == time_pairs ? results[0].turned.steps : 0, best[ENGINE], best[PEER],
+           best[SQLITE]);
+    if (WITH_PORTABLE)
+        printf("%.0f\n", best[PORTABLE]);
+    else
+        printf("-\n");
     fflush(stdout);
 }
 
@@ -402,7 +438,7 @@ static void measure_turn(const char *name, const struct query *q, uint32_t quant
 {
     timer f = q == &pairs ? time_pairs : time_turn;
     measure(name, f, q, quantum);
-    same(&results[0], &results[1]);
+    same();
     if (found != expected)
         fail("SQLite finds another number of rows");
     if (q != &top && quantum != 1 && sum != fields(&results[0], q == &groups || q == &pairs ? 1 : 0))
@@ -420,7 +456,7 @@ static void measure_early(void)
         if (t < best)
             best = t;
     }
-    printf("top 10, SQLite by its index\t0\t-\t-\t%.0f\n", best);
+    printf("top 10, SQLite by its index\t0\t-\t-\t%.0f\t-\n", best);
 }
 
 int main(int count, char **words)

@@ -12,10 +12,10 @@ def number(text):
 
 
 def read(path):
-    """A list of (name, steps, engine, C, SQLite), in nanoseconds, None where there is nothing."""
+    """A list of (name, steps, engine, C, SQLite, portable), in nanoseconds, None where there is nothing."""
     with open(path) as f:
         lines = [line.rstrip('\n').split('\t') for line in f]
-    return [(name, int(steps), number(e), number(c), number(s)) for name, steps, e, c, s in lines]
+    return [(name, int(steps), *map(number, times)) for name, steps, *times in lines]
 
 
 def span(ns):
@@ -37,15 +37,16 @@ def a_step(ns, one, steps):
 
 def table(found):
     one = next(m for m in found if m[0] == ONE)
-    lines = ['| measure | steps | Sotjarn | C -O2 | SQLite | Sotjarn / C | SQLite / Sotjarn | ns a step: Sotjarn, C | steps alone / C |',
-             '|---|---|---|---|---|---|---|---|---|']
-    for name, steps, e, c, s in found:
+    lines = ['| measure | steps | Sotjarn | C -O2 | SQLite | Sotjarn / C | SQLite / Sotjarn | ns a step: Sotjarn, C | steps alone / C '
+             '| portable | portable / Sotjarn |',
+             '|---|---|---|---|---|---|---|---|---|---|---|']
+    for name, steps, e, c, s, p in found:
         each = alone = '–'
         if steps >= 1000:
             a, b = a_step(e, one[2], steps), a_step(c, one[3], steps)
             each, alone = f'{a:.0f}, {b:.0f}', f'{a / b:.2f}'
         lines.append(f'| {name} | {f"{steps:,}" if steps else "–"} | {span(e)} | {span(c)} | {span(s)} | {ratio(e, c)} | {ratio(s, e)} '
-                     f'| {each} | {alone} |')
+                     f'| {each} | {alone} | {span(p)} | {ratio(p, e)} |')
     return '\n'.join(lines) + '\n'
 
 
@@ -75,7 +76,7 @@ def plot(found):
         out.append(f'<text x="{at:.1f}" y="{bottom + 18}" text-anchor="middle">{10 ** power:g}</text>')
     for value, colour, dash in ((1, '#444', ''), (TARGET, '#b00', ' stroke-dasharray="4 3"')):
         out.append(f'<line x1="{x(value):.1f}" y1="{top}" x2="{x(value):.1f}" y2="{bottom}" stroke="{colour}"{dash}/>')
-    for i, (name, steps, e, c, s) in enumerate(found):
+    for i, (name, steps, e, c, s, _) in enumerate(found):
         y = top + row * i + row / 2
         out.append(f'<text x="{left - 12}" y="{y + 4:.1f}" text-anchor="end">{name}</text>')
         if s is not None:
@@ -92,11 +93,11 @@ def plot(found):
 def missed(found):
     """What does not meet a target, in words."""
     one = next(m for m in found if m[0] == ONE)
-    lines = [f'{name}: {e / c:.2f} times the C step machine' for name, _, e, c, _ in found if e and c and e > TARGET * c]
-    for name, steps, e, c, _ in found:
+    lines = [f'{name}: {e / c:.2f} times the C step machine' for name, _, e, c, _, _ in found if e and c and e > TARGET * c]
+    for name, steps, e, c, _, _ in found:
         if steps >= 1000 and a_step(e, one[2], steps) > TARGET * a_step(c, one[3], steps):
             lines.append(f'{name}: its steps alone are over {TARGET} times those of the C step machine')
-    lines += [f'{name}: SQLite is ahead, {span(s)} against {span(e)}' for name, _, e, _, s in found if e and s and s < e]
+    lines += [f'{name}: SQLite is ahead, {span(s)} against {span(e)}' for name, _, e, _, s, _ in found if e and s and s < e]
     return lines
 
 

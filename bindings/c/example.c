@@ -2,30 +2,27 @@
  * refused call. Each buffer comes from malloc with exactly the words it needs, so that a memory checker sees every word beside it.
  * Compiles as C99 and as C++. Prints what it does; exits with 1 where something is not as the rules say. */
 #include "sotjarn.h"
+#include "sotjarn_words.h"
 
 #include <inttypes.h>
 #include <stdio.h>
 #include <stdlib.h>
 #include <string.h>
 
-/* Terms and plan words. */
-#define NAME(value) ((uint32_t)(value))
-#define NUMBER(value) (UINT32_C(1) << 30 | (uint32_t)(value))
-#define VARIABLE(number) (UINT32_C(3) << 30 | (uint32_t)(number))
-#define PLAN_WORD(kind, count) ((uint32_t)(kind) << 28 | (uint32_t)(count))
-
-enum { HEAD = 1, BRANCH = 2, TRUTH = 3, COMPARISON = 7, ROWS = 8, TOP = 9, FALLING = 11, GROUP = 12 };
-enum { AT_LEAST = 5 };
+/* Terms and plan words, by shorter names. */
+#define NAME SOTJARN_NAME
+#define NUMBER SOTJARN_NUMBER
+#define VARIABLE SOTJARN_VARIABLE
 
 /* The branch that the plans share: ?0 n10 n100, ?0 n12 ?1. */
 #define PATTERNS \
-    PLAN_WORD(HEAD, 1), PLAN_WORD(BRANCH, 2), VARIABLE(0), NAME(10), NAME(100), VARIABLE(0), NAME(12), VARIABLE(1)
+    SOTJARN_HEAD(1), SOTJARN_BRANCH(2), VARIABLE(0), NAME(10), NAME(100), VARIABLE(0), NAME(12), VARIABLE(1)
 
-static const uint32_t plan_rows[] = {PATTERNS, PLAN_WORD(COMPARISON, AT_LEAST), VARIABLE(1), NUMBER(70),
-                                     PLAN_WORD(ROWS, 2), VARIABLE(0), VARIABLE(1)};
-static const uint32_t plan_top[] = {PATTERNS, PLAN_WORD(TRUTH, 0),
-                                    PLAN_WORD(TOP, 1), PLAN_WORD(ROWS, 2), VARIABLE(0), VARIABLE(1), PLAN_WORD(FALLING, 1)};
-static const uint32_t plan_group[] = {PATTERNS, PLAN_WORD(TRUTH, 0), PLAN_WORD(GROUP, 0), VARIABLE(1)};
+static const uint32_t plan_rows[] = {PATTERNS, SOTJARN_COMPARISON(SOTJARN_AT_LEAST), VARIABLE(1), NUMBER(70),
+                                     SOTJARN_ROWS(2), VARIABLE(0), VARIABLE(1)};
+static const uint32_t plan_top[] = {PATTERNS, SOTJARN_TRUE,
+                                    SOTJARN_TOP(1), SOTJARN_ROWS(2), VARIABLE(0), VARIABLE(1), SOTJARN_FALLING(1)};
+static const uint32_t plan_group[] = {PATTERNS, SOTJARN_TRUE, SOTJARN_GROUP(0), VARIABLE(1)};
 
 static const uint32_t wood_rows[] = {
     NAME(1), NAME(10), NAME(100), NAME(1), NAME(12), NUMBER(45),
@@ -112,10 +109,10 @@ static const char *ending_name(uint32_t ending)
 /* A term as n5, i5 or t5; - is unbound. */
 static void print_term(uint32_t word)
 {
-    if (word == VARIABLE(0))
+    if (word == SOTJARN_UNBOUND)
         printf(" -");
     else
-        printf(" %c%" PRIu32, "nit?"[word >> 30], word & UINT32_C(0x3FFFFFFF));
+        printf(" %c%" PRIu32, "nit?"[SOTJARN_TERM_KIND(word)], SOTJARN_TERM_VALUE(word));
 }
 
 static void print_rows(const uint32_t *list, size_t words, size_t width)
@@ -128,17 +125,19 @@ static void print_rows(const uint32_t *list, size_t words, size_t width)
     }
 }
 
-/* Two words as one number, the low word first. */
-static uint64_t wide(const uint32_t *words)
+/* The words that a plan asks of an output. */
+static size_t least_output(const struct query *query)
 {
-    return (uint64_t)words[1] << 32 | words[0];
+    struct sotjarn_written asked = sotjarn_least_output(query->plan.words, query->plan.len);
+    expect(asked.refused == 0, "the plan is accepted");
+    return asked.words;
 }
 
 /* Rows, in turns of four steps: the lists are joined end to end. */
 static void rows_in_turns(void)
 {
     struct query query = make_query(plan_rows, sizeof plan_rows / sizeof *plan_rows);
-    struct buffer state = make_buffer(SOTJARN_STATE_WORDS), output = make_buffer(2 * 64);
+    struct buffer state = make_buffer(SOTJARN_STATE_WORDS), output = make_buffer(64 * least_output(&query));
     struct sotjarn_written opened = open_query(&query, state);
     size_t state_words = opened.words, delivered = 0;
     uint32_t steps = 0, turns = 0;
@@ -187,7 +186,7 @@ static size_t merge_in_turns(const struct query *query, uint32_t quantum, struct
 static void best_of(void)
 {
     struct query query = make_query(plan_top, sizeof plan_top / sizeof *plan_top);
-    struct buffer kept = make_buffer(2);
+    struct buffer kept = make_buffer(least_output(&query));
     size_t words = merge_in_turns(&query, 1, kept, 2);
     expect(words == 2 && kept.words[0] == NAME(2) && kept.words[1] == NUMBER(310), "the first of the largest stems");
     printf("largest:\n");
@@ -200,10 +199,10 @@ static void best_of(void)
 static void totals(void)
 {
     struct query query = make_query(plan_group, sizeof plan_group / sizeof *plan_group);
-    struct buffer kept = make_buffer(8);
+    struct buffer kept = make_buffer(least_output(&query));
     size_t words = merge_in_turns(&query, 3, kept, 0);
-    expect(words == 8 && wide(kept.words) == 3 && wide(kept.words + 4) == 665, "one group of 3 rows, and their sum");
-    printf("group %" PRIu64 " %" PRIu64 " %" PRIu64, wide(kept.words), wide(kept.words + 2), wide(kept.words + 4));
+    expect(words == 8 && sotjarn_wide(kept.words) == 3 && sotjarn_wide(kept.words + 4) == 665, "one group of 3 rows, and their sum");
+    printf("group %" PRIu64 " %" PRIu64 " %" PRIu64, sotjarn_wide(kept.words), sotjarn_wide(kept.words + 2), sotjarn_wide(kept.words + 4));
     print_term(kept.words[6]);
     print_term(kept.words[7]);
     printf("\n");
@@ -211,7 +210,7 @@ static void totals(void)
     free_query(&query);
 }
 
-/* Calls that are refused by number and change nothing: short buffers, tables out of order, a quantum of 0, merged rows. */
+/* Calls that are refused by number and change nothing: short buffers, tables out of order, a quantum of 0, merged rows, part of a plan. */
 static void refusals(void)
 {
     struct query query = make_query(plan_rows, sizeof plan_rows / sizeof *plan_rows);
@@ -219,19 +218,21 @@ static void refusals(void)
     struct sotjarn_turned turned;
     struct sotjarn_written merged;
     memset(short_state.words, 0, short_state.len * sizeof(uint32_t));
-    expect(open_query(&query, short_state).refused == 7, "a state buffer of 8 words is refused by 7");
+    expect(open_query(&query, short_state).refused == SOTJARN_REFUSED_BUFFER_LENGTHS, "a state buffer of 8 words is refused by 7");
     expect(open_query(&query, state).words == 2, "a start state has two words");
     output.words[0] = output.words[1] = 12345;
     turned = run_turn(&query, state, 2, 0, no_words, 0, output);
-    printf("quantum 0: %s by %" PRIu32 "\n", ending_name(turned.ending), turned.refused);
-    expect(turned.refused == 8 && turned.steps == 0 && turned.list_words == 0, "a quantum of 0 is refused by 8");
+    printf("quantum 0: %s by %" PRIu32 ": %s\n", ending_name(turned.ending), turned.refused, sotjarn_refusal_text(turned.refused));
+    expect(turned.refused == SOTJARN_REFUSED_QUANTUM && turned.steps == 0 && turned.list_words == 0, "a quantum of 0 is refused by 8");
     expect(output.words[0] == 12345 && output.words[1] == 12345, "a refused turn writes nothing");
     merged = sotjarn_merge(query.plan.words, query.plan.len, output.words, output.len, 0, no_words, 0);
-    expect(merged.refused == 12, "the lists of a row query are not merged");
+    expect(merged.refused == SOTJARN_REFUSED_MERGED_LISTS, "the lists of a row query are not merged");
     query.pos.words[5] = 3;
     turned = run_turn(&query, state, 2, 10, no_words, 0, output);
     printf("a list ending 3 3: %s by %" PRIu32 "\n", ending_name(turned.ending), turned.refused);
-    expect(turned.refused == 4, "a list ending 3 3 is refused by 4");
+    expect(turned.refused == SOTJARN_REFUSED_ROW_NUMBERS, "a list ending 3 3 is refused by 4");
+    merged = sotjarn_least_output(query.plan.words, query.plan.len - 1);
+    expect(merged.refused == SOTJARN_REFUSED_PLAN_FORM && merged.words == 0, "a plan cut short asks for no output");
     free(state.words);
     free(output.words);
     free(short_state.words);

@@ -1,7 +1,10 @@
-/* Sotjarn's three calls for C and C++: opening a query, one turn of it, and merging a turn's list into a kept one.
+/* Sotjarn's calls for C and C++: opening a query, one turn of it, and merging a turn's list into a kept one; and how long an output has
+ * to be for a plan.
  *
- * Link with libsotjarn.a, which `rt staticlib sotjarn` writes to target/staticlib/. No call allocates, keeps an address, or has a
- * state of its own: calls on different buffers may run at the same time.
+ * Link with libsotjarn.a, the proved library, which `rt staticlib sotjarn` writes to target/staticlib/; or with libsotjarn_portable.a,
+ * the same source without its proofs, which cargo makes in portable/. `make install` installs either. No call allocates, keeps an
+ * address, or has a state of its own: calls on different buffers may run at the same time. sotjarn_words.h has terms, words of plans
+ * and refusals by name.
  *
  * A buffer is its address and its length in 32-bit words. Whatever the words are, a call ends, reads and writes nothing outside its
  * buffers, and refuses faulty input by number; a refused call changes no word. The caller sees to the addresses:
@@ -23,6 +26,9 @@
 extern "C" {
 #endif
 
+/* The version of this header, which is that of the libraries made beside it. */
+#define SOTJARN_VERSION "0.3.0"
+
 /* How a turn ended. */
 enum {
     SOTJARN_DONE = 0,   /* the query has ended; no state is left */
@@ -34,10 +40,10 @@ enum {
 /* The words that a state buffer has at least, and the most steps that a turn may take. */
 enum { SOTJARN_STATE_WORDS = 9, SOTJARN_MOST_STEPS = 1000000 };
 
-/* What opening and merging answer. */
+/* What opening and merging answer, and what a plan asks of an output. */
 struct sotjarn_written {
-    uint32_t refused; /* the number of the first test that failed; 0: written */
-    size_t words;     /* the words written to the buffer, from its front; 0 if refused */
+    uint32_t refused; /* the number of the first test that failed; 0: none */
+    size_t words;     /* the words written to the buffer, from its front, or asked for; 0 if refused */
 };
 
 /* What a turn answers. */
@@ -74,6 +80,10 @@ struct sotjarn_turned sotjarn_turn(const uint32_t *rows, size_t rows_len,
 struct sotjarn_written sotjarn_merge(const uint32_t *plan, size_t plan_len,
                                      uint32_t *kept, size_t kept_len, size_t kept_words,
                                      const uint32_t *list, size_t list_len);
+
+/* The words that test 7 asks of `output` for a plan: one row, k rows or one record. More makes fewer turns where the query ends in rows
+ * or groups: a multiple of one row or record. Writes nothing. Refused by 5 and 6. */
+struct sotjarn_written sotjarn_least_output(const uint32_t *plan, size_t plan_len);
 
 #ifdef __cplusplus
 }

@@ -1,4 +1,4 @@
-//! Finds libsotjarn.a: in the folder that SOTJARN_LIB_DIR names, or else in the repository's target/staticlib.
+//! With the feature `proved`, finds libsotjarn.a: in the folder that SOTJARN_LIB_DIR names, or else in the repository's target/staticlib.
 
 use std::env;
 use std::path::{Path, PathBuf};
@@ -17,6 +17,9 @@ fn folder() -> PathBuf {
 
 fn main() {
     println!("cargo:rerun-if-changed=build.rs");
+    if env::var_os("CARGO_FEATURE_PROVED").is_none() {
+        return;
+    }
     println!("cargo:rerun-if-env-changed={VARIABLE}");
     let folder = folder();
     println!("cargo:rerun-if-changed={}", folder.join(LIBRARY).display());
@@ -28,6 +31,7 @@ fn main() {
         _ => {
             eprintln!("{LIBRARY} is missing: it is not in {}.", folder.display());
             eprintln!("Run `rt staticlib sotjarn` first, at the root of the repository: it writes target/staticlib/{LIBRARY}.");
+            eprintln!("Without the feature `proved` the crate uses the portable engine and needs no library.");
             eprintln!("Where the library stands elsewhere, set {VARIABLE} to its folder.");
             exit(1);
         }

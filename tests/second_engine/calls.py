@@ -116,7 +116,7 @@ class Script:
         if self.plan.kind == GROUP:
             keys = {key for key in pool if self.rng.random() < .7}
             return tuple(w for key in sorted(keys, key=self.right.group_key) for w in [*key, *self.some_totals()])
-        rows = [self.rng.choice(pool) for _ in range(self.rng.randint(0, min(self.right.best_count(self.plan), 6)))]
+        rows = [self.rng.choice(pool) for _ in range(self.rng.randint(0, min(self.right.best_count(self.plan), 12)))]
         return tuple(w for row in sorted(rows, key=lambda row: self.right.sort_key(self.plan, row)) for w in row)
 
     def wild_merge(self):
@@ -238,9 +238,19 @@ class Script:
             return call._replace(threshold=self.nudged(call.threshold, self.rng.choice([variable(1), MOST_WORD, self.some_term()])))
         return self.state_damage(call)
 
+    def overlong(self, words):
+        """A best-of list with its last row again and again, to as many rows as there may be or to one more."""
+        rows = self.right.best_count(self.plan) + self.rng.randrange(2) - len(words) // width(self.plan)
+        return words + words[-width(self.plan):] * rows
+
     def list_damage(self, call):
         field = self.rng.choice(['kept', 'made'])
-        way = self.rng.randrange(5)
+        way = self.rng.randrange(6)
+        if way == 5 and self.plan.kind == TOP and field == 'made':
+            return call._replace(made=self.overlong(call.made))
+        if way == 5 and self.plan.kind == TOP:
+            kept = self.overlong(call.kept[:call.given])
+            return call._replace(kept=kept, given=len(kept))
         if way == 0:
             return call._replace(given=self.rng.choice([0, 1, max(0, call.given - 1), call.given + 1, len(call.kept) + 1]))
         if way == 1:

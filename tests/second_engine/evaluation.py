@@ -1,4 +1,4 @@
-"""What opening, a turn and merging answer, and every buffer at exit: an evaluation of document 01 in Python.
+"""What opening, a turn and merging answer, and every buffer at exit: an evaluation of the rules in Python.
 
 It is written from the rules' text alone and shares no definition with the engine. The uncut run is worked out whole
 (running.py), and a turn is a part of it; a state is accepted when it is among the run's. What the rules say is a method, so

@@ -1,4 +1,4 @@
-"""Tables, states and lists as words: what tests 1 to 4, 9 and 12 of document 01 look at."""
+"""Tables, states and lists as words: what tests 1 to 4, 9 and 12 of the rules (docs/RULES.md, 10) look at."""
 from collections import namedtuple
 
 from plan_reader import width

@@ -4,7 +4,7 @@ from plan_reader import width
 from words import GROUP, NUMBER, ROWS, TOP, UNBOUND, term_kind, term_value, two_words
 
 MOST_TOTAL = (1 << 64) - 1
-DEFAULT_BEST = 64
+DEFAULT_BEST = 10                   # rows of a best-of list whose plan gives no number, k = 0
 
 
 class Lists:

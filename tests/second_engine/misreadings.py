@@ -195,6 +195,15 @@ class ZeroIsNone(Misreading):
         return plan.k
 
 
+class ZeroIsMost(Misreading):
+    """a best-of list of no given number has the most rows, 64"""
+    concerns, endings = 'calls', (TOP,)
+    calls = Turn, Merge
+
+    def best_count(self, plan):
+        return plan.k or 64
+
+
 class LaterPushesOut(Misreading):
     """a later equal row pushes out the kept one"""
     concerns, endings = 'calls', (TOP,)
@@ -394,6 +403,6 @@ def starts_wrong(words):
 ALL_MISREADINGS = [
     NamesOrdered, ErrorIsFalse, LeftErrorDecides, ErrorDecidesOr, ErrorDecidesAnd, KeepsErrors, NumberIsNoText, ErrorIsUnequal,
     RepeatsIgnored, EmptyAtZero, EndTooEarly, SubjectBeforeObject, BoundBefore, BranchDuplicates, AllDuplicates, RawWords,
-    UnboundFirstFalling, TextsBeforeNumbers, ZeroIsNone, LaterPushesOut, TurnFirst, ThresholdNotAfter, LeastFromZero, CarryDropped,
-    SingleFloats, TextsCounted, NoNumberNoRow, UnboundLeftOut, FullTakesStep, FullLosesRow, FullKnownGroup, FullAtOnce,
+    UnboundFirstFalling, TextsBeforeNumbers, ZeroIsNone, ZeroIsMost, LaterPushesOut, TurnFirst, ThresholdNotAfter, LeastFromZero,
+    CarryDropped, SingleFloats, TextsCounted, NoNumberNoRow, UnboundLeftOut, FullTakesStep, FullLosesRow, FullKnownGroup, FullAtOnce,
     DoneTakesStep, SavedEarly, BelowEnd, SixBeforeFive, EqualRowsPass, RefusalWrites]

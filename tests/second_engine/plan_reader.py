@@ -1,4 +1,4 @@
-"""Plans read from their words: tests 5 and 6 of document 01."""
+"""Plans read from their words: tests 5 and 6 of the rules (docs/RULES.md, 10)."""
 from collections import namedtuple
 from functools import lru_cache
 

@@ -1,4 +1,4 @@
-"""Woods and plans to keep, with what Jena says they deliver: the input and the expected output of the program stored_plans.
+"""Woods and plans to keep, with what Jena says they deliver: the input and the expected output of the program trial_plans.
 
 The input is a stream of little-endian words, a block for each wood: the words of the block that follow, the row count, 0, rows,
 POS, OSP, and its plans. A plan is the words of it that follow, its number, 1 where it ends in groups and else 0, the words of a

@@ -1,10 +1,6 @@
-//! The three calls over slices: the only place with unsafe code.
-//!
-//! What the header asks of a caller, slices give: a slice's address is never null, even where its length is 0; it is aligned for
-//! u32; so many words may be read from it; a `&mut` slice may be written and overlaps no other; and nobody writes what is borrowed
-//! while the call runs. The library keeps no address and has no state of its own.
+//! The calls over slices, by the engine that the crate was built with: the portable one or the proved library.
 
-use crate::foreign;
+use crate::engine;
 use crate::refusals::Refusal;
 use crate::tables::Tables;
 
@@ -41,11 +37,11 @@ pub struct Turned {
 /// The refusal of a number that the library gave.
 fn refusal(code: u32) -> Refusal {
     Refusal::from_code(code)
-        .unwrap_or_else(|| panic!("libsotjarn.a refused by {code}, which this crate does not know: they are of different versions"))
+        .unwrap_or_else(|| panic!("the engine refused by {code}, which this crate does not know: they are of different versions"))
 }
 
 /// The answer of a call that writes to one buffer.
-fn written(answer: foreign::Written) -> Result<usize, Refusal> {
+fn written(answer: engine::WrittenNumbers) -> Result<usize, Refusal> {
     match answer.refused {
         0 => Ok(answer.words),
         code => Err(refusal(code)),
@@ -53,19 +49,19 @@ fn written(answer: foreign::Written) -> Result<usize, Refusal> {
 }
 
 /// The answer of a turn.
-fn turned(answer: foreign::Turned) -> Result<Turned, Refusal> {
+fn turned(answer: engine::TurnedNumbers) -> Result<Turned, Refusal> {
     let ending = match answer.ending {
-        foreign::DONE => TurnEnding::Done,
-        foreign::SPENT => TurnEnding::Spent,
-        foreign::FULL => TurnEnding::Full,
-        foreign::REFUSED => return Err(refusal(answer.refused)),
-        other => panic!("libsotjarn.a gave the ending {other}, which this crate does not know: they are of different versions"),
+        engine::DONE => TurnEnding::Done,
+        engine::SPENT => TurnEnding::Spent,
+        engine::FULL => TurnEnding::Full,
+        engine::REFUSED => return Err(refusal(answer.refused)),
+        other => panic!("the engine gave the ending {other}, which this crate does not know: they are of different versions"),
     };
     Ok(Turned {
         steps: answer.steps,
         ending,
-        state_words: answer.state_words,
-        list_words: answer.list_words,
+        state_words: answer.saved,
+        list_words: answer.listed,
     })
 }
 
@@ -84,21 +80,7 @@ fn turned(answer: foreign::Turned) -> Result<Turned, Refusal> {
 /// ```
 pub fn open(tables: Tables, plan: &[u32], state: &mut [u32]) -> Result<usize, Refusal> {
     let Tables { rows, pos, osp } = tables;
-    // Sound: each address and length is a slice's, and `state`, the one that is written, is a `&mut` slice (see the module).
-    written(unsafe {
-        foreign::sotjarn_open(
-            rows.as_ptr(),
-            rows.len(),
-            pos.as_ptr(),
-            pos.len(),
-            osp.as_ptr(),
-            osp.len(),
-            plan.as_ptr(),
-            plan.len(),
-            state.as_mut_ptr(),
-            state.len(),
-        )
-    })
+    written(engine::sotjarn_open(rows, pos, osp, plan, state))
 }
 
 /// Runs at most `quantum` steps from the saved state, which is the first `state_words` words of `state`: those that opening or the
@@ -128,28 +110,17 @@ pub fn turn(
     output: &mut [u32],
 ) -> Result<Turned, Refusal> {
     let Tables { rows, pos, osp } = tables;
-    // Sound: each address and length is a slice's; `state` and `output`, the two that are written, are `&mut` slices, so they
-    // overlap neither each other nor the rest (see the module).
-    turned(unsafe {
-        foreign::sotjarn_turn(
-            rows.as_ptr(),
-            rows.len(),
-            pos.as_ptr(),
-            pos.len(),
-            osp.as_ptr(),
-            osp.len(),
-            plan.as_ptr(),
-            plan.len(),
-            state.as_mut_ptr(),
-            state.len(),
-            state_words,
-            quantum,
-            threshold.as_ptr(),
-            threshold.len(),
-            output.as_mut_ptr(),
-            output.len(),
-        )
-    })
+    turned(engine::sotjarn_turn(
+        rows,
+        pos,
+        osp,
+        plan,
+        state,
+        state_words,
+        quantum,
+        threshold,
+        output,
+    ))
 }
 
 /// Merges a turn's whole list into the kept one, which is the first `kept_words` words of `kept`; none at first. The merged list is
@@ -170,16 +141,22 @@ pub fn turn(
 /// assert_eq!(merge(&plan, &mut kept, 1, &[7, 8]), Err(Refusal::MergedLists));
 /// ```
 pub fn merge(plan: &[u32], kept: &mut [u32], kept_words: usize, list: &[u32]) -> Result<usize, Refusal> {
-    // Sound: each address and length is a slice's, and `kept`, the one that is written, is a `&mut` slice (see the module).
-    written(unsafe {
-        foreign::sotjarn_merge(
-            plan.as_ptr(),
-            plan.len(),
-            kept.as_mut_ptr(),
-            kept.len(),
-            kept_words,
-            list.as_ptr(),
-            list.len(),
-        )
-    })
+    written(engine::sotjarn_merge(plan, kept, kept_words, list))
+}
+
+/// The words that test 7 asks of an output for a plan: one row, k rows or one group. Refused by 5 and 6.
+///
+/// ```
+/// use sotjarn::{least_output, Refusal};
+///
+/// // ?0 n10 ?1, the best 10 of ?0 ?1 by ?1 falling
+/// let plan = [
+///     0x1000_0001, 0x2000_0001, 0xC000_0000, 10, 0xC000_0001, 0x3000_0000,
+///     0x9000_000A, 0x8000_0002, 0xC000_0000, 0xC000_0001, 0xB000_0001,
+/// ];
+/// assert_eq!(least_output(&plan), Ok(20));
+/// assert_eq!(least_output(&plan[..10]), Err(Refusal::PlanForm));
+/// ```
+pub fn least_output(plan: &[u32]) -> Result<usize, Refusal> {
+    written(engine::sotjarn_least_output(plan))
 }

@@ -1,16 +1,19 @@
-//! Sotjarn's three calls for Rust: opening a query, one turn of it, and merging a turn's list into a kept one.
+//! Sotjarn's calls for Rust: opening a query, one turn of it, and merging a turn's list into a kept one.
 //!
 //! Sotjarn answers queries over shared tables, a turn of counted steps at a time. A turn may end after any row, and the answer does
-//! not depend on where the cuts fall. The calls are proved; this crate lends them slices. Whatever words come in, a call ends,
-//! touches nothing outside what it was lent, and refuses faulty input by the number of the first test that fails: a [`Refusal`].
-//! A refused call changes no word. The crate and the library belong together: a number that the crate does not know, from a library
-//! of another version, is a panic.
+//! not depend on where the cuts fall. Whatever words come in, a call ends, touches nothing outside what it was lent, and refuses
+//! faulty input by the number of the first test that fails: a [`Refusal`]. A refused call changes no word.
+//!
+//! The calls are those of the portable engine, which is made from the proved source at build time and needs no Rattle; with the feature
+//! `proved`, those of the proved library, libsotjarn.a. They answer alike. The crate and the engine belong together: a number that the
+//! crate does not know, from a library of another version, is a panic.
 //!
 //! | you have | use |
 //! |---|---|
-//! | words in buffers of your own | [`open`], [`turn`], [`merge`] |
+//! | words in buffers of your own | [`open`], [`turn`], [`merge`], [`least_output`] |
 //! | a query to write | [`Plan::builder`], [`TableWords`] |
 //! | a query to run | [`Query`] and its [`turns`](Query::turns), [`Kept`] |
+//! | words that were stored | [`Plan::from_words`], [`Query::load`], [`Kept::from_words`] |
 //! | words to read | [`State::read`], [`Plan::read`], [`read_rows`], [`read_groups`] |
 //!
 //! The three-stem wood: stems of stand n100 with a diameter of at least 70, in turns of four steps.
@@ -49,18 +52,25 @@
 //! ```
 
 #![warn(missing_docs)]
+#![cfg_attr(not(feature = "proved"), forbid(unsafe_code))]
 
 mod calls;
-mod foreign;
+#[cfg(feature = "proved")]
+#[path = "proved.rs"]
+mod engine;
 mod lists;
 mod plans;
 mod queries;
 mod refusals;
 mod states;
+mod stored;
 mod tables;
 mod terms;
 
-pub use calls::{merge, open, turn, TurnEnding, Turned, MOST_STEPS, STATE_WORDS};
+#[cfg(not(feature = "proved"))]
+use sotjarn_portable as engine;
+
+pub use calls::{least_output, merge, open, turn, TurnEnding, Turned, MOST_STEPS, STATE_WORDS};
 pub use lists::{read_groups, read_rows, Group, Kept, List, Row, Unreadable};
 pub use plans::{Branch, Comparison, Condition, Key, Plan, PlanBuilder, PlanEnding};
 pub use queries::{Query, Turn, Turns};

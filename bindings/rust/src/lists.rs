@@ -153,6 +153,29 @@ impl<'p> Kept<'p> {
         Kept { plan, words: Vec::new() }
     }
 
+    /// A list that was stored: the words that [`Kept::words`] gave. Refused by 12 where no turns of this plan make such a list.
+    ///
+    /// ```
+    /// use sotjarn::{Branch, Kept, Plan, Refusal, Term, Variable};
+    ///
+    /// let size = Variable(0);
+    /// let plan = Plan::builder().branch(Branch::new().pattern(Variable(1), Term::Name(12), size)).group([], size)?;
+    /// let stored = vec![1, 0, 1, 0, 45, 0, 0x4000_002D, 0x4000_002D];
+    /// assert_eq!(Kept::from_words(&plan, stored[..7].to_vec()), Err(Refusal::MergedLists));
+    /// let mut kept = Kept::from_words(&plan, stored)?;
+    /// kept.take(&[2, 0, 2, 0, 620, 0, 0x4000_0136, 0x4000_0136])?;
+    /// assert_eq!(kept.words()[4], 665);
+    /// # Ok::<(), Box<dyn std::error::Error>>(())
+    /// ```
+    pub fn from_words(plan: &'p Plan, words: Vec<u32>) -> Result<Kept<'p>, Refusal> {
+        let mut kept = Kept { plan, words };
+        match plan.ending() {
+            PlanEnding::Rows(_) => kept.list().map(drop).map_err(|_| Refusal::MergedLists)?,
+            _ => kept.take(&[])?, // a list merged with none is itself
+        }
+        Ok(kept)
+    }
+
     /// Takes a turn's list: joined for a row query, merged for any other. A refused one changes nothing.
     pub fn take(&mut self, list: &[u32]) -> Result<(), Refusal> {
         if let PlanEnding::Rows(_) = self.plan.ending() {

@@ -9,20 +9,20 @@ use crate::terms::{Term, TooLarge, Variable};
 const HEAD: u32 = 1;
 const BRANCH: u32 = 2;
 const TRUE: u32 = 3;
-const AND: u32 = 4;
-const OR: u32 = 5;
-const NOT: u32 = 6;
-const COMPARISON: u32 = 7;
+pub(crate) const AND: u32 = 4;
+pub(crate) const OR: u32 = 5;
+pub(crate) const NOT: u32 = 6;
+pub(crate) const COMPARISON: u32 = 7;
 const ROWS: u32 = 8;
-const TOP: u32 = 9;
+pub(crate) const TOP: u32 = 9;
 const RISING: u32 = 10;
-const FALLING: u32 = 11;
-const GROUP: u32 = 12;
+pub(crate) const FALLING: u32 = 11;
+pub(crate) const GROUP: u32 = 12;
 
-const COUNT_BITS: u32 = 28;
+pub(crate) const COUNT_BITS: u32 = 28;
 
-/// What k is where a plan's own is 0.
-const K_OF_0: u32 = 64;
+/// The rows of a best-of list whose plan gives no number: what a k of 0 means.
+const DEFAULT_BEST: u32 = 10;
 
 /// The words of a group's record after its keys: rows, numbers and sum of two each, least, greatest.
 pub(crate) const TOTALS_WORDS: usize = 8;
@@ -181,7 +181,7 @@ pub enum Key {
 pub enum PlanEnding {
     /// Rows of these columns.
     Rows(Vec<Variable>),
-    /// The best k rows of these columns by the keys; k = 0 means 64.
+    /// The best k rows of these columns by the keys; k = 0 means 10.
     Top {
         /// How many rows, 0 to 64.
         k: u32,
@@ -299,8 +299,8 @@ impl PlanBuilder {
 /// ```
 #[derive(Clone, Debug, PartialEq, Eq)]
 pub struct Plan {
-    words: Vec<u32>,
-    ending: PlanEnding,
+    pub(crate) words: Vec<u32>,
+    pub(crate) ending: PlanEnding,
 }
 
 impl Plan {
@@ -330,7 +330,7 @@ impl Plan {
     /// The least output that a turn takes: one row, k rows or one group.
     pub fn least_output(&self) -> usize {
         match self.ending {
-            PlanEnding::Top { k: 0, .. } => self.width() * K_OF_0 as usize,
+            PlanEnding::Top { k: 0, .. } => self.width() * DEFAULT_BEST as usize,
             PlanEnding::Top { k, .. } => self.width().saturating_mul(k as usize),
             _ => self.width(),
         }

@@ -11,7 +11,9 @@ use std::fmt;
 /// assert_eq!(Refusal::Quantum.code(), 8);
 /// assert_eq!(Refusal::from_code(8), Some(Refusal::Quantum));
 /// assert_eq!(Refusal::from_code(15), None);
-/// assert!(Refusal::Quantum.to_string().contains("1 to 1,000,000"));
+/// assert_eq!(Refusal::Quantum.fault(), "the quantum is outside its range");
+/// assert_eq!(Refusal::Quantum.remedy(), "give 1 to 1,000,000 steps");
+/// assert_eq!(Refusal::Quantum.to_string(), "refused by 8: the quantum is outside its range; give 1 to 1,000,000 steps");
 /// ```
 #[derive(Clone, Copy, Debug, PartialEq, Eq, PartialOrd, Ord, Hash)]
 #[repr(u32)]
@@ -75,8 +77,8 @@ impl Refusal {
         ALL.into_iter().find(|refusal| refusal.code() == code)
     }
 
-    /// What is wrong.
-    fn fault(self) -> &'static str {
+    /// What is wrong, in a few words.
+    pub fn fault(self) -> &'static str {
         match self {
             Refusal::TableLengths => "the lengths of the tables do not fit together, or there are more than 65,536 rows",
             Refusal::FieldKind => "a field of some row has the wrong kind",
@@ -98,7 +100,7 @@ impl Refusal {
     }
 
     /// What to do about it.
-    fn remedy(self) -> &'static str {
+    pub fn remedy(self) -> &'static str {
         match self {
             Refusal::TableLengths => "lend three words a row, and in each list one number a row",
             Refusal::FieldKind => "make every subject and predicate a name, and every object a name, a number or a text",

@@ -65,7 +65,7 @@ impl Term {
     const TEXT: u32 = 2;
     const VARIABLE: u32 = 3;
 
-    const VALUE_BITS: u32 = 30;
+    pub(crate) const VALUE_BITS: u32 = 30;
 
     /// Its word, unless the value is above 30 bits.
     pub fn word(self) -> Result<u32, TooLarge> {

@@ -7,7 +7,7 @@ use mathlib.Core.List.{List, [], _∷_}
 use lib.Dec.{eqb}
 use Rattle.words.specs.Words.{numberKind, textKind, kind, low, andKind}
 use Rattle.words.specs.Bindings.{Bindings, valueOf}
-use Rattle.plans.specs.Conditions.{Condition, Read}
+use Rattle.plans.specs.Conditions.{Condition, Read, comparisonWords}
 use Rattle.conditions.specs.declared.Value.{Value}
 use Rattle.conditions.specs.declared.Value.the-variants.{Is, Unread}
 use Rattle.conditions.specs.declared.Truth.{Truth}
@@ -40,4 +40,4 @@ abbrev pub comparisonAt : Bindings → List ℕ → Value
 comparisonAt b [] = Unread
 comparisonAt b (w ∷ []) = Unread
 comparisonAt b (w ∷ l ∷ []) = Unread
-comparisonAt b (w ∷ l ∷ r ∷ ws) = Is (comparison (low w) (valueOf b l) (valueOf b r)) 3
+comparisonAt b (w ∷ l ∷ r ∷ ws) = Is (comparison (low w) (valueOf b l) (valueOf b r)) comparisonWords

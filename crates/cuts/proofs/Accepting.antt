@@ -2,40 +2,36 @@
 use Prim.Native.Nat.{ℕ}
 use mathlib.Core.Path.{_≡_}
 use mathlib.Core.Bool.{Bool, true, _&&_}
-use mathlib.Core.Option.{none, some}
-use mathlib.Core.List.{List}
-use lib.Dec.{eqb}
+use mathlib.Core.List.{List, [], _∷_, _++_}
+use lib.Dec.{eqb, leb}
 use lib.ListN.{length}
 use Rattle.words.specs.Words.{isValue}
 use Rattle.words.specs.Bindings.{Bindings, variableCount}
 use Rattle.words.specs.Sequences.{all}
-use Rattle.words.specs.Tests.{firstFailing}
 use Rattle.words.proofs.Booleans.{and-right}
-use Rattle.words.proofs.Testing.{all-passes}
+use Rattle.words.proofs.Testing.{all-passes, front-passes}
 use Rattle.tables.specs.Tables.{Tables, tableTests}
-use Rattle.plans.specs.Plans.{readPlan, planOf, variablesRight}
+use Rattle.plans.specs.Plans.{readPlan, planOf, planTests}
 use Rattle.plans.proofs.Bounds.{PlanForm, plan-form, was-read}
 use Rattle.steps.specs.Steps.{after}
+use Rattle.steps.specs.Saved.{leastStateWords}
 use Rattle.steps.proofs.Values.{after-valued}
 use Rattle.lists.proofs.Each.{all-each}
 use Rattle.lists.proofs.EachMore.{each-weaken}
 use Rattle.lists.proofs.Values.{AllValues}
 use Rattle.lists.proofs.Gatherings.{Gathering, gathering}
 use Rattle.turns.specs.Opening.{Opens}
-use Rattle.turns.proofs.Refusals.{open-refusals}
-
-pub record Accepted (t : Tables) (plan : List ℕ) : Type 0 where
-  pub tables : firstFailing (tableTests t) ≡ none
-  pub read : readPlan plan ≡ some (planOf plan)
-  pub variables : variablesRight (planOf plan) ≡ true
+use Rattle.turns.proofs.Refusals.{open-refusals, open-passed}
+use Rattle.cuts.specs.Accepting.{Accepted}
 
 pub opening-accepts : (t : Tables) (plan state : List ℕ) → Opens t plan state → Accepted t plan
 opening-accepts t plan state o =
-    let h = open-refusals t plan state .serves .0 o in
     record {
-      tables = all-passes (tableTests t) (h .0, (h .1 .0, (h .1 .1 .0, (h .1 .1 .1 .0, tt))));
-      read = was-read (readPlan plan) (h .1 .1 .1 .1 .0);
-      variables = h .1 .1 .1 .1 .1 .0;
+      tables = all-passes (tableTests t)
+          (front-passes (tableTests t) (planTests plan ++ ((7, leb leastStateWords (length state)) ∷ []))
+          (open-refusals t plan state .serves .0 o));
+      read = was-read (readPlan plan) (open-passed t plan state 5 o);
+      variables = open-passed t plan state 6 o;
     }
 
 module _ (t : Tables) (plan : List ℕ) (a : Accepted t plan) where

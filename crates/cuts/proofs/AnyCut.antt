@@ -20,10 +20,12 @@ use Rattle.turns.specs.declared.TurnEnding.the-variants.{Done, Spent, Full, Ref
 use Rattle.turns.specs.Opening.{openOf, Opens}
 use Rattle.turns.specs.Turns.{TurnInput, turnOf, refusalOf}
 use Rattle.turns.proofs.Follows.{starts-run}
-use Rattle.cuts.specs.Histories.{Event, turns, merges, joins, Held, Served, servedIn, stepsIn, doneIn, turnInputOf, afterTurn, happens, history, fresh}
+use Rattle.cuts.specs.Histories.{Event, turns, merges, joins, Phone, ServedTurn, servedIn, stepsIn, doneIn, turnInputOf, afterTurn, happens}
+use Rattle.cuts.specs.Histories.{history, fresh}
 use Rattle.cuts.specs.Premises.{Asked, Premises}
 use Rattle.cuts.specs.Uncut.{EndsAt, AsUncut, joinedLists, runList}
-use Rattle.cuts.proofs.Accepting.{Accepted, opening-accepts, accepted-gathering}
+use Rattle.cuts.specs.Accepting.{Accepted}
+use Rattle.cuts.proofs.Accepting.{opening-accepts, accepted-gathering}
 use Rattle.cuts.proofs.Chains.{Chain, chain-take, within-quantum, chain-joined}
 use Rattle.cuts.proofs.Turning.{Kept, isNone, served-keeps}
 use Rattle.cuts.proofs.Taking.{merging-keeps, joining-keeps}
@@ -33,7 +35,7 @@ module _ (t : Tables) (plan : List ℕ) (a : Accepted t plan) where
   q = planOf plan
 
   -- ---- one event
-  turn-keeps : (h : Held) → Kept t q h → (behind : List ℕ) (quantum : ℕ) (threshold output : List ℕ)
+  turn-keeps : (h : Phone) → Kept t q h → (behind : List ℕ) (quantum : ℕ) (threshold output : List ℕ)
       → Asked t plan h (turns behind quantum threshold output)
       → (e : TurnEnding) → turnOf (turnInputOf t plan h behind quantum threshold output) .answer .ending ≡ e
       → Kept t q (afterTurn h quantum (turnOf (turnInputOf t plan h behind quantum threshold output)) e)
@@ -45,7 +47,7 @@ module _ (t : Tables) (plan : List ℕ) (a : Accepted t plan) where
       served-keeps t plan a h k behind quantum threshold output (λ y f. let z : _≡_ {A = ℕ} 0 1 = cc in omega arith) (asked (ap refusalOf e))
   turn-keeps h k behind quantum threshold output asked (Refused y) e = k
 
-  event-keeps : (h : Held) → Kept t q h → (e : Event) → Asked t plan h e → Kept t q (happens t plan h e)
+  event-keeps : (h : Phone) → Kept t q h → (e : Event) → Asked t plan h e → Kept t q (happens t plan h e)
   unfolding happens
   event-keeps h k (turns behind quantum threshold output) asked =
       turn-keeps h k behind quantum threshold output asked
@@ -54,7 +56,7 @@ module _ (t : Tables) (plan : List ℕ) (a : Accepted t plan) where
   event-keeps h k joins asked = joining-keeps t plan a h k (h .waiting) refl
 
   -- ---- a list of them
-  pub history-keeps : (es : List Event) (h : Held) → Kept t q h → Premises t plan h es → Kept t q (history t plan h es)
+  pub history-keeps : (es : List Event) (h : Phone) → Kept t q h → Premises t plan h es → Kept t q (history t plan h es)
   unfolding history
   history-keeps [] h k p = k
   history-keeps (e ∷ es) h k p = history-keeps es (happens t plan h e) (event-keeps h k e (p .0)) (p .1)
@@ -81,7 +83,7 @@ module _ (t : Tables) (plan : List ℕ) (a : Accepted t plan) where
   is-none none e = refl
   is-none (some s) e = absurd-true refl (sym e)
 
-  rows-from-start : (vs : List ℕ) → q .ending ≡ rows vs → (xs : List Served) → Chain t q 0 xs
+  rows-from-start : (vs : List ℕ) → q .ending ≡ rows vs → (xs : List ServedTurn) → Chain t q 0 xs
       → joinedLists xs ≡ runList (q .ending) (after t q (stepsIn xs))
   unfolding after iterate
   rows-from-start vs e xs c =
@@ -89,7 +91,7 @@ module _ (t : Tables) (plan : List ℕ) (a : Accepted t plan) where
       ∙ chain-joined t q (accepted-gathering t plan a) vs e 0 xs c
       ∙ ap (λ d. runList (q .ending) (after t q d)) (let p : 0 + stepsIn xs ≡ stepsIn xs = omega arith in p)
 
-  pub as-uncut : (h : Held) → Kept t q h → AsUncut t q h
+  pub as-uncut : (h : Phone) → Kept t q h → AsUncut t q h
   as-uncut h k =
       record {
         state = k .saved;

@@ -1,4 +1,4 @@
--- Served turns are pieces of the uncut run, one behind the other.
+-- ServedTurn turns are pieces of the uncut run, one behind the other.
 use Prim.Native.Nat.{ℕ, zero, suc, _+_, _≤_}
 use native.Mathlib.Omega.{arith}
 use mathlib.Core.Path.{_≡_, refl, sym, _∙_, ap, ap₂, subst}
@@ -14,21 +14,21 @@ use Rattle.lists.specs.Gathering.{gathered, takenInto}
 use Rattle.lists.proofs.TopLists.{Fine}
 use Rattle.lists.proofs.FullLists.{listsOf, deliveredBy}
 use Rattle.lists.proofs.Gatherings.{Gathering}
-use Rattle.cuts.specs.Histories.{Served, stepsIn, doneIn, isDone}
+use Rattle.cuts.specs.Histories.{ServedTurn, stepsIn, doneIn, isDone}
 use Rattle.cuts.specs.Premises.{listsIn}
 use Rattle.cuts.specs.Uncut.{WithinQuantum, joinedLists, runList}
 
 -- ---- steps added up, and done
-pub steps-append : (xs ys : List Served) → stepsIn (xs ++ ys) ≡ stepsIn xs + stepsIn ys
+pub steps-append : (xs ys : List ServedTurn) → stepsIn (xs ++ ys) ≡ stepsIn xs + stepsIn ys
 unfolding stepsIn
 steps-append [] ys = omega arith
 steps-append (x ∷ xs) ys = let e = steps-append xs ys in omega arith
 
-pub steps-more : (xs : List Served) (x : Served) → stepsIn (xs ++ (x ∷ [])) ≡ stepsIn xs + x .steps
+pub steps-more : (xs : List ServedTurn) (x : ServedTurn) → stepsIn (xs ++ (x ∷ [])) ≡ stepsIn xs + x .steps
 unfolding stepsIn
 steps-more xs x = let e = steps-append xs (x ∷ []) in omega arith
 
-pub done-more : (xs : List Served) (x : Served) → doneIn xs ≡ false → doneIn (xs ++ (x ∷ [])) ≡ isDone (x .ending)
+pub done-more : (xs : List ServedTurn) (x : ServedTurn) → doneIn xs ≡ false → doneIn (xs ++ (x ∷ [])) ≡ isDone (x .ending)
 unfolding doneIn
 done-more [] x e = go (isDone (x .ending))
   where
@@ -44,7 +44,7 @@ done-more (y ∷ xs) x e = go (isDone (y .ending)) e (done-more xs x)
 
 -- ---- pieces
 -- a served turn, after some steps of the run: its list is made of the rows of its own steps
-pub record Piece (t : Tables) (q : Plan) (from : ℕ) (x : Served) : Type 0 where
+pub record Piece (t : Tables) (q : Plan) (from : ℕ) (x : ServedTurn) : Type 0 where
   pub rows : List Bindings
   pub threshold : List ℕ
   pub more : after t q (from + x .steps) .delivered ≡ after t q from .delivered ++ rows
@@ -53,48 +53,48 @@ pub record Piece (t : Tables) (q : Plan) (from : ℕ) (x : Served) : Type 0 wher
   pub least : 1 ≤ x .steps
   pub most : x .steps ≤ x .quantum
 
-abbrev pub Chain : Tables → Plan → ℕ → List Served → Type 0
+abbrev pub Chain : Tables → Plan → ℕ → List ServedTurn → Type 0
 Chain t q from [] = Unit {0}
 Chain t q from (x ∷ xs) = Piece t q from x × Chain t q (from + x .steps) xs
 
 module _ (t : Tables) (q : Plan) where
   -- where the rest of a chain begins
-  later : (from : ℕ) (x : Served) (xs : List Served) → (from + x .steps) + stepsIn xs ≡ from + stepsIn (x ∷ xs)
+  later : (from : ℕ) (x : ServedTurn) (xs : List ServedTurn) → (from + x .steps) + stepsIn xs ≡ from + stepsIn (x ∷ xs)
   unfolding stepsIn
   later from x xs = omega arith
 
-  pub chain-append : (from : ℕ) (xs ys : List Served) → Chain t q from xs → Chain t q (from + stepsIn xs) ys → Chain t q from (xs ++ ys)
+  pub chain-append : (from : ℕ) (xs ys : List ServedTurn) → Chain t q from xs → Chain t q (from + stepsIn xs) ys → Chain t q from (xs ++ ys)
   unfolding stepsIn
   chain-append from [] ys c d = subst (λ n. Chain t q n ys) (let e : from + 0 ≡ from = omega arith in e) d
   chain-append from (x ∷ xs) ys c d =
       (c .0, chain-append (from + x .steps) xs ys (c .1) (subst (λ n. Chain t q n ys) (sym (later from x xs)) d))
 
-  pub chain-rest : (from : ℕ) (xs ys : List Served) → Chain t q from (xs ++ ys) → Chain t q (from + stepsIn xs) ys
+  pub chain-rest : (from : ℕ) (xs ys : List ServedTurn) → Chain t q from (xs ++ ys) → Chain t q (from + stepsIn xs) ys
   unfolding stepsIn
   chain-rest from [] ys c = subst (λ n. Chain t q n ys) (let e : from ≡ from + 0 = omega arith in e) c
   chain-rest from (x ∷ xs) ys c = subst (λ n. Chain t q n ys) (later from x xs) (chain-rest (from + x .steps) xs ys (c .1))
 
-  pub chain-take : (k from : ℕ) (xs : List Served) → Chain t q from xs → Chain t q from (take k xs)
+  pub chain-take : (k from : ℕ) (xs : List ServedTurn) → Chain t q from xs → Chain t q from (take k xs)
   chain-take zero from xs c = tt
   chain-take (suc k) from [] c = tt
   chain-take (suc k) from (x ∷ xs) c = (c .0, chain-take k (from + x .steps) xs (c .1))
 
   -- ---- what a chain says
-  pub within-quantum : (from : ℕ) (xs : List Served) → Chain t q from xs → WithinQuantum xs
+  pub within-quantum : (from : ℕ) (xs : List ServedTurn) → Chain t q from xs → WithinQuantum xs
   within-quantum from [] c = tt
   within-quantum from (x ∷ xs) c = ((c .0 .least, c .0 .most), within-quantum (from + x .steps) xs (c .1))
 
   -- the thresholds and the rows of its turns
-  pub turnsOf : (from : ℕ) (xs : List Served) → Chain t q from xs → List (List ℕ × List Bindings)
+  pub turnsOf : (from : ℕ) (xs : List ServedTurn) → Chain t q from xs → List (List ℕ × List Bindings)
   turnsOf from [] c = []
   turnsOf from (x ∷ xs) c = (c .0 .threshold, c .0 .rows) ∷ turnsOf (from + x .steps) xs (c .1)
 
-  pub turns-lists : (from : ℕ) (xs : List Served) (c : Chain t q from xs) → listsOf (q .ending) (turnsOf from xs c) ≡ listsIn xs
+  pub turns-lists : (from : ℕ) (xs : List ServedTurn) (c : Chain t q from xs) → listsOf (q .ending) (turnsOf from xs c) ≡ listsIn xs
   unfolding turnsOf
   turns-lists from [] c = refl
   turns-lists from (x ∷ xs) c = ap₂ _∷_ (sym (c .0 .list)) (turns-lists (from + x .steps) xs (c .1))
 
-  pub turns-rows : (from : ℕ) (xs : List Served) (c : Chain t q from xs)
+  pub turns-rows : (from : ℕ) (xs : List ServedTurn) (c : Chain t q from xs)
       → after t q (from + stepsIn xs) .delivered ≡ after t q from .delivered ++ deliveredBy (turnsOf from xs c)
   unfolding turnsOf stepsIn flatten
   turns-rows from [] c = ap (λ n. after t q n .delivered) (let p : from + 0 ≡ from = omega arith in p) ∙ sym (append-nil (after t q from .delivered))
@@ -106,7 +106,7 @@ module _ (t : Tables) (q : Plan) where
 
   module _ (g : Gathering (q .ending)) where
     -- the list of a piece, taken behind what was gathered before it
-    pub piece-adds : (from : ℕ) (x : Served) → Piece t q from x
+    pub piece-adds : (from : ℕ) (x : ServedTurn) → Piece t q from x
         → takenInto (q .ending) (runList (q .ending) (after t q from)) (x .list) ≡ runList (q .ending) (after t q (from + x .steps))
     piece-adds from x p =
         ap (takenInto (q .ending) (runList (q .ending) (after t q from))) (p .list)
@@ -114,7 +114,7 @@ module _ (t : Tables) (q : Plan) where
         ∙ ap (gathered (q .ending) []) (sym (p .more))
 
     -- the lists of a row query's chain, joined behind the rows before it
-    pub chain-joined : (vs : List ℕ) → q .ending ≡ rows vs → (from : ℕ) (xs : List Served) → Chain t q from xs
+    pub chain-joined : (vs : List ℕ) → q .ending ≡ rows vs → (from : ℕ) (xs : List ServedTurn) → Chain t q from xs
         → runList (q .ending) (after t q from) ++ joinedLists xs ≡ runList (q .ending) (after t q (from + stepsIn xs))
     unfolding stepsIn flatten
     chain-joined vs e from [] c =

@@ -5,3 +5,6 @@ pub mod Taking
 pub mod AnyCut
 pub mod MergeRefusals
 pub mod States
+pub mod TurnRows
+pub mod KeptFits
+pub mod AfterDone

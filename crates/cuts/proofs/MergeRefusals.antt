@@ -29,11 +29,13 @@ use Rattle.lists.proofs.GroupLists.{groups-in-gathered, groups-append}
 use Rattle.lists.proofs.Gatherings.{Valid}
 use Rattle.turns.specs.Opening.{openOf, Opens}
 use Rattle.merges.specs.Merging.{MergeInput, mergeTests, mergedWords, mergeOf}
-use Rattle.merges.proofs.Refusals.{Merges, merge-refusals}
-use Rattle.cuts.specs.Histories.{Event, Held, Served, stepsIn, mergeInputOf, history, fresh}
+use Rattle.merges.specs.Refusals.{Merges}
+use Rattle.merges.proofs.Refusals.{merge-passed, merge-refusals}
+use Rattle.cuts.specs.Histories.{Event, Phone, ServedTurn, stepsIn, mergeInputOf, history, fresh}
 use Rattle.cuts.specs.Premises.{Premises}
-use Rattle.cuts.specs.Uncut.{runList, runFits, NotTaken, totals-pass, no-room}
-use Rattle.cuts.proofs.Accepting.{Accepted, opening-accepts, accepted-gathering, accepted-values}
+use Rattle.cuts.specs.Uncut.{runList, runFits, MergesLists, NotTaken, totals-pass, no-room}
+use Rattle.cuts.specs.Accepting.{Accepted}
+use Rattle.cuts.proofs.Accepting.{opening-accepts, accepted-gathering, accepted-values}
 use Rattle.cuts.proofs.Chains.{Piece, piece-adds}
 use Rattle.cuts.proofs.Turning.{Kept}
 use Rattle.cuts.proofs.Taking.{merged-taken, next-piece}
@@ -44,13 +46,7 @@ each-later : {A : Type 0} (P : A → Type 0) (xs ys : List A) → Each P (xs ++ 
 each-later P [] ys p = p
 each-later P (x ∷ xs) ys p = each-later P xs ys (p .1)
 
--- a best-of or group query
-abbrev pub Merged : Ending → Type 0
-Merged (rows vs) = ⊥
-Merged (top k vs keys) = Unit {0}
-Merged (group vs m) = Unit {0}
-
-valid-right : (e : Ending) → Merged e → (list : List ℕ) → Valid e list → listRight e list ≡ true
+valid-right : (e : Ending) → MergesLists e → (list : List ℕ) → Valid e list → listRight e list ≡ true
 valid-right (rows vs) m list v = absurd m
 valid-right (top k vs keys) m list v = v
 valid-right (group vs g) m list v = v
@@ -78,11 +74,11 @@ fits-both (group vs m) threshold xs ys r d =
     ∙ sym (groups-append vs m xs ys)
     ∙ ap (groupsOf vs m) (sym d))
 
-module _ (t : Tables) (plan : List ℕ) (a : Accepted t plan) (h : Held) (k : Kept t (planOf plan) h) where
+module _ (t : Tables) (plan : List ℕ) (a : Accepted t plan) (h : Phone) (k : Kept t (planOf plan) h) where
   abbrev q : Plan
   q = planOf plan
 
-  module _ (m : Merged (q .ending)) (x : Served) (rest : List Served) (waits : h .waiting ≡ x ∷ rest) (behind : List ℕ) where
+  module _ (m : MergesLists (q .ending)) (x : ServedTurn) (rest : List ServedTurn) (waits : h .waiting ≡ x ∷ rest) (behind : List ℕ) where
     abbrev i : MergeInput
     i = mergeInputOf plan h behind x
 
@@ -137,7 +133,7 @@ module _ (t : Tables) (plan : List ℕ) (a : Accepted t plan) (h : Held) (k : Ke
         elim (last-two (hasForm (readPlan plan)) (variablesRight q)
         (leb (i .given) (length (i .kept)) && (listRight (q .ending) (take (i .given) (i .kept)) && listRight (q .ending) (x .list)))
         (totalsFit (q .ending) (take (i .given) (i .kept)) (x .list)) (leb (length (mergedWords i)) (length (i .kept))) y
-        (ap hasForm (a .read)) (a .variables) lists-right (fails-first y (mergeTests i) (merge-refusals i .number y .0 e))) [
+        (ap hasForm (a .read)) (a .variables) lists-right (fails-first y (mergeTests i) (merge-refusals i .refused y .0 e))) [
           | inl f ↦ subst (NotTaken t q (n + x .steps) (length (h .kept ++ behind))) (sym (f .0)) (totals-pass (sym fits ∙ f .1))
           | inr f ↦ subst (NotTaken t q (n + x .steps) (length (h .kept ++ behind))) (sym (f .0))
               (no-room (sym fits ∙ f .1) (omega (arith, long, leb-false (length (mergedWords i)) (length (i .kept)) (f .2))))
@@ -147,12 +143,12 @@ module _ (t : Tables) (plan : List ℕ) (a : Accepted t plan) (h : Held) (k : Ke
     pub merge-fits : (words : ℕ) → mergeOf i .answer ≡ Words words → runFits (q .ending) (after t q (n + x .steps)) ≡ true
     merge-fits words e =
         let serve : Merges i = λ y f. let z : _≡_ {A = ℕ} 0 1 = cc in omega arith in
-        sym totals-are ∙ ap (λ l. totalsFit (q .ending) l (x .list)) (sym given-kept) ∙ merge-refusals i .serves .0 serve .1 .1 .1 .0
+        sym totals-are ∙ ap (λ l. totalsFit (q .ending) l (x .list)) (sym given-kept) ∙ merge-passed i 13 serve
 
 -- in every history under the premises
-pub refused-by-13-or-14 : (t : Tables) (plan state : List ℕ) → Opens t plan state → Merged (planOf plan .ending)
+pub refused-by-13-or-14 : (t : Tables) (plan state : List ℕ) → Opens t plan state → MergesLists (planOf plan .ending)
     → (es : List Event) → Premises t plan (fresh (openOf t plan state)) es
-    → (x : Served) (rest : List Served) → history t plan (fresh (openOf t plan state)) es .waiting ≡ x ∷ rest
+    → (x : ServedTurn) (rest : List ServedTurn) → history t plan (fresh (openOf t plan state)) es .waiting ≡ x ∷ rest
     → (behind : List ℕ) (y : ℕ)
     → mergeOf (mergeInputOf plan (history t plan (fresh (openOf t plan state)) es) behind x) .answer ≡ Refused y
     → NotTaken t (planOf plan) (stepsIn (history t plan (fresh (openOf t plan state)) es .taken) + x .steps)

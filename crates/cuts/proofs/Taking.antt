@@ -18,11 +18,14 @@ use Rattle.steps.specs.Steps.{after}
 use Rattle.steps.specs.Saved.{savedWords}
 use Rattle.lists.specs.Gathering.{merged, takenInto, listRight}
 use Rattle.merges.specs.Merging.{MergeInput, MergeResult, mergedWords, mergeOf}
-use Rattle.merges.proofs.Refusals as refusals
+use Rattle.merges.specs.Refusals.{Merges}
+use Rattle.merges.proofs.Refusals.{merge-passed}
 use Rattle.merges.proofs.Writes.{merge-writes}
-use Rattle.cuts.specs.Histories.{Served, Held, servedIn, stepsIn, doneIn, mergeInputOf, afterTaking, afterMerge, afterMerging, afterJoin, afterJoining}
+use Rattle.cuts.specs.Histories.{ServedTurn, Phone, servedIn, stepsIn, doneIn, mergeInputOf, afterTaking, afterMerge, afterMerging, afterJoin}
+use Rattle.cuts.specs.Histories.{afterJoining}
 use Rattle.cuts.specs.Uncut.{runList}
-use Rattle.cuts.proofs.Accepting.{Accepted, accepted-gathering}
+use Rattle.cuts.specs.Accepting.{Accepted}
+use Rattle.cuts.proofs.Accepting.{accepted-gathering}
 use Rattle.cuts.proofs.Chains.{steps-more, Piece, Chain, chain-rest, piece-adds}
 use Rattle.cuts.proofs.Turning.{Kept, isNone}
 
@@ -33,11 +36,11 @@ merged-taken (rows vs) kept list r = absurd-true refl (sym r)
 merged-taken (top k vs keys) kept list r = refl
 merged-taken (group vs m) kept list r = refl
 
-module _ (t : Tables) (plan : List ℕ) (a : Accepted t plan) (h : Held) (k : Kept t (planOf plan) h) where
+module _ (t : Tables) (plan : List ℕ) (a : Accepted t plan) (h : Phone) (k : Kept t (planOf plan) h) where
   abbrev q : Plan
   q = planOf plan
 
-  module _ (x : Served) (rest : List Served) (waits : h .waiting ≡ x ∷ rest) where
+  module _ (x : ServedTurn) (rest : List ServedTurn) (waits : h .waiting ≡ x ∷ rest) where
     -- the earliest list not taken yet is the next piece
     pub next-piece : Piece t q (stepsIn (h .taken)) x
     next-piece =
@@ -46,7 +49,7 @@ module _ (t : Tables) (plan : List ℕ) (a : Accepted t plan) (h : Held) (k : Ke
         (chain-rest t q 0 (h .taken) (x ∷ rest) c .0)
 
     -- no served turn is lost or added
-    same-served : (kept : List ℕ) → servedIn (afterTaking h x rest kept) ≡ servedIn h
+    pub same-served : (kept : List ℕ) → servedIn (afterTaking h x rest kept) ≡ servedIn h
     same-served kept = append-assoc (h .taken) (x ∷ []) rest ∙ ap (λ l. h .taken ++ l) (sym waits)
 
     pub taking-keeps : (kept : List ℕ) → kept ≡ takenInto (q .ending) (h .kept) (x .list) → Kept t q (afterTaking h x rest kept)
@@ -70,9 +73,9 @@ module _ (t : Tables) (plan : List ℕ) (a : Accepted t plan) (h : Held) (k : Ke
       i = mergeInputOf plan h behind x
 
       -- what a merge that is served writes
-      served-merge : refusals.Merges i → take (wordsIn (mergeOf i .answer)) (mergeOf i .kept) ≡ takenInto (q .ending) (h .kept) (x .list)
+      served-merge : Merges i → take (wordsIn (mergeOf i .answer)) (mergeOf i .kept) ≡ takenInto (q .ending) (h .kept) (x .list)
       served-merge serve =
-          let p = refusals.merge-refusals i .serves .0 serve .1 .1 .0 in
+          let p = merge-passed i 12 serve in
           let kept : take (i .given) (i .kept) ≡ h .kept = take-append-seam (h .kept) behind in
           let right = and-left (listRight (q .ending) (take (i .given) (i .kept))) (listRight (q .ending) (x .list))
           (and-right (leb (i .given) (length (i .kept))) _ p) in
@@ -83,7 +86,7 @@ module _ (t : Tables) (plan : List ℕ) (a : Accepted t plan) (h : Held) (k : Ke
       pub merge-keeps : (w : Written) → mergeOf i .answer ≡ w → Kept t q (afterMerge h x rest (mergeOf i) w)
       merge-keeps (Refused y) e = k
       merge-keeps (Words n) e =
-          let serve : refusals.Merges i = λ y f. let z : _≡_ {A = ℕ} 0 1 = cc in omega arith in
+          let serve : Merges i = λ y f. let z : _≡_ {A = ℕ} 0 1 = cc in omega arith in
           taking-keeps (take n (mergeOf i .kept)) (ap (λ d. take (wordsIn d) (mergeOf i .kept)) (sym e) ∙ served-merge serve)
 
     -- ---- joining
@@ -92,10 +95,10 @@ module _ (t : Tables) (plan : List ℕ) (a : Accepted t plan) (h : Held) (k : Ke
     join-keeps (top n vs keys) f = k
     join-keeps (group vs m) f = k
 
-  pub merging-keeps : (behind : List ℕ) (waiting : List Served) → h .waiting ≡ waiting → Kept t q (afterMerging plan h behind waiting)
+  pub merging-keeps : (behind : List ℕ) (waiting : List ServedTurn) → h .waiting ≡ waiting → Kept t q (afterMerging plan h behind waiting)
   merging-keeps behind [] e = k
   merging-keeps behind (x ∷ rest) e = merge-keeps x rest e behind (mergeOf (mergeInputOf plan h behind x) .answer) refl
 
-  pub joining-keeps : (waiting : List Served) → h .waiting ≡ waiting → Kept t q (afterJoining plan h waiting)
+  pub joining-keeps : (waiting : List ServedTurn) → h .waiting ≡ waiting → Kept t q (afterJoining plan h waiting)
   joining-keeps [] e = k
   joining-keeps (x ∷ rest) e = join-keeps x rest e (q .ending) refl

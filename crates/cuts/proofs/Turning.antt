@@ -17,7 +17,7 @@ use Rattle.plans.specs.Plans.{Plan, planOf}
 use Rattle.steps.specs.Steps.{State, Run, runFrom, after}
 use Rattle.steps.specs.Saved.{savedWords, stateWords, shapeRight, stateIn}
 use Rattle.steps.proofs.Runs.{after-state, after-rows}
-use Rattle.steps.proofs.Accepted.{loads-back}
+use Rattle.steps.proofs.AcceptedStates.{loads-back}
 use Rattle.lists.specs.Thresholds.{Sent}
 use Rattle.lists.proofs.TopLists.{Fine}
 use Rattle.lists.proofs.FullLists.{listsOf, deliveredBy, sent-fine}
@@ -25,14 +25,18 @@ use Rattle.lists.proofs.Gatherings.{some-width}
 use Rattle.turns.specs.declared.TurnEnding.{TurnEnding}
 use Rattle.turns.specs.declared.TurnEnding.the-variants.{Done, Spent, Full, Refused}
 use Rattle.turns.specs.Turns.{TurnInput, TurnResult, turnOf, givenState}
-use Rattle.turns.proofs.Refusals as refusals
-use Rattle.turns.proofs.Follows.{givenRun, turnRun, follows}
+use Rattle.turns.specs.Refusals.{Served}
+use Rattle.turns.proofs.Refusals.{turn-passed}
+use Rattle.turns.proofs.AfterDone.{no-shape}
+use Rattle.turns.specs.Follows.{givenRun, turnRun}
+use Rattle.turns.proofs.Follows.{follows}
 use Rattle.turns.proofs.Progress.{progresses}
 use Rattle.turns.proofs.Endings.{endings}
-use Rattle.cuts.specs.Histories.{Served, Held, servedIn, stepsIn, doneIn, isDone, turnInputOf, servedOf, afterServed}
+use Rattle.cuts.specs.Histories.{ServedTurn, Phone, servedIn, stepsIn, doneIn, isDone, turnInputOf, servedOf, afterServed}
 use Rattle.cuts.specs.Premises.{listsIn}
 use Rattle.cuts.specs.Uncut.{runList}
-use Rattle.cuts.proofs.Accepting.{Accepted, accepted-form}
+use Rattle.cuts.specs.Accepting.{Accepted}
+use Rattle.cuts.proofs.Accepting.{accepted-form}
 use Rattle.cuts.proofs.Chains.{steps-more, done-more, Piece, Chain, chain-append, turnsOf, turns-lists, turns-rows}
 
 abbrev pub isNone : Option State → Bool
@@ -40,18 +44,14 @@ isNone none = true
 isNone (some s) = false
 
 -- what every history keeps true
-pub record Kept (t : Tables) (q : Plan) (h : Held) : Type 0 where
+pub record Kept (t : Tables) (q : Plan) (h : Phone) : Type 0 where
   pub saved : h .saved ≡ savedWords (after t q (stepsIn (servedIn h)) .state)
   pub alive : (m : ℕ) → m < stepsIn (servedIn h) → after t q m .state ≡ none → ⊥
   pub done : doneIn (servedIn h) ≡ isNone (after t q (stepsIn (servedIn h)) .state)
   pub chain : Chain t q 0 (servedIn h)
   pub list : h .kept ≡ runList (q .ending) (after t q (stepsIn (h .taken)))
 
-no-shape : (q : Plan) → shapeRight q [] ≡ false
-unfolding shapeRight
-no-shape q = refl
-
-module _ (t : Tables) (plan : List ℕ) (a : Accepted t plan) (h : Held) (k : Kept t (planOf plan) h) where
+module _ (t : Tables) (plan : List ℕ) (a : Accepted t plan) (h : Phone) (k : Kept t (planOf plan) h) where
   abbrev q : Plan
   q = planOf plan
 
@@ -74,10 +74,10 @@ module _ (t : Tables) (plan : List ℕ) (a : Accepted t plan) (h : Held) (k : Ke
     abbrev i : TurnInput
     i = turnInputOf t plan h behind quantum threshold output
 
-    abbrev x : Served
+    abbrev x : ServedTurn
     x = servedOf quantum (turnOf i)
 
-    module _ (serve : refusals.Served i) where
+    module _ (serve : Served i) where
       given : givenState i ≡ h .saved
       given = take-append-seam (h .saved) behind
 
@@ -86,7 +86,7 @@ module _ (t : Tables) (plan : List ℕ) (a : Accepted t plan) (h : Held) (k : Ke
       running = go (after t q n .state) refl
         where
           shape : shapeRight q (givenState i) ≡ true
-          shape = and-right (leb (i .given) (length (i .state))) (shapeRight q (givenState i)) (refusals.turn-refusals i .serves .0 serve .1 .1 .1 .1 .1 .1 .1 .1 .0)
+          shape = and-right (leb (i .given) (length (i .state))) (shapeRight q (givenState i)) (turn-passed i 9 serve)
 
           go : (o : Option State) → after t q n .state ≡ o → (s : State) × (after t q n .state ≡ some s)
           go none e = absurd-true shape (ap (shapeRight q) (given ∙ k .saved ∙ ap savedWords e) ∙ no-shape q)
@@ -107,7 +107,7 @@ module _ (t : Tables) (plan : List ℕ) (a : Accepted t plan) (h : Held) (k : Ke
       new-state : after t q (n + m) .state ≡ turnRun i .state
       new-state = after-state t q n m s (running .1) ∙ sym (ap (λ (r : Run). r .state) (run-is m))
 
-      new-rows : after t q (n + m) .delivered ≡ after t q n .delivered ++ turnRun i .delivered
+      pub new-rows : after t q (n + m) .delivered ≡ after t q n .delivered ++ turnRun i .delivered
       new-rows =
           after-rows t q n m s (running .1)
           ∙ ap (λ l. after t q n .delivered ++ l) (sym (ap (λ (r : Run). r .delivered) (run-is m)))
@@ -127,7 +127,7 @@ module _ (t : Tables) (plan : List ℕ) (a : Accepted t plan) (h : Held) (k : Ke
       grown : servedIn (afterServed h quantum (turnOf i)) ≡ servedIn h ++ (x ∷ [])
       grown = sym (append-assoc (h .taken) (h .waiting) (x ∷ []))
 
-      steps-are : stepsIn (servedIn (afterServed h quantum (turnOf i))) ≡ n + m
+      pub steps-are : stepsIn (servedIn (afterServed h quantum (turnOf i))) ≡ n + m
       steps-are = ap stepsIn grown ∙ steps-more (servedIn h) x
 
       -- done is answered exactly when no state is left

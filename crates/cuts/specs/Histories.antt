@@ -8,8 +8,9 @@ use Rattle.words.specs.declared.Written.{Written}
 use Rattle.words.specs.declared.Written.the-variants.{Words, Refused}
 use Rattle.words.specs.Answers.{wordsIn}
 use Rattle.tables.specs.Tables.{Tables}
-use Rattle.plans.specs.Endings.{Ending, rows, top, group}
+use Rattle.plans.specs.Endings.{Ending}
 use Rattle.plans.specs.Plans.{planOf}
+use Rattle.lists.specs.Gathering.{isRows}
 use Rattle.turns.specs.declared.TurnEnding.{TurnEnding}
 use Rattle.turns.specs.declared.TurnEnding.the-variants as ending
 use Rattle.turns.specs.Opening.{Opened, openOf}
@@ -24,25 +25,25 @@ pub data Event : Type 0 where
   joins : Event
 
 -- a served turn: its quantum, what it answered, and its list
-pub record Served : Type 0 where
+pub record ServedTurn : Type 0 where
   pub quantum : ℕ
   pub ending : TurnEnding
   pub steps : ℕ
   pub list : List ℕ
 
 -- what the phone holds: the saved words, the served turns whose lists are taken and those whose lists are not yet, and the kept list
-pub record Held : Type 0 where
+pub record Phone : Type 0 where
   pub saved : List ℕ
-  pub taken : List Served
-  pub waiting : List Served
+  pub taken : List ServedTurn
+  pub waiting : List ServedTurn
   pub kept : List ℕ
 
 -- all served turns, in order
-abbrev pub servedIn : Held → List Served
+abbrev pub servedIn : Phone → List ServedTurn
 servedIn h = h .taken ++ h .waiting
 
 -- the steps of some turns, added up; done was answered by one of them
-unfoldable pub stepsIn : List Served → ℕ
+unfoldable pub stepsIn : List ServedTurn → ℕ
 stepsIn [] = 0
 stepsIn (x ∷ xs) = x .steps + stepsIn xs
 
@@ -52,13 +53,13 @@ isDone ending.Spent = false
 isDone ending.Full = false
 isDone (ending.Refused x) = false
 
-unfoldable pub doneIn : List Served → Bool
+unfoldable pub doneIn : List ServedTurn → Bool
 doneIn [] = false
 doneIn (x ∷ xs) = isDone (x .ending) || doneIn xs
 
 -- ---- one event
 -- the turn gets the opening's tables and plan, and the saved words
-abbrev pub turnInputOf : Tables → List ℕ → Held → List ℕ → ℕ → List ℕ → List ℕ → TurnInput
+abbrev pub turnInputOf : Tables → List ℕ → Phone → List ℕ → ℕ → List ℕ → List ℕ → TurnInput
 turnInputOf t plan h behind quantum threshold output =
     record {
       tables = t;
@@ -70,7 +71,7 @@ turnInputOf t plan h behind quantum threshold output =
       output = output;
     }
 
-abbrev pub servedOf : ℕ → TurnResult → Served
+abbrev pub servedOf : ℕ → TurnResult → ServedTurn
 servedOf quantum r =
     record {
       quantum = quantum;
@@ -79,7 +80,7 @@ servedOf quantum r =
       list = take (r .answer .listed) (r .output);
     }
 
-abbrev pub afterServed : Held → ℕ → TurnResult → Held
+abbrev pub afterServed : Phone → ℕ → TurnResult → Phone
 afterServed h quantum r =
     record {
       saved = take (r .answer .saved) (r .state);
@@ -88,41 +89,39 @@ afterServed h quantum r =
       kept = h .kept;
     }
 
-abbrev pub afterTurn : Held → ℕ → TurnResult → TurnEnding → Held
+abbrev pub afterTurn : Phone → ℕ → TurnResult → TurnEnding → Phone
 afterTurn h quantum r ending.Done = afterServed h quantum r
 afterTurn h quantum r ending.Spent = afterServed h quantum r
 afterTurn h quantum r ending.Full = afterServed h quantum r
 afterTurn h quantum r (ending.Refused x) = h
 
 -- the earliest list that is not taken is taken, and the kept list is now another
-abbrev pub afterTaking : Held → Served → List Served → List ℕ → Held
+abbrev pub afterTaking : Phone → ServedTurn → List ServedTurn → List ℕ → Phone
 afterTaking h x rest kept =
     record { saved = h .saved; taken = h .taken ++ (x ∷ []); waiting = rest; kept = kept }
 
 -- the merge gets that plan, the kept list and the earliest list not yet taken
-abbrev pub mergeInputOf : List ℕ → Held → List ℕ → Served → MergeInput
+abbrev pub mergeInputOf : List ℕ → Phone → List ℕ → ServedTurn → MergeInput
 mergeInputOf plan h behind x = record { plan = plan; kept = h .kept ++ behind; given = length (h .kept); list = x .list }
 
-abbrev pub afterMerge : Held → Served → List Served → MergeResult → Written → Held
+abbrev pub afterMerge : Phone → ServedTurn → List ServedTurn → MergeResult → Written → Phone
 afterMerge h x rest r (Words n) = afterTaking h x rest (take n (r .kept))
 afterMerge h x rest r (Refused n) = h
 
 -- only the lists of a row query are joined
-abbrev pub afterJoin : Ending → Held → Served → List Served → Held
-afterJoin (rows vs) h x rest = afterTaking h x rest (h .kept ++ x .list)
-afterJoin (top k vs keys) h x rest = h
-afterJoin (group vs m) h x rest = h
+abbrev pub afterJoin : Ending → Phone → ServedTurn → List ServedTurn → Phone
+afterJoin e h x rest = cond (isRows e) (afterTaking h x rest (h .kept ++ x .list)) h
 
-abbrev pub afterMerging : List ℕ → Held → List ℕ → List Served → Held
+abbrev pub afterMerging : List ℕ → Phone → List ℕ → List ServedTurn → Phone
 afterMerging plan h behind [] = h
 afterMerging plan h behind (x ∷ rest) =
     afterMerge h x rest (mergeOf (mergeInputOf plan h behind x)) (mergeOf (mergeInputOf plan h behind x) .answer)
 
-abbrev pub afterJoining : List ℕ → Held → List Served → Held
+abbrev pub afterJoining : List ℕ → Phone → List ServedTurn → Phone
 afterJoining plan h [] = h
 afterJoining plan h (x ∷ rest) = afterJoin (planOf plan .ending) h x rest
 
-unfoldable pub happens : Tables → List ℕ → Held → Event → Held
+unfoldable pub happens : Tables → List ℕ → Phone → Event → Phone
 happens t plan h (turns behind quantum threshold output) =
     afterTurn h quantum (turnOf (turnInputOf t plan h behind quantum threshold output))
     (turnOf (turnInputOf t plan h behind quantum threshold output) .answer .ending)
@@ -130,10 +129,10 @@ happens t plan h (merges behind) = afterMerging plan h behind (h .waiting)
 happens t plan h joins = afterJoining plan h (h .waiting)
 
 -- ---- a list of events
-unfoldable pub history : Tables → List ℕ → Held → List Event → Held
+unfoldable pub history : Tables → List ℕ → Phone → List Event → Phone
 history t plan h [] = h
 history t plan h (e ∷ es) = history t plan (happens t plan h e) es
 
 -- from what an opening wrote, and an empty kept list
-abbrev pub fresh : Opened → Held
+abbrev pub fresh : Opened → Phone
 fresh o = record { saved = take (wordsIn (o .answer)) (o .state); taken = []; waiting = []; kept = [] }

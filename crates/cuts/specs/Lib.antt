@@ -1,4 +1,7 @@
 pub mod Histories
 pub mod Premises
 pub mod Uncut
+pub mod TurnRows
+pub mod Accepting
+pub mod AfterDone
 pub mod Computing

@@ -6,21 +6,21 @@ use Rattle.tables.specs.Tables.{Tables}
 use Rattle.plans.specs.Plans.{planOf}
 use Rattle.lists.specs.Thresholds.{Sent}
 use Rattle.turns.specs.Turns.{turnOf, refusalOf}
-use Rattle.cuts.specs.Histories.{Event, turns, merges, joins, Served, Held, servedIn, turnInputOf, happens}
+use Rattle.cuts.specs.Histories.{Event, turns, merges, joins, ServedTurn, Phone, servedIn, turnInputOf, happens}
 
 -- the lists of some served turns
-abbrev pub listsIn : List Served → List (List ℕ)
-listsIn xs = map (λ (x : Served). x .list) xs
+abbrev pub listsIn : List ServedTurn → List (List ℕ)
+listsIn xs = map (λ (x : ServedTurn). x .list) xs
 
 -- what is asked of an event: a turn that is served was sent no threshold, or the last row of a full list merged from an empty one
 -- out of earlier turns' lists, taken or not, in any order, none of them twice
-abbrev pub Asked : Tables → List ℕ → Held → Event → Type 0
+abbrev pub Asked : Tables → List ℕ → Phone → Event → Type 0
 Asked t plan h (turns behind quantum threshold output) =
     refusalOf (turnOf (turnInputOf t plan h behind quantum threshold output) .answer .ending) ≡ 0
     → Sent (planOf plan .ending) (listsIn (servedIn h)) threshold
 Asked t plan h (merges behind) = Unit {0}
 Asked t plan h joins = Unit {0}
 
-abbrev pub Premises : Tables → List ℕ → Held → List Event → Type 0
+abbrev pub Premises : Tables → List ℕ → Phone → List Event → Type 0
 Premises t plan h [] = Unit {0}
 Premises t plan h (e ∷ es) = Asked t plan h e × Premises t plan (happens t plan h e) es

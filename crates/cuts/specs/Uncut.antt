@@ -7,14 +7,12 @@ use mathlib.Core.Bool.{Bool, true, false}
 use mathlib.Core.Option.{none}
 use lib.ListN.{length, take}
 use Rattle.tables.specs.Tables.{Tables}
-use Rattle.words.specs.Sequences.{all}
 use Rattle.plans.specs.Endings.{Ending, rows, top, group}
 use Rattle.plans.specs.Plans.{Plan}
 use Rattle.steps.specs.Steps.{Run, after}
 use Rattle.steps.specs.Saved.{savedWords}
-use Rattle.lists.specs.Groups.{groupsOf}
-use Rattle.lists.specs.Gathering.{gathered, groupFits}
-use Rattle.cuts.specs.Histories.{Served, Held, servedIn, stepsIn, doneIn}
+use Rattle.lists.specs.Gathering.{gathered, rowsFit}
+use Rattle.cuts.specs.Histories.{ServedTurn, Phone, servedIn, stepsIn, doneIn}
 use Rattle.cuts.specs.Premises.{listsIn}
 
 -- the rows, best-of list or groups of a run, as words
@@ -23,9 +21,7 @@ runList e r = gathered e [] (r .delivered)
 
 -- no total of a run's groups, each a natural number, passes 2^64 - 1
 abbrev pub runFits : Ending → Run → Bool
-runFits (rows vs) r = true
-runFits (top k vs keys) r = true
-runFits (group vs m) r = all groupFits (groupsOf vs m (r .delivered))
+runFits e r = rowsFit e (r .delivered)
 
 -- the uncut run ends with its n-th step: n is its whole length
 pub record EndsAt (t : Tables) (q : Plan) (n : ℕ) : Type 0 where
@@ -38,16 +34,22 @@ pub data NotTaken (t : Tables) (q : Plan) (steps room : ℕ) : ℕ → Type 0 wh
   totals-pass : runFits (q .ending) (after t q steps) ≡ false → NotTaken t q steps room 13
   no-room : runFits (q .ending) (after t q steps) ≡ true → room < length (runList (q .ending) (after t q steps)) → NotTaken t q steps room 14
 
+-- a best-of or group query
+abbrev pub MergesLists : Ending → Type 0
+MergesLists (rows vs) = ⊥
+MergesLists (top k vs keys) = Unit {0}
+MergesLists (group vs m) = Unit {0}
+
 -- each served turn took at least one step and no more than its quantum
-abbrev pub WithinQuantum : List Served → Type 0
+abbrev pub WithinQuantum : List ServedTurn → Type 0
 WithinQuantum [] = Unit {0}
 WithinQuantum (x ∷ xs) = ((1 ≤ x .steps) × (x .steps ≤ x .quantum)) × WithinQuantum xs
 
 -- some served turns' lists, joined end to end
-abbrev pub joinedLists : List Served → List ℕ
+abbrev pub joinedLists : List ServedTurn → List ℕ
 joinedLists xs = flatten (listsIn xs)
 
-pub record AsUncut (t : Tables) (q : Plan) (h : Held) : Type 0 where
+pub record AsUncut (t : Tables) (q : Plan) (h : Phone) : Type 0 where
   -- the saved words are a state of the uncut run, as many steps on as the served turns took, or none
   pub state : h .saved ≡ savedWords (after t q (stepsIn (servedIn h)) .state)
   -- none exactly at its end

@@ -1,6 +1,7 @@
 -- A property of each element: what follows from it, of a list made from another, of a permuted list, and of a member.
 use mathlib.Core.Path.{sym, subst}
-use mathlib.Core.List.{List, [], _∷_, _++_, map, List·Memᴰ, List·Memᴰ·head, List·Memᴰ·tail, List·Permᴰ, List·Permᴰ·nil, List·Permᴰ·cons, List·Permᴰ·swap, List·Permᴰ·trans}
+use mathlib.Core.List.{List, [], _∷_, _++_, map, List·Memᴰ, List·Memᴰ·head, List·Memᴰ·tail, List·Permᴰ, List·Permᴰ·nil}
+use mathlib.Core.List.{List·Permᴰ·cons, List·Permᴰ·swap, List·Permᴰ·trans}
 use Rattle.lists.proofs.Each.{Each}
 
 pub each-weaken : {A : Type 0} {P Q : A → Type 0} → ((x : A) → P x → Q x) → (xs : List A) → Each P xs → Each Q xs

@@ -33,6 +33,7 @@ unfolding keep
 keep-member f [] m = m
 keep-member f (x ∷ xs) {a} m = go (f x) m (λ n. keep-member f xs n)
   where
-    go : (b : Bool) → List·Memᴰ a (cond b (x ∷ keep f xs) (keep f xs)) → (List·Memᴰ a (keep f xs) → List·Memᴰ a xs) → List·Memᴰ a (x ∷ xs)
+    go : (b : Bool) → List·Memᴰ a (cond b (x ∷ keep f xs) (keep f xs)) → (List·Memᴰ a (keep f xs) → List·Memᴰ a xs)
+        → List·Memᴰ a (x ∷ xs)
     go true n ih = elim (List·Memᴰ·cases-cons n) [ inl e ↦ List·Memᴰ·head e | inr k ↦ List·Memᴰ·tail (ih k) ]
     go false n ih = List·Memᴰ·tail (ih n)

@@ -38,7 +38,8 @@ module _ (b : List ℕ) (i e w j : ℕ) (ij : i ≡ j + 1) (ie : i ≤ e) (fits 
       (set-at (take (j + w) b) (getD b (j + w) 0) _ (getD b j 0) (j + w) (length-take-le (j + w) b (omega arith))
       ∙ rw (← one-higher))
 
-pub insert-both : (b r : List ℕ) (a e : ℕ) → a ≤ e → e + length r ≤ length b → paste (shifted b a e (length r)) a r (length r) ≡ inserted b a e r
+pub insert-both : (b r : List ℕ) (a e : ℕ) → a ≤ e → e + length r ≤ length b → paste (shifted b a e (length r)) a r (length r)
+    ≡ inserted b a e r
 insert-both b r a e h l =
     let size : length (take (a + length r) b) ≡ a + length r = length-take-le (a + length r) b (omega arith) in
     let low : a ≤ length (take (a + length r) b) = rw size (omega arith) in

@@ -1,5 +1,4 @@
--- For which further row a list has no room in an output: for rows, one that makes a row too many; for groups, the first of a
--- new group that makes a record too many; for a best-of list, none.
+-- A list has no space for a further row exactly where the list with it is longer than the output.
 use Prim.Native.Nat.{ℕ, suc, _+_, _*_, _≤_, _<_}
 use native.Mathlib.Omega.{arith}
 use native.Mathlib.Numerals.{add-one}
@@ -9,16 +8,11 @@ use lib.ListN.{length, length-append}
 use Rattle.words.specs.Bindings.{Bindings}
 use Rattle.plans.specs.Endings.{Ending, rows, top, group}
 use Rattle.lists.specs.Groups.{totalsWidth, groupsOf}
-use Rattle.lists.specs.Gathering.{width, gathered, leastOutput}
-use Rattle.lists.proofs.NewGroups.{NewGroup, OneMore, new, known, new-counts, one-more}
+use Rattle.lists.specs.Gathering.{gathered, leastOutput}
+use Rattle.lists.specs.Space.{NewGroup, NoSpaceFor}
+use Rattle.lists.proofs.NewGroups.{OneMore, new, known, new-counts, one-more}
 use Rattle.lists.proofs.TopValid.{room-gathered, length-rows}
 use Rattle.lists.proofs.GroupValid.{length-gathered}
-
--- after some rows, one more has no space in an output of so many words
-abbrev pub NoSpaceFor : Ending → ℕ → List Bindings → Bindings → Type 0
-NoSpaceFor (rows vs) room bs b = room < (length bs + 1) * width (rows vs)
-NoSpaceFor (top k vs keys) room bs b = ⊥
-NoSpaceFor (group vs m) room bs b = NewGroup vs bs b × (room < (length (groupsOf vs m bs) + 1) * width (group vs m))
 
 -- the words with one more row
 rows-more : (vs threshold : List ℕ) (bs : List Bindings) (b : Bindings)

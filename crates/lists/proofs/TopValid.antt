@@ -17,7 +17,8 @@ use Rattle.plans.specs.Endings.{rows, top}
 use Rattle.lists.specs.Rows.{project, rowBefore, bestBy, ahead}
 use Rattle.lists.specs.Gathering.{recordsIn, gathered, merged, leastOutput, listRight}
 use Rattle.lists.proofs.Each.{each-append, each-best, each-ahead}
-use Rattle.lists.proofs.Records.{Wide, wide-append, wide-records, wide-best, wide-project, wide-ahead, records-flatten, records-zero, whole-flatten, length-flatten}
+use Rattle.lists.proofs.Records.{Wide, wide-append, wide-records, wide-best, wide-project, wide-ahead, records-flatten, records-zero}
+use Rattle.lists.proofs.Records.{whole-flatten, length-flatten}
 use Rattle.lists.proofs.Best.{Sorted, sorted-best, length-best}
 use Rattle.lists.proofs.Values.{AllValues, values-rows, values-flatten, values-records}
 use Rattle.lists.proofs.RowOrder.{rows-ordered}

@@ -5,5 +5,6 @@ use Rattle.lists.specs.Groups.{lesser, greater, keysBefore, addBy, addAl
 use Rattle.lists.specs.Rows.{indexOf, rowRanks, rowBefore, insertBy, insertAllBy, sortBy, bestBy, ahead}
 
 unfoldable pub computing : Unit {0}
-unfolding withRow recordsIn gathered thresholdRight merged groupRight listRight totalsFit lesser greater keysBefore addBy addAllBy groupWords groupIn indexOf rowRanks rowBefore insertBy insertAllBy sortBy bestBy ahead
+unfolding withRow recordsIn gathered thresholdRight merged groupRight listRight totalsFit lesser greater keysBefore addBy addAllBy groupWords groupIn
+    indexOf rowRanks rowBefore insertBy insertAllBy sortBy bestBy ahead
 computing = tt

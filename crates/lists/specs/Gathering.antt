@@ -1,4 +1,4 @@
--- What an ending makes of delivered rows: its list as words, merging, tests 12 and 13, and the room that it needs.
+-- What each ending makes of delivered rows, case by case: its list as words, merging, tests 12 and 13, and the room that it needs.
 -- Assumes nothing: these are definitions.
 use Prim.Native.Nat.{ℕ, _+_, _*_, _/_, _%_}
 use mathlib.Core.List.{List, [], _∷_, _++_, map, flatten}
@@ -13,6 +13,12 @@ use Rattle.lists.specs.Rows.{project, rowBefore, bestBy, ahead}
 use Rattle.lists.specs.Groups.{Group, totalsWidth, groupsOf, addGroups, keysBefore, groupWords, groupIn}
 
 -- ---- records
+-- the lists of an ending are rows, which are joined end to end; those of any other ending are merged
+abbrev pub isRows : Ending → Bool
+isRows (rows vs) = true
+isRows (top k vs keys) = false
+isRows (group vs m) = false
+
 -- the words of one row or one record
 abbrev pub width : Ending → ℕ
 width (rows vs) = length vs
@@ -93,3 +99,9 @@ unfoldable pub totalsFit : Ending → List ℕ → List ℕ → Bool
 totalsFit (rows vs) kept list = true
 totalsFit (top k vs keys) kept list = true
 totalsFit (group vs m) kept list = all groupFits (addGroups (groupsIn vs kept) (groupsIn vs list))
+
+-- the same of the groups of some delivered rows
+abbrev pub rowsFit : Ending → List Bindings → Bool
+rowsFit (rows vs) bs = true
+rowsFit (top k vs keys) bs = true
+rowsFit (group vs m) bs = all groupFits (groupsOf vs m bs)

@@ -4,6 +4,7 @@ pub mod Putting
 pub mod Rows
 pub mod Groups
 pub mod Gathering
+pub mod Space
 pub mod Delivering
 pub mod Thresholds
 pub mod Computing

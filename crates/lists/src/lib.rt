@@ -1,13 +1,13 @@
 // The lists that a turn writes and a merge reads, as defined; and the code that lists of each kind share: rows, words moved in a buffer.
-mod moves;
 mod rows;
+mod shifts;
 mod tests;
 
-pub use moves::copy_in;
-pub use moves::insert;
-pub use moves::shift;
 pub use rows::put_row;
 pub use rows::row_of;
+pub use shifts::copy_in;
+pub use shifts::insert;
+pub use shifts::shift;
 pub use tests::is_values;
 pub use tests::no_threshold;
 

@@ -39,7 +39,8 @@ pub fn row_of(vars: &[u32], bound: &[u32; 16]) -> [u32; 16]
 // Puts a row behind the first words of the output, so many, that are the list.
 pub fn put_row(vars: &[u32], bound: &[u32; 16], out: &mut [u32], used: usize) -> Put
     requires { ⌜ used ≤ length (now out) ⌝ }
-    ensures { λ r. ⌜ Taken (withRow (rows (now (vars .entry))) [] (take used (now (out .entry))) (now (bound .entry))) (now (out .entry)) (now (out .exit)) r ⌝ }
+    ensures { λ r. ⌜ Taken (withRow (rows (now (vars .entry))) [] (take used (now (out .entry))) (now (bound .entry))) (now (out .entry))
+        (now (out .exit)) r ⌝ }
 {
     let w = vars.len();
     if out.len() - used < w {

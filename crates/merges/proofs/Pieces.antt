@@ -16,7 +16,7 @@ use Rattle.plans.specs.Reading.{lastIn, variablesIn, keysIn, bestIn, measuredIn
 use Rattle.plans.proofs.Bounds.{EndingForm, plan-form, was-read}
 use Rattle.plan_tests.proofs.Checked.{accepted}
 use Rattle.plans.proofs.EndingRead.{is-rows, is-top, is-group}
-use Rattle.best_lists.proofs.DeliveredBest.{top-parts}
+use Rattle.list_best.proofs.DeliveredBest.{top-parts}
 use Rattle.merges.specs.Answering.{PiecesRight}
 
 pieces : (bound : ℕ → Bool) (e : Ending) → EndingForm e → endingRight bound e ≡ true → PiecesRight e

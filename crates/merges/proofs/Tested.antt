@@ -14,12 +14,12 @@ use Rattle.words.proofs.Testing.{orElse, first-append}
 use Rattle.words.proofs.Booleans.{and-left, and-right}
 use Rattle.plans.specs.Endings.{Ending, rows, top, group}
 use Rattle.plans.specs.Plans.{planTests}
-use Rattle.group_merges.specs.declared.Merged.{Merged}
+use Rattle.list_group_merges.specs.declared.Merged.{Merged}
 use Rattle.lists.specs.Gathering.{listRight, totalsFit, merged}
-use Rattle.group_merges.specs.MergingGroups as groups
+use Rattle.list_group_merges.specs.MergingGroups as groups
 use Rattle.lists.specs.Putting.{Listed}
 use Rattle.merges.specs.Merging.{MergeInput, MergeResult, givenKept, givenEnding, listTests, mergeTests, mergedWith, mergedAs, mergeOf}
-use Rattle.merges.specs.Answering.{Accepted, bothRight, writtenOf}
+use Rattle.merges.specs.Answering.{AcceptedPlan, bothRight, writtenOf}
 
 -- a test that the code makes: it goes on, or refuses
 pub goes-on : (b : Bool) {t : Bool} → t ≡ b → not t ≡ false → b ≡ true
@@ -78,13 +78,14 @@ groups-answer : (fit room : Bool) (n : ℕ) (after kept : List ℕ)
       answer = writtenOf (cond fit (cond room (Merged.Words n) Merged.NoRoom) Merged.Overflow);
       kept = cond fit (cond room after kept) kept;
     })
-    (cond fit (cond room (record { answer = Words n; kept = after }) (record { answer = Refused 14; kept = kept })) (record { answer = Refused 13; kept = kept }))
+    (cond fit (cond room (record { answer = Words n; kept = after }) (record { answer = Refused 14; kept = kept }))
+    (record { answer = Refused 13; kept = kept }))
 groups-answer true true n after kept = refl
 groups-answer true false n after kept = refl
 groups-answer false room n after kept = refl
 
 module _ (i : MergeInput) where
-  module _ {e : Ending} (a : Accepted (i .plan) e) where
+  module _ {e : Ending} (a : AcceptedPlan (i .plan) e) where
     by-ending : mergeOf i ≡ byEnding i e
     by-ending = by-tests i (a .passes) ∙ ap (byEnding i) (a .ending)
 
@@ -100,12 +101,12 @@ module _ (i : MergeInput) where
       by-totals h = by-ending ∙ rw (le-leb (i .given) (length (i .kept)) fit, h)
 
   -- no list is one of rows
-  pub rows-wrong : {vs : List ℕ} → Accepted (i .plan) (rows vs) → i .given ≤ length (i .kept) → refused i 12 ≡ mergeOf i
+  pub rows-wrong : {vs : List ℕ} → AcceptedPlan (i .plan) (rows vs) → i .given ≤ length (i .kept) → refused i 12 ≡ mergeOf i
   unfolding listRight
   rows-wrong a fit = lists-wrong a fit refl
 
   -- best rows have no totals: 14, and then they are merged
-  module _ {k : ℕ} {vs keys : List ℕ} (a : Accepted (i .plan) (top k vs keys)) (fit : i .given ≤ length (i .kept))
+  module _ {k : ℕ} {vs keys : List ℕ} (a : AcceptedPlan (i .plan) (top k vs keys)) (fit : i .given ≤ length (i .kept))
       (right : bothRight (top k vs keys) (givenKept i) (i .list) ≡ true) where
     abbrev best : List ℕ
     best = merged (top k vs keys) (givenKept i) (i .list)
@@ -122,7 +123,7 @@ module _ (i : MergeInput) where
     top-merged h l = rw (l .0, l .1) (sym (by-room ∙ rw h))
 
   -- groups: 13, 14, and then they are merged
-  module _ {vs : List ℕ} {m : ℕ} (a : Accepted (i .plan) (group vs m)) (fit : i .given ≤ length (i .kept))
+  module _ {vs : List ℕ} {m : ℕ} (a : AcceptedPlan (i .plan) (group vs m)) (fit : i .given ≤ length (i .kept))
       (right : bothRight (group vs m) (givenKept i) (i .list) ≡ true) where
     abbrev fits : Bool
     fits = totalsFit (group vs m) (givenKept i) (i .list)

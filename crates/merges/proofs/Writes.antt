@@ -4,24 +4,20 @@ use mathlib.Core.Path.{subst⁻¹}
 use lib.ListN.{length}
 use borrow.Author.Tests.{leb-true}
 use Rattle.words.specs.Answers.{wordsIn}
-use Rattle.words.proofs.Testing.{AllPass}
-use Rattle.words.proofs.Buffers.{Overwritten, overwritten}
-use Rattle.merges.specs.Merging.{MergeInput, MergeResult, mergedWords, mergeTests, mergeOf}
-use Rattle.merges.proofs.Refusals.{Merges, merged-so, merge-refusals}
-
-pub record MergeWrites (i : MergeInput) : Type 0 where
-  pub kept : Overwritten (mergedWords i) (i .kept) (mergeOf i .kept) (wordsIn (mergeOf i .answer))
-  pub room : wordsIn (mergeOf i .answer) ≤ length (i .kept)
+use Rattle.words.specs.Buffers.{Overwritten}
+use Rattle.words.proofs.Buffers.{overwritten}
+use Rattle.merges.specs.Merging.{MergeInput, MergeResult, mergedWords, mergeOf}
+use Rattle.merges.specs.Refusals.{Merges, MergeWrites}
+use Rattle.merges.proofs.Refusals.{merge-passed, merged-so}
 
 -- test 14
-merge-room : (i : MergeInput) → AllPass (mergeTests i) → length (mergedWords i) ≤ length (i .kept)
-merge-room i h = leb-true (length (mergedWords i)) (length (i .kept)) (h .1 .1 .1 .1 .0)
+merge-room : (i : MergeInput) → Merges i → length (mergedWords i) ≤ length (i .kept)
+merge-room i h = leb-true (length (mergedWords i)) (length (i .kept)) (merge-passed i 14 h)
 
 pub merge-writes : (i : MergeInput) → Merges i → MergeWrites i
 merge-writes i h =
     record {
       kept = subst⁻¹ (λ (r : MergeResult). Overwritten (mergedWords i) (i .kept) (r .kept) (wordsIn (r .answer)))
           (merged-so i h) (overwritten (mergedWords i) (i .kept));
-      room = subst⁻¹ (λ (r : MergeResult). wordsIn (r .answer) ≤ length (i .kept)) (merged-so i h)
-          (merge-room i (merge-refusals i .serves .0 h));
+      room = subst⁻¹ (λ (r : MergeResult). wordsIn (r .answer) ≤ length (i .kept)) (merged-so i h) (merge-room i h);
     }

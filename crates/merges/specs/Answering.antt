@@ -10,14 +10,14 @@ use Rattle.words.specs.declared.Written.the-variants.{Words, Refused}
 use Rattle.words.specs.Tests.{firstFailing}
 use Rattle.plans.specs.Endings.{Ending, rows, top, group, mostGroupVariables}
 use Rattle.plans.specs.Plans.{planOf, planTests}
-use Rattle.group_merges.specs.declared.Merged.{Merged}
-use Rattle.group_merges.specs.declared.Merged.the-variants as groups
+use Rattle.list_group_merges.specs.declared.Merged.{Merged}
+use Rattle.list_group_merges.specs.declared.Merged.the-variants as groups
 use Rattle.lists.specs.Gathering.{listRight}
-use Rattle.best_lists.specs.BestLists.{TopParts}
+use Rattle.list_best.specs.BestLists.{TopParts}
 use Rattle.merges.specs.Merging.{MergeResult, mergeOf}
 
 -- a plan that passes tests 5 and 6, with its ending
-pub record Accepted (plan : List ℕ) (e : Ending) : Type 0 where
+pub record AcceptedPlan (plan : List ℕ) (e : Ending) : Type 0 where
   pub passes : firstFailing (planTests plan) ≡ none
   pub ending : planOf plan .ending ≡ e
 
@@ -34,7 +34,7 @@ bothRight e kept list = listRight e kept && listRight e list
 -- a result is the one defined, whatever accepted plan has the ending
 abbrev pub MergedFor : Ending → List ℕ → ℕ → List ℕ → MergeResult → Type 0
 MergedFor e kept given list r =
-    (plan : List ℕ) → Accepted plan e → r ≡ mergeOf (record { plan = plan; kept = kept; given = given; list = list })
+    (plan : List ℕ) → AcceptedPlan plan e → r ≡ mergeOf (record { plan = plan; kept = kept; given = given; list = list })
 
 -- the answer of a merge of groups, by the tests' numbers
 abbrev pub writtenOf : Merged → Written

@@ -1,3 +1,4 @@
 pub mod Merging
+pub mod Refusals
 pub mod Computing
 pub mod Answering

@@ -19,6 +19,10 @@ pub record MergeInput : Type 0 where
   pub given : ℕ
   pub list : List ℕ
 
+-- what a call lends
+abbrev pub mergeInput : List ℕ → List ℕ → ℕ → List ℕ → MergeInput
+mergeInput plan kept given list = record { plan = plan; kept = kept; given = given; list = list }
+
 -- a kept list is the first words of its buffer, as many as the call gives
 abbrev pub givenKept : MergeInput → List ℕ
 givenKept i = take (i .given) (i .kept)

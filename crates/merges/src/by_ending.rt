@@ -2,7 +2,7 @@
 use crate::LISTS;
 use crate::ROOM;
 use crate::TOTALS;
-use group_merges::Merged;
+use list_group_merges::Merged;
 use plans::Last;
 use words::Written;
 ghost use mathlib.Core.Path.{_≡_};
@@ -11,7 +11,7 @@ ghost use mathlib.Core.List.{List};
 ghost use Prim.Native.Nat.{ℕ, _≤_};
 ghost use lib.ListN.{length};
 ghost use Rattle.plans.specs.Endings.{top, group, mostGroupVariables, endingForm, endingAt};
-ghost use Rattle.best_lists.specs.BestLists.{TopParts};
+ghost use Rattle.list_best.specs.BestLists.{TopParts};
 ghost use Rattle.merges.specs.Answering.{PiecesRight, bothRight, MergedFor, writtenOf};
 
 // Whether both lists are best-of lists of an ending.
@@ -19,8 +19,8 @@ fn are_best(vars: &[u32], keys: &[u32], k: usize, kept: &[u32], list: &[u32]) ->
     requires { ⌜ TopParts k (now vars) (now keys) ⌝ }
     ensures { λ r. ⌜ r ≡ bothRight (top k (now (vars .entry)) (now (keys .entry))) (now (kept .entry)) (now (list .entry)) ⌝ }
 {
-    if best_tests::is_best(vars, keys, k, kept) {
-        return best_tests::is_best(vars, keys, k, list);
+    if list_best_tests::is_best(vars, keys, k, kept) {
+        return list_best_tests::is_best(vars, keys, k, list);
     }
     false
 }
@@ -35,15 +35,16 @@ fn merge_top(
     list: &[u32],
 ) -> Written
     requires { ⌜ TopParts k (now vars) (now keys) × (given ≤ length (now kept)) ⌝ }
-    ensures { λ r. ⌜ MergedFor (top k (now (vars .entry)) (now (keys .entry))) (now (kept .entry)) given (now (list .entry)) (record { answer = r; kept = now (kept .exit) }) ⌝ }
+    ensures { λ r. ⌜ MergedFor (top k (now (vars .entry)) (now (keys .entry))) (now (kept .entry)) given (now (list .entry))
+        (record { answer = r; kept = now (kept .exit) }) ⌝ }
 {
     if !are_best(vars, keys, k, &kept[..given], list) {
         return Written::Refused(LISTS);
     }
-    if !best_tests::has_best_room(vars, k, &kept[..], given, list) {
+    if !list_best_tests::has_best_room(vars, k, &kept[..], given, list) {
         return Written::Refused(ROOM);
     }
-    Written::Words(best_lists::merge_best(vars, keys, k, kept, given, list))
+    Written::Words(list_best::merge_best(vars, keys, k, kept, given, list))
 }
 
 // Whether both lists are lists of groups with g keys.
@@ -51,8 +52,8 @@ fn are_groups(g: usize, kept: &[u32], list: &[u32]) -> bool
     requires { ⌜ g ≤ mostGroupVariables ⌝ }
     ensures { λ r. ⌜ ((vs : List ℕ) (m : ℕ) → length vs ≡ g → r ≡ bothRight (group vs m) (now (kept .entry)) (now (list .entry))) ⌝ }
 {
-    if group_lists::is_groups(g, kept) {
-        return group_lists::is_groups(g, list);
+    if list_groups::is_groups(g, kept) {
+        return list_groups::is_groups(g, list);
     }
     false
 }
@@ -71,18 +72,20 @@ fn written(m: Merged) -> Written
 // The groups of both lists added up; they have g keys.
 fn merge_groups(g: usize, kept: &mut [u32], given: usize, list: &[u32]) -> Written
     requires { ⌜ (g ≤ mostGroupVariables) × (given ≤ length (now kept)) ⌝ }
-    ensures { λ r. ⌜ ((vs : List ℕ) (m : ℕ) → length vs ≡ g → MergedFor (group vs m) (now (kept .entry)) given (now (list .entry)) (record { answer = r; kept = now (kept .exit) })) ⌝ }
+    ensures { λ r. ⌜ ((vs : List ℕ) (m : ℕ) → length vs ≡ g
+        → MergedFor (group vs m) (now (kept .entry)) given (now (list .entry)) (record { answer = r; kept = now (kept .exit) })) ⌝ }
 {
     if !are_groups(g, &kept[..given], list) {
         return Written::Refused(LISTS);
     }
-    written(group_merges::merge_groups(g, kept, given, list))
+    written(list_group_merges::merge_groups(g, kept, given, list))
 }
 
 // Merges by an ending, the words from it on: no list of rows is merged.
 pub fn merge_ending(e: &[u32], kept: &mut [u32], given: usize, list: &[u32]) -> Written
     requires { ⌜ (endingForm (now e) ≡ true) × PiecesRight (endingAt (now e)) × (given ≤ length (now kept)) ⌝ }
-    ensures { λ r. ⌜ MergedFor (endingAt (now (e .entry))) (now (kept .entry)) given (now (list .entry)) (record { answer = r; kept = now (kept .exit) }) ⌝ }
+    ensures { λ r. ⌜ MergedFor (endingAt (now (e .entry))) (now (kept .entry)) given (now (list .entry))
+        (record { answer = r; kept = now (kept .exit) }) ⌝ }
 {
     match plans::ending_kind(e) {
         Last::Rows => Written::Refused(LISTS),

@@ -4,7 +4,8 @@ mod by_ending;
 use by_ending::merge_ending;
 use words::Written;
 ghost use mathlib.Core.Path.{_≡_};
-ghost use Rattle.merges.specs.Merging.{mergeOf};
+ghost use Rattle.merges.specs.Merging.{mergeInput, mergeOf};
+ghost use Rattle.merges.specs.Refusals.{MergeAnswers};
 
 // The tests of a merge after those of its plan, by their numbers.
 pub const LISTS: u32 = 12;
@@ -16,7 +17,9 @@ pub const ROOM: u32 = 14;
 // Merges a list into the kept one, in place: the best rows of both, or their groups added up. It is refused by the number of the
 // first test that fails, and then nothing is written.
 pub fn merge(plan: &[u32], kept: &mut [u32], given: usize, list: &[u32]) -> Written
-    ensures { λ r. ⌜ record { answer = r; kept = now (kept .exit) } ≡ mergeOf (record { plan = now (plan .entry); kept = now (kept .entry); given = given; list = now (list .entry) }) ⌝ }
+    ensures { λ r. ⌜ record { answer = r; kept = now (kept .exit) }
+        ≡ mergeOf (mergeInput (now (plan .entry)) (now (kept .entry)) given (now (list .entry))) ⌝ }
+    ensures number { λ r. ⌜ MergeAnswers (mergeInput (now (plan .entry)) (now (kept .entry)) given (now (list .entry))) r ⌝ }
 {
     let refused = plan_tests::check(plan);
     if refused != 0 {

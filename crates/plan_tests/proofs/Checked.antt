@@ -10,7 +10,7 @@ use lib.ListN.{length, getD, take, drop}
 use borrow.Author.Tests.{ne-eqb, le-leb, lt-leb}
 use Rattle.words.specs.Sequences.{all}
 use Rattle.words.specs.Tests.{firstFailing, numberOf}
-use Rattle.words.proofs.Testing.{passes-all}
+use Rattle.words.proofs.Testing.{passes-all, test-passed}
 use Rattle.words.proofs.Numbering.{one-fails, none-fails}
 use Rattle.words.proofs.Walking.{rest-of}
 use Rattle.plan_tests.specs.declared.Part.{Part}
@@ -47,7 +47,7 @@ module _ (ws : List ℕ) where
 
   -- what the callers of the accessors have of an accepted plan
   pub accepted : firstFailing (planTests ws) ≡ none → (hasForm (readPlan ws) ≡ true) × (variablesRight (planOf ws) ≡ true)
-  accepted e = let p = passes-all (planTests ws) e in (p .0, p .1 .0)
+  accepted e = let p = passes-all (planTests ws) e in (test-passed 5 (planTests ws) p, test-passed 6 (planTests ws) p)
 
 -- ---- the steps of the check
 and-false : (a : Bool) → (a && false) ≡ false

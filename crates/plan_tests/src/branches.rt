@@ -1,7 +1,7 @@
 // Branches read from words, in tests 5 and 6.
 use crate::Part;
-use ending_forms::Wanted;
-use ending_forms::all_wanted;
+use plan_ending_forms::Wanted;
+use plan_ending_forms::all_wanted;
 use plans::MOST_DEPTH;
 use plans::PATTERN_WIDTH;
 use plans::Tree;

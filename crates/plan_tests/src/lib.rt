@@ -1,8 +1,8 @@
 // The test of a plan's form (5) and that of its variables (6).
 mod branches;
 
-use ending_forms::ending_form;
-use ending_variables::ending_right;
+use plan_ending_forms::ending_form;
+use plan_ending_variables::ending_right;
 use plans::both;
 ghost use mathlib.Core.Path.{_≡_};
 ghost use mathlib.Core.List.{_∷_, []};

@@ -18,7 +18,8 @@ use Rattle.plans.specs.declared.Last.{Last}
 use Rattle.plans.specs.declared.Last.the-variants.{Rows, Top, Group, Neither}
 use Rattle.plans.specs.Conditions.{Condition, Read, next, readCondition, nodes, mostDepth, mostNodes}
 use Rattle.plans.specs.Branches.{Branch, patternWidth, mostPatterns, patternCount, withCondition, readBranch, readBranches, nthBranch}
-use Rattle.plans.specs.Endings.{Ending, rows, top, group, mostRowVariables, mostBest, mostKeys, mostGroupVariables, bestCount, rowWidth, rowVariables, afterRows, rowsForm, isKey, keysForm, lastOf, formAs, endingForm, endingAs, endingAt}
+use Rattle.plans.specs.Endings.{Ending, rows, top, group, mostRowVariables, mostBest, defaultBest, mostKeys, mostGroupVariables, bestCount, rowWidth}
+use Rattle.plans.specs.Endings.{rowVariables, afterRows, rowsForm, isKey, keysForm, lastOf, formAs, endingForm, endingAs, endingAt}
 use Rattle.plans.specs.Plans.{Plan, mostBranches, mostPlanWords, branchCount, withEnding, readPlan, hasForm, planOr, branchAt}
 
 -- ---- what was read where a reader's answer is there
@@ -145,7 +146,7 @@ last-bound false false c false e l p = (λ q. cc, λ q. cc)
 best-count : (k : ℕ) → k ≤ mostBest → (1 ≤ bestCount k) × (bestCount k ≤ mostBest)
 best-count k h = go (eqb k 0) refl
   where
-    go : (b : Bool) → eqb k 0 ≡ b → (1 ≤ cond b 64 k) × (cond b 64 k ≤ mostBest)
+    go : (b : Bool) → eqb k 0 ≡ b → (1 ≤ cond b defaultBest k) × (cond b defaultBest k ≤ mostBest)
     go true e = (omega arith, omega arith)
     go false e = (omega (arith, eqb-false k 0 e), h)
 
@@ -184,7 +185,8 @@ ending-form : (ws : List ℕ) → endingForm ws ≡ true → EndingForm (endingA
 unfolding lastOf
 ending-form ws e =
     let w = getD ws 0 0 in
-    let b = last-bound (eqb (kind w) rowsKind) (eqb (kind w) topKind) (leb (low w) mostBest) (eqb (kind w) groupKind) (leb (low w) mostGroupVariables) (lastOf w) refl in
+    let b = last-bound (eqb (kind w) rowsKind) (eqb (kind w) topKind) (leb (low w) mostBest) (eqb (kind w) groupKind) (leb (low w) mostGroupVariables)
+    (lastOf w) refl in
     form-as (lastOf w) ws (λ p. leb-true (low w) mostBest (b .0 p)) (λ p. leb-true (low w) mostGroupVariables (b .1 p)) e
 
 -- ---- the plan

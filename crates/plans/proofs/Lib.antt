@@ -8,4 +8,5 @@ pub mod BranchList
 pub mod BranchWalk
 pub mod EndingForms
 pub mod EndingRead
+pub mod Former
 pub mod PlanRead

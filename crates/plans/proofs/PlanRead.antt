@@ -48,7 +48,8 @@ module _ (ws : List ℕ) (q : Plan) (short : length ws ≤ mostPlanWords) (n : �
         let read : isRead (readBranches n (bodyOf ws)) ≡ true = rw er in
         let list : branchesIn n (bodyOf ws) ≡ q .branches = rw er (ap (λ (z : Plan). z .branches) p) in
         let len : length (q .branches) ≡ n = ap length (sym list) ∙ branches-length n (bodyOf ws) read in
-        let start : drop (x .1) (bodyOf ws) ≡ drop (branchStart n ws) ws = ap (λ (k : ℕ). drop k (bodyOf ws)) (sym (ap wordsRead er)) ∙ from-start ws n in
+        let start : drop (x .1) (bodyOf ws) ≡ drop (branchStart n ws) ws = ap (λ (k : ℕ). drop k (bodyOf ws)) (sym (ap wordsRead er))
+        ∙ from-start ws n in
         record {
           short = short;
           some-branch = λ z. hn (sym len ∙ z);

@@ -15,7 +15,16 @@ pub record Branch : Type 0 where
   pub terms : List ℕ
   pub condition : Condition
 
--- the terms of a pattern: subject, predicate, object
+-- the fields of a pattern, and how many there are: its own, and not the columns of a row
+abbrev pub subjectField : ℕ
+subjectField = 0
+
+abbrev pub predicateField : ℕ
+predicateField = 1
+
+abbrev pub objectField : ℕ
+objectField = 2
+
 abbrev pub patternWidth : ℕ
 patternWidth = 3
 

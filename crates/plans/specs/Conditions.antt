@@ -43,6 +43,10 @@ nodeOf w =
 abbrev pub pairOf : ℕ → Condition → Condition → Condition
 pairOf w a b = cond (eqb (kind w) andKind) (both a b) (either a b)
 
+-- the words of a comparison: its own, and two terms
+abbrev pub comparisonWords : ℕ
+comparisonWords = 3
+
 -- a node: what its first word begins, the reader of the conditions in it, that word, and the words after it
 unfoldable pub readNode : Node → (List ℕ → Read Condition) → ℕ → List ℕ → Read Condition
 readNode Always inner w ws = some (always, 1)
@@ -51,7 +55,7 @@ readNode Pair inner w ws =
 readNode Negated inner w ws = next (inner ws) (λ x. some (negated (x .0), 1 + x .1))
 readNode Compared inner w [] = none
 readNode Compared inner w (l ∷ []) = none
-readNode Compared inner w (l ∷ r ∷ ws) = some (compared (low w) l r, 3)
+readNode Compared inner w (l ∷ r ∷ ws) = some (compared (low w) l r, comparisonWords)
 readNode Wrong inner w ws = none
 
 -- a condition that is at most so many nodes deep

@@ -27,9 +27,13 @@ mostKeys = 4
 abbrev pub mostGroupVariables : ℕ
 mostGroupVariables = 4
 
--- how many rows a best-of list keeps, by the k that a plan has
+-- how many rows a best-of list keeps where the plan gives no number
+abbrev pub defaultBest : ℕ
+defaultBest = 10
+
+-- how many it keeps, by the k that a plan has
 abbrev pub bestCount : ℕ → ℕ
-bestCount k = cond (eqb k 0) 64 k
+bestCount k = cond (eqb k 0) defaultBest k
 
 -- ---- the form of an ending, in test 5
 -- the variables that a kind 8 word names, 0 where it is no such word

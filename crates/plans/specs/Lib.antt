@@ -1,6 +1,7 @@
 pub mod Conditions
 pub mod Branches
 pub mod Endings
+pub mod Former
 pub mod Plans
 pub mod Reading
 pub mod Computing

@@ -7,7 +7,7 @@ use mathlib.Core.List.{List, []}
 use lib.Dec.{eqb, leb, ltb}
 use lib.ListN.{length, getD, drop}
 use Rattle.words.specs.Words.{kind, low}
-use Rattle.plans.specs.Conditions.{Condition, Read, nodes, boundIn, allBound}
+use Rattle.plans.specs.Conditions.{Condition, Read, comparisonWords, nodes, boundIn, allBound}
 use Rattle.plans.specs.Branches.{Branch, noBranch, readBranch, readBranches}
 use Rattle.plans.specs.Endings.{Ending, rows, top, group}
 use Rattle.plans.specs.declared.Last.{Last}
@@ -48,7 +48,7 @@ treeOf terms (some x) = Reads (x .1) (nodes (x .0)) (allBound terms (x .0))
 -- a comparison's two terms after its first word
 abbrev pub comparisonTree : List ℕ → List ℕ → Tree
 comparisonTree terms ws =
-    cond (ltb (length ws) 3) Bad (Reads 3 1 (boundIn terms (getD ws 1 0) && boundIn terms (getD ws 2 0)))
+    cond (ltb (length ws) comparisonWords) Bad (Reads comparisonWords 1 (boundIn terms (getD ws 1 0) && boundIn terms (getD ws 2 0)))
 
 -- a condition under one more node, and two conditions under one node
 abbrev pub overTree : Tree → Tree

@@ -1,7 +1,7 @@
 // Branches: what stands in one that was read.
 use crate::MOST_DEPTH;
 use crate::Tree;
-use crate::conditions::condition;
+use crate::nodes::condition;
 use crate::searches::count_in;
 use words::PlanWord;
 ghost use mathlib.Core.Path.{_≡_};
@@ -12,7 +12,13 @@ ghost use Rattle.plans.specs.Conditions.{readCondition, mostDepth};
 ghost use Rattle.plans.specs.Branches.{patternCount, mostPatterns, readBranch, readBranches};
 ghost use Rattle.plans.specs.Reading.{isRead, wordsRead, branchIn, Gives};
 
-// The terms of a pattern.
+// The fields of a pattern, and how many there are: its own, and not the columns of a row.
+pub const SUBJECT_FIELD: usize = 0;
+
+pub const PREDICATE_FIELD: usize = 1;
+
+pub const OBJECT_FIELD: usize = 2;
+
 pub const PATTERN_WIDTH: usize = 3;
 
 pub const MOST_PATTERNS: u32 = 8;

@@ -15,6 +15,9 @@ pub const MOST_ROW_VARIABLES: u32 = 16;
 
 pub const MOST_BEST: u32 = 64;
 
+// The rows of a best-of list where the plan gives no number.
+pub const DEFAULT_BEST: u32 = 10;
+
 pub const MOST_GROUP_VARIABLES: u32 = 4;
 
 pub fn last_of(word: u32) -> Last
@@ -110,7 +113,7 @@ pub fn best_count(e: &[u32]) -> usize
 {
     let k = PlanWord(first(e)).low();
     if k == 0 {
-        return words::wide(MOST_BEST);
+        return words::wide(DEFAULT_BEST);
     }
     words::wide(k)
 }

@@ -1,16 +1,18 @@
 // Plans: what stands in one that has the form.
 mod branches;
-mod conditions;
 mod endings;
+mod nodes;
 mod searches;
 
+pub use branches::MOST_PATTERNS;
+pub use branches::OBJECT_FIELD;
 pub use branches::PATTERN_WIDTH;
+pub use branches::PREDICATE_FIELD;
+pub use branches::SUBJECT_FIELD;
 pub use branches::branch_words;
 pub use branches::condition_part;
 pub use branches::pattern_count;
 pub use branches::terms;
-pub use conditions::both;
-pub use conditions::condition;
 pub use endings::best_count;
 pub use endings::ending_kind;
 pub use endings::keys;
@@ -18,6 +20,9 @@ pub use endings::last_of;
 pub use endings::measured;
 pub use endings::row_width;
 pub use endings::variables;
+pub use nodes::COMPARISON_WORDS;
+pub use nodes::both;
+pub use nodes::condition;
 pub use searches::among;
 pub use searches::first;
 use words::PlanWord;

@@ -23,17 +23,17 @@ use Rattle.turns.specs.declared.TurnEnding.the-variants as ending
 use Rattle.turns.specs.Turns.{TurnInput, TurnResult, turnOf}
 use Rattle.turns.proofs.Follows.{follows}
 use Rattle.turns.proofs.OnTheRun.{keeps-lengths}
-use Rattle.runs.proofs.Growing.{Grows, grows}
-use Rattle.cuts.specs.Histories.{Event, turns, Held, Served, servedIn, stepsIn, doneIn, isDone, turnInputOf, servedOf, afterServed, afterTurn}
+use Rattle.turn_runs.proofs.Growing.{Grows, grows}
+use Rattle.cuts.specs.Histories.{Event, turns, Phone, ServedTurn, servedIn, stepsIn, doneIn, isDone, turnInputOf, servedOf, afterServed, afterTurn}
 use Rattle.cuts.specs.Histories.{afterTaking, happens, history}
 use Rattle.cuts.specs.Premises.{Asked, Premises}
 use Rattle.cuts.specs.Uncut.{AsUncut, runList, runFits}
-use Rattle.cuts.proofs.Accepting.{Accepted, accepted-form}
+use Rattle.cuts.specs.Accepting.{Accepted, Passed}
+use Rattle.cuts.proofs.Accepting.{accepted-form}
 use Rattle.cuts.proofs.Chains.{steps-more, done-more, Piece}
 use Rattle.cuts.proofs.Turning.{Kept}
 use Rattle.cuts.proofs.Taking.{next-piece}
 use Rattle.cuts.proofs.AnyCut.{history-keeps, as-uncut}
-use Rattle.cuts.proofs.States.{Passed}
 use Rattle.queries.specs.declared.Keeping.{Keeping}
 use Rattle.queries.specs.Stepping.{isServed, keeps, keptOf}
 use Rattle.queries.proofs.UnderWay.{UnderWay}
@@ -41,12 +41,12 @@ use Rattle.queries.proofs.Taking.{is-served}
 
 -- ---- one call more
 module _ (t : Tables) (plan : List ℕ) where
-  pub history-more : (es : List Event) (h : Held) (e : Event) → history t plan h (es ++ (e ∷ [])) ≡ happens t plan (history t plan h es) e
+  pub history-more : (es : List Event) (h : Phone) (e : Event) → history t plan h (es ++ (e ∷ [])) ≡ happens t plan (history t plan h es) e
   unfolding history
   history-more [] h e = refl
   history-more (x ∷ es) h e = history-more es (happens t plan h x) e
 
-  pub premises-more : (es : List Event) (h : Held) (e : Event) → Premises t plan h es → Asked t plan (history t plan h es) e
+  pub premises-more : (es : List Event) (h : Phone) (e : Event) → Premises t plan h es → Asked t plan (history t plan h es) e
       → Premises t plan h (es ++ (e ∷ []))
   unfolding history
   premises-more [] h e p a = (a, tt)
@@ -67,7 +67,7 @@ list-grows t plan a =
     (and-right (all branchRight (q .branches)) (endingRight (binds (q .branches)) (q .ending)) (a .variables)) refl
 
 -- a served turn leaves what its result says
-served-after : (h : Held) (quantum : ℕ) (r : TurnResult) (e : TurnEnding) → isServed e ≡ true → afterTurn h quantum r e ≡ afterServed h quantum r
+served-after : (h : Phone) (quantum : ℕ) (r : TurnResult) (e : TurnEnding) → isServed e ≡ true → afterTurn h quantum r e ≡ afterServed h quantum r
 served-after h quantum r ending.Done f = refl
 served-after h quantum r ending.Spent f = refl
 served-after h quantum r ending.Full f = refl
@@ -91,7 +91,7 @@ kept-longer : (b : Bool) (xs ys : List ℕ) → length xs ≤ length ys → leng
 kept-longer true xs ys l = l
 kept-longer false xs ys l = omega arith
 
-module _ (keep : Keeping) (t : Tables) (plan : List ℕ) (a : Accepted t plan) (first : Held) (k : Kept t (planOf plan) first) (before : List ℕ) where
+module _ (keep : Keeping) (t : Tables) (plan : List ℕ) (a : Accepted t plan) (first : Phone) (k : Kept t (planOf plan) first) (before : List ℕ) where
   abbrev q : Plan
   q = planOf plan
 
@@ -99,8 +99,9 @@ module _ (keep : Keeping) (t : Tables) (plan : List ℕ) (a : Accepted t plan) (
   abbrev part : List ℕ → List ℕ
   part = keptOf keep (q .ending)
 
-  module _ (count : ℕ) (state : List ℕ) (saved : ℕ) (kept : List ℕ) (used : ℕ) (u : UnderWay keep t plan first before count state saved kept used) where
-    abbrev h : Held
+  module _ (count : ℕ) (state : List ℕ) (saved : ℕ) (kept : List ℕ) (used : ℕ)
+      (u : UnderWay keep t plan first before count state saved kept used) where
+    abbrev h : Phone
     h = u .held
 
     pub held-keeps : Kept t q h
@@ -152,10 +153,10 @@ module _ (keep : Keeping) (t : Tables) (plan : List ℕ) (a : Accepted t plan) (
               omega (arith, e, length-append (h .saved) (drop saved state), u .state-count)
 
       module _ (served : isServed (turnOf i .answer .ending) ≡ true) where
-        abbrev x : Served
+        abbrev x : ServedTurn
         x = servedOf quantum (turnOf i)
 
-        abbrev turned : Held
+        abbrev turned : Phone
         turned = afterServed h quantum (turnOf i)
 
         turn-made : happens t plan h call ≡ turned
@@ -184,7 +185,7 @@ module _ (keep : Keeping) (t : Tables) (plan : List ℕ) (a : Accepted t plan) (
 
         -- the list of that turn is taken by one call more
         module _ (e : Event) (asked : Asked t plan turned e) (list : List ℕ) (taken : happens t plan turned e ≡ afterTaking turned x [] list) where
-          abbrev now : Held
+          abbrev now : Phone
           now = afterTaking turned x [] list
 
           more-reach : history t plan first (calls ++ (e ∷ [])) ≡ now
@@ -207,7 +208,8 @@ module _ (keep : Keeping) (t : Tables) (plan : List ℕ) (a : Accepted t plan) (
               (omega (arith, ap length new, ap length (held-keeps .list), longer-by (q .ending) (list-grows t plan a) rows (piece .rows)))
 
           module _ (fits : runFits (q .ending) (after t q (stepsIn (h .taken) + x .steps)) ≡ true)
-              (new : List ℕ) (words : ℕ) (whole : new ≡ over (part list) kept) (counted : words ≡ length (part list)) (room : words ≤ length kept) where
+              (new : List ℕ) (words : ℕ) (whole : new ≡ over (part list) kept) (counted : words ≡ length (part list))
+              (room : words ≤ length kept) where
             -- done was answered exactly by a turn that was done
             done-then : ¬ (saved ≡ 0) → doneIn (servedIn now) ≡ isDone (turnOf i .answer .ending)
             done-then f =

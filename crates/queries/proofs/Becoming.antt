@@ -15,8 +15,8 @@ use Rattle.turns.specs.declared.TurnEnding.{TurnEnding}
 use Rattle.turns.specs.declared.TurnEnding.the-variants as ending
 use Rattle.turns.specs.Turns.{TurnInput, turnOf}
 use Rattle.merges.specs.Merging.{MergeResult}
-use Rattle.cuts.specs.Histories.{Held, Served, stepsIn, isDone, servedOf}
-use Rattle.cuts.proofs.Accepting.{Accepted}
+use Rattle.cuts.specs.Histories.{Phone, ServedTurn, stepsIn, isDone, servedOf}
+use Rattle.cuts.specs.Accepting.{Accepted}
 use Rattle.cuts.proofs.Turning.{Kept}
 use Rattle.queries.specs.declared.Keeping.{Keeping}
 use Rattle.queries.specs.declared.Went.{Went}
@@ -30,7 +30,7 @@ use Rattle.queries.proofs.Leaving.{Going, Becomes}
 use Rattle.queries.proofs.Leaving as leaving
 use Rattle.queries.proofs.ListTaken as taking
 
-module _ (keep : Keeping) (t : Tables) (plan : List ℕ) (a : Accepted t plan) (first : Held) (k : Kept t (planOf plan) first) (before : List ℕ) where
+module _ (keep : Keeping) (t : Tables) (plan : List ℕ) (a : Accepted t plan) (first : Phone) (k : Kept t (planOf plan) first) (before : List ℕ) where
   abbrev q : Plan
   q = planOf plan
 
@@ -49,7 +49,7 @@ module _ (keep : Keeping) (t : Tables) (plan : List ℕ) (a : Accepted t plan) (
     abbrev m : MergeResult
     m = takenBy keep i (turnOf i) kept used
 
-    abbrev x : Served
+    abbrev x : ServedTurn
     x = servedOf quantum (turnOf i)
 
     abbrev Taken : List ℕ → Written → Type 0
@@ -58,8 +58,11 @@ module _ (keep : Keeping) (t : Tables) (plan : List ℕ) (a : Accepted t plan) (
     abbrev Then : List ℕ → List ℕ → Went → Type 0
     Then now left w = Becomes keep t plan first before quantum most (length output) count now left w
 
-    stopped : (y : ℕ) (left : List ℕ) → (left ≡ kept) × Cause keep t plan quantum (length output) before n y → Then (turnOf i .state) left (Stopped y)
-    stopped y left p = leaving.stops keep t plan a first k before count state saved kept used u quantum most (length output) fewer (g .made) left y (p .1) (p .0)
+    stopped : (y : ℕ) (left : List ℕ) → (left ≡ kept) × Cause keep t plan quantum (length output) before n y
+        → Then (turnOf i .state) left (Stopped y)
+    stopped y left p =
+        leaving.stops keep t plan a first k before count state saved kept used u quantum most (length output) fewer (g .made) left y
+        (p .1) (p .0)
 
     -- the list of a turn is taken: the query goes on, or is over
     module _ (e : TurnEnding) (f : turnOf i .answer .ending ≡ e) (s : isServed e ≡ true) (words : ℕ) (p : Taken (m .kept) (written.Words words)) where

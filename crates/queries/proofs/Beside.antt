@@ -15,8 +15,9 @@ use Rattle.turns.specs.Turns.{TurnInput, givenPlan, turnOf}
 use Rattle.queries.specs.declared.Keeping.the-variants.{All, Merged}
 use Rattle.queries.specs.declared.Went.{Went}
 use Rattle.queries.specs.declared.Went.the-variants.{On, Over, Stopped}
-use Rattle.queries.specs.Stepping.{isRows, listOf, takeTurnOf}
-use Rattle.queries.specs.Rounds.{Lent, Position, advanced, roundInput, rounds, startOf}
+use Rattle.lists.specs.Gathering.{isRows}
+use Rattle.queries.specs.Stepping.{outputList, takeTurnOf}
+use Rattle.queries.specs.Rounds.{Lent, Position, advanced, roundInput, rounds, firstPosition}
 use Rattle.queries.proofs.Rounds.{rounds-none, rounds-on, rounds-over, rounds-stopped}
 
 -- the same state and output, and a kept buffer as it was first
@@ -37,7 +38,7 @@ module _ (i : TurnInput) (kept : List ℕ) (used : ℕ) (first : List ℕ) (h : 
   abbrev Alike : Type 0
   Alike = Beside first (advanced (takeTurnOf All i kept used)) (advanced (takeTurnOf Merged i first 0))
 
-  by-room : (x : TurnEnding) → turnOf i .answer .ending ≡ x → (b : Bool) → leb (used + length (listOf (turnOf i))) (length kept) ≡ b → Alike
+  by-room : (x : TurnEnding) → turnOf i .answer .ending ≡ x → (b : Bool) → leb (used + length (outputList (turnOf i))) (length kept) ≡ b → Alike
   unfolding takeTurnOf
   by-room ending.Done e true f = rw (e, h, f) refl
   by-room ending.Spent e true f = rw (e, h, f) refl
@@ -48,14 +49,14 @@ module _ (i : TurnInput) (kept : List ℕ) (used : ℕ) (first : List ℕ) (h : 
   by-room (ending.Refused y) e b f = rw e (inr refl)
 
   turn-beside : Alike
-  turn-beside = by-room (turnOf i .answer .ending) refl (leb (used + length (listOf (turnOf i))) (length kept)) refl
+  turn-beside = by-room (turnOf i .answer .ending) refl (leb (used + length (outputList (turnOf i))) (length kept)) refl
 
 module _ (t : Tables) (plan : List ℕ) (quantum : ℕ) (h : isRows (planOf plan .ending) ≡ true) (opened : ℕ) (lent : Lent) where
   abbrev kept-at : ℕ → Position
-  kept-at n = rounds All t plan quantum n (startOf opened lent)
+  kept-at n = rounds All t plan quantum n (firstPosition opened lent)
 
   abbrev left-at : ℕ → Position
-  left-at n = rounds Merged t plan quantum n (startOf opened lent)
+  left-at n = rounds Merged t plan quantum n (firstPosition opened lent)
 
   abbrev first : List ℕ
   first = lent .kept
@@ -63,25 +64,25 @@ module _ (t : Tables) (plan : List ℕ) (quantum : ℕ) (h : isRows (planOf plan
   later : (n : ℕ) (w : Went) (l : Lent) → kept-at n ≡ record { went = w; held = l } → BesideAs first w l (left-at n)
       → Beside first (kept-at (n + 1)) (left-at (n + 1))
   later n (On saved used) l e b =
-      let p = rounds-on All t plan quantum (startOf opened lent) n saved used l e in
-      let q = rounds-on Merged t plan quantum (startOf opened lent) n saved 0 (leaving first l) b in
+      let p = rounds-on All t plan quantum (firstPosition opened lent) n saved used l e in
+      let q = rounds-on Merged t plan quantum (firstPosition opened lent) n saved 0 (leaving first l) b in
       subst⁻¹ (λ x. Beside first x (left-at (n + 1))) p
       (subst⁻¹ (Beside first (advanced (takeTurnOf All (roundInput t plan quantum saved l) (l .kept) used))) q
       (turn-beside (roundInput t plan quantum saved l) (l .kept) used first h))
   later n (Over words) l e b =
-      subst⁻¹ (λ x. Beside first x (left-at (n + 1))) (rounds-over All t plan quantum (startOf opened lent) n (n + 1) (omega arith) words l e)
-      (rounds-over Merged t plan quantum (startOf opened lent) n (n + 1) (omega arith) 0 (leaving first l) b)
+      subst⁻¹ (λ x. Beside first x (left-at (n + 1))) (rounds-over All t plan quantum (firstPosition opened lent) n (n + 1) (omega arith) words l e)
+      (rounds-over Merged t plan quantum (firstPosition opened lent) n (n + 1) (omega arith) 0 (leaving first l) b)
   later n (Stopped x) l e b =
-      subst⁻¹ (λ y. Beside first y (left-at (n + 1))) (rounds-stopped All t plan quantum (startOf opened lent) n (n + 1) (omega arith) x l e)
+      subst⁻¹ (λ y. Beside first y (left-at (n + 1))) (rounds-stopped All t plan quantum (firstPosition opened lent) n (n + 1) (omega arith) x l e)
       (elim b [
         | inl y ↦ inl y
-        | inr y ↦ inr (rounds-stopped Merged t plan quantum (startOf opened lent) n (n + 1) (omega arith) x (leaving first l) y)
+        | inr y ↦ inr (rounds-stopped Merged t plan quantum (firstPosition opened lent) n (n + 1) (omega arith) x (leaving first l) y)
       ])
 
   pub rows-beside : (n : ℕ) → Beside first (kept-at n) (left-at n)
   rows-beside zero =
-      subst⁻¹ (λ x. Beside first x (left-at 0)) (rounds-none All t plan quantum (startOf opened lent))
-      (rounds-none Merged t plan quantum (startOf opened lent))
+      subst⁻¹ (λ x. Beside first x (left-at 0)) (rounds-none All t plan quantum (firstPosition opened lent))
+      (rounds-none Merged t plan quantum (firstPosition opened lent))
   rows-beside (suc n) =
       let d : n + 1 ≡ suc n = omega arith in
       subst (λ k. Beside first (kept-at k) (left-at k)) d (later n (kept-at n .went) (kept-at n .held) refl (rows-beside n))

@@ -18,14 +18,15 @@ use Rattle.steps.specs.Saved.{savedWords}
 use Rattle.steps.proofs.Runs.{after-none}
 use Rattle.turns.specs.Opening.{Opens}
 use Rattle.cuts.specs.Uncut.{EndsAt, runFits, NotTaken, totals-pass, no-room}
-use Rattle.cuts.proofs.Accepting.{Accepted, opening-accepts}
+use Rattle.cuts.specs.Accepting.{Accepted}
+use Rattle.cuts.proofs.Accepting.{opening-accepts}
 use Rattle.queries.specs.declared.Keeping.{Keeping}
 use Rattle.queries.specs.declared.Played.{Played}
-use Rattle.queries.specs.declared.Played.the-variants.{Finished, Unfinished, Refused}
+use Rattle.queries.specs.declared.Played.the-variants.{Finished, Unfinished, Stopped, Refused}
 use Rattle.queries.specs.Stepping.{keeps}
 use Rattle.queries.specs.Rounds.{Lent}
-use Rattle.queries.specs.Playing.{listAfter, keptAfter, Holds, Sized, Turns, none-made, one-more, Finishes, Pauses, Cause, output-short, quantum-wrong}
-use Rattle.queries.specs.Playing.{list-left, Stops, Leaves, NotOpened, Plays}
+use Rattle.queries.specs.Playing.{listAfter, keptAfter, Holds, InLimits, Turns, none-made, one-more, Finishes, Pauses}
+use Rattle.queries.specs.Playing.{Cause, output-short, quantum-wrong, list-left, Stops, Leaves, OpeningRefused, Plays}
 use Rattle.queries.proofs.Room.{rows-later, no-shorter}
 use Rattle.queries.proofs.Totals.{fits-first}
 use Rattle.queries.proofs.Once.{not-past, turn-once, turns-once, no-further, turns-grow}
@@ -59,7 +60,7 @@ module _ (keep : Keeping) (t : Tables) (plan : List ℕ) (a : Accepted t plan) (
   For steps x = Cause keep t plan quantum room before steps x
 
   -- tests 7 and 8 pass of each turn that was made
-  made-sized : (c n : ℕ) → Made c n → 0 < c → Sized plan quantum room
+  made-sized : (c n : ℕ) → Made c n → 0 < c → InLimits plan quantum room
   made-sized c n none-made l = absurd (omega arith)
   made-sized c n (one-more k from to ts x) l = x .sized
 
@@ -76,7 +77,8 @@ module _ (keep : Keeping) (t : Tables) (plan : List ℕ) (a : Accepted t plan) (
       all-kept : (j : ℕ) → keptAfter keep t plan j ≡ listAfter t plan j
       all-kept j = rw b
 
-      go : runFits (q .ending) (after t q m) ≡ true → length (listAfter t plan m) ≤ length before → (y : ℕ) → NotTaken t q m (length before) y → ⊥
+      go : runFits (q .ending) (after t q m) ≡ true → length (listAfter t plan m) ≤ length before
+          → (y : ℕ) → NotTaken t q m (length before) y → ⊥
       go f r y (totals-pass p) = absurd-true f p
       go f r y (no-room p k) = omega arith
 
@@ -155,7 +157,8 @@ module _ (keep : Keeping) (t : Tables) (plan : List ℕ) (a : Accepted t plan) (
     paused-or-stopped state kept saved words p kept₁ x s =
         not-stopped (s .count) (s .steps) x (s .made) (s .cause) most (p .stands .steps) (p .stands .made) (s .allowed) kept words (p .list)
 
-    stopped-once : (kept kept₁ : List ℕ) (x y : ℕ) → Stops keep t plan quantum most room before kept x → Stops keep t plan quantum most room before kept₁ y
+    stopped-once : (kept kept₁ : List ℕ) (x y : ℕ) → Stops keep t plan quantum most room before kept x
+        → Stops keep t plan quantum most room before kept₁ y
         → (x ≡ y) × (kept ≡ kept₁)
     stopped-once kept kept₁ x y s r =
         elim (decLt (s .count) (r .count)) [
@@ -176,31 +179,36 @@ module _ (keep : Keeping) (t : Tables) (plan : List ℕ) (a : Accepted t plan) (
         let e = same-list (f .steps) (g .steps) (ends-once t q (f .steps) (g .steps) (f .ends) (g .ends)) kept kept₁ n n₁ (f .list) (g .list) in
         (ap Finished (e .0), e .1)
     leaves-once state kept state₁ kept₁ (Finished n) (Unfinished s n₁) f g = absurd (finished-or-paused kept n f state₁ kept₁ s n₁ g)
-    leaves-once state kept state₁ kept₁ (Finished n) (Refused x) f g = absurd (finished-or-stopped kept n f kept₁ x g)
+    leaves-once state kept state₁ kept₁ (Finished n) (Stopped x) f g = absurd (finished-or-stopped kept n f kept₁ x g)
     leaves-once state kept state₁ kept₁ (Unfinished s n) (Finished n₁) f g = absurd (finished-or-paused kept₁ n₁ g state kept s n f)
     leaves-once state kept state₁ kept₁ (Unfinished s n) (Unfinished s₁ n₁) f g =
         let d = turns-once t plan a quantum room most most (f .stands .steps) (g .stands .steps) (f .stands .made) (g .stands .made) refl in
         let e = same-list (f .stands .steps) (g .stands .steps) d kept kept₁ n n₁ (f .list) (g .list) in
         let w = f .stands .state-count ∙ ap (λ j. length (savedWords (after t q j .state))) d ∙ sym (g .stands .state-count) in
         (ap₂ Unfinished w (e .0), e .1)
-    leaves-once state kept state₁ kept₁ (Unfinished s n) (Refused x) f g = absurd (paused-or-stopped state kept s n f kept₁ x g)
-    leaves-once state kept state₁ kept₁ (Refused x) (Finished n₁) f g = absurd (finished-or-stopped kept₁ n₁ g kept x f)
-    leaves-once state kept state₁ kept₁ (Refused x) (Unfinished s n₁) f g = absurd (paused-or-stopped state₁ kept₁ s n₁ g kept x f)
-    leaves-once state kept state₁ kept₁ (Refused x) (Refused y) f g =
+    leaves-once state kept state₁ kept₁ (Unfinished s n) (Stopped x) f g = absurd (paused-or-stopped state kept s n f kept₁ x g)
+    leaves-once state kept state₁ kept₁ (Stopped x) (Finished n₁) f g = absurd (finished-or-stopped kept₁ n₁ g kept x f)
+    leaves-once state kept state₁ kept₁ (Stopped x) (Unfinished s n₁) f g = absurd (paused-or-stopped state₁ kept₁ s n₁ g kept x f)
+    leaves-once state kept state₁ kept₁ (Stopped x) (Stopped y) f g =
         let e = stopped-once kept kept₁ x y f g in
-        (ap Refused (e .0), e .1)
+        (ap Stopped (e .0), e .1)
+    leaves-once state kept state₁ kept₁ (Finished n) (Refused x) f g = absurd g
+    leaves-once state kept state₁ kept₁ (Unfinished s n) (Refused x) f g = absurd g
+    leaves-once state kept state₁ kept₁ (Stopped y) (Refused x) f g = absurd g
+    leaves-once state kept state₁ kept₁ (Refused x) r f g = absurd f
 
 -- ---- from their opening on
 module _ (keep : Keeping) (t : Tables) (plan : List ℕ) (quantum most : ℕ) (before : Lent) where
   by-opening : (left : Lent) (r : Played) → Plays keep t plan quantum most before left r
-      → ((x : ℕ) × (r ≡ Refused x) × NotOpened t plan before left x)
+      → ((x : ℕ) × (r ≡ Refused x) × OpeningRefused t plan before left x)
       ⊎ (Opens t plan (before .state) × Leaves keep t plan quantum most (length (before .output)) (before .kept) (left .state) (left .kept) r)
   by-opening left (Finished n) p = inr p
   by-opening left (Unfinished s n) p = inr p
-  by-opening left (Refused x) (inl p) = inl (x, refl, p)
-  by-opening left (Refused x) (inr p) = inr p
+  by-opening left (Stopped x) p = inr p
+  by-opening left (Refused x) p = inl (x, refl, p)
 
-  pub played-once : (left left₁ : Lent) (r r₁ : Played) → Plays keep t plan quantum most before left r → Plays keep t plan quantum most before left₁ r₁
+  pub played-once : (left left₁ : Lent) (r r₁ : Played) → Plays keep t plan quantum most before left r
+      → Plays keep t plan quantum most before left₁ r₁
       → (r ≡ r₁) × (left .kept ≡ left₁ .kept)
   played-once left left₁ r r₁ p p₁ =
       elim (by-opening left r p) [

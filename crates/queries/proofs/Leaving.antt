@@ -10,41 +10,42 @@ use Rattle.tables.specs.Tables.{Tables}
 use Rattle.plans.specs.Plans.{Plan, planOf}
 use Rattle.steps.specs.Steps.{after}
 use Rattle.steps.specs.Saved.{savedWords}
-use Rattle.cuts.specs.Histories.{Held, servedIn, stepsIn, doneIn}
+use Rattle.cuts.specs.Histories.{Phone, servedIn, stepsIn, doneIn}
 use Rattle.cuts.specs.Uncut.{EndsAt, AsUncut}
-use Rattle.cuts.proofs.Accepting.{Accepted}
+use Rattle.cuts.specs.Accepting.{Accepted}
 use Rattle.cuts.proofs.Turning.{Kept}
 use Rattle.queries.specs.declared.Keeping.{Keeping}
 use Rattle.queries.specs.declared.Went.{Went}
 use Rattle.queries.specs.declared.Went.the-variants.{On, Over, Stopped}
 use Rattle.queries.specs.Stepping.{keeps, keptOf}
-use Rattle.queries.specs.Playing.{Holds, Turns, Stands, Finishes, Pauses, Cause, Stops}
+use Rattle.queries.specs.Playing.{Holds, Turns, StandsAfter, Finishes, Pauses, Cause, Stops}
 use Rattle.queries.proofs.UnderWay.{UnderWay}
 use Rattle.queries.proofs.Refusing.{at-first}
 use Rattle.queries.proofs.Advancing as advancing
 
 -- a query that goes on: under way, its saved words those of a state, and its turns made as the uncut run has them
-pub record Going (keep : Keeping) (t : Tables) (plan : List ℕ) (first : Held) (before : List ℕ) (quantum room count : ℕ) (state : List ℕ) (saved : ℕ)
+pub record Going (keep : Keeping) (t : Tables) (plan : List ℕ) (first : Phone) (before : List ℕ) (quantum room count : ℕ) (state : List ℕ) (saved : ℕ)
     (kept : List ℕ) (used : ℕ) : Type 0 where
   pub under : UnderWay keep t plan first before count state saved kept used
   pub alive : ¬ (saved ≡ 0)
   pub made : Turns t plan quantum room count (stepsIn (under .held .taken))
 
 -- what one more turn comes to, by how the query goes on
-abbrev pub Becomes : Keeping → Tables → List ℕ → Held → List ℕ → ℕ → ℕ → ℕ → ℕ → List ℕ → List ℕ → Went → Type 0
+abbrev pub Becomes : Keeping → Tables → List ℕ → Phone → List ℕ → ℕ → ℕ → ℕ → ℕ → List ℕ → List ℕ → Went → Type 0
 Becomes keep t plan first before quantum most room count now left (On s words) = Going keep t plan first before quantum room (count + 1) now s left words
 Becomes keep t plan first before quantum most room count now left (Over words) = Finishes keep t plan quantum most room before left words
 Becomes keep t plan first before quantum most room count now left (Stopped y) = Stops keep t plan quantum most room before left y
 
-module _ (keep : Keeping) (t : Tables) (plan : List ℕ) (a : Accepted t plan) (first : Held) (k : Kept t (planOf plan) first) (before : List ℕ) where
+module _ (keep : Keeping) (t : Tables) (plan : List ℕ) (a : Accepted t plan) (first : Phone) (k : Kept t (planOf plan) first) (before : List ℕ) where
   abbrev q : Plan
   q = planOf plan
 
   abbrev part : List ℕ → List ℕ
   part = keptOf keep (q .ending)
 
-  module _ (count : ℕ) (state : List ℕ) (saved : ℕ) (kept : List ℕ) (used : ℕ) (u : UnderWay keep t plan first before count state saved kept used) where
-    abbrev h : Held
+  module _ (count : ℕ) (state : List ℕ) (saved : ℕ) (kept : List ℕ) (used : ℕ)
+      (u : UnderWay keep t plan first before count state saved kept used) where
+    abbrev h : Phone
     h = u .held
 
     -- ---- what a query under way says of the uncut run
@@ -70,7 +71,7 @@ module _ (keep : Keeping) (t : Tables) (plan : List ℕ) (a : Accepted t plan) (
     ends d = uncut .finished d (u .taken) .0
 
     pub stands : ¬ (saved ≡ 0) → (quantum room : ℕ) → Turns t plan quantum room count (stepsIn (h .taken))
-        → Stands t plan quantum room count state saved
+        → StandsAfter t plan quantum room count state saved
     stands f quantum room made =
         let n = stepsIn (h .taken) in
         let s : h .saved ≡ savedWords (after t q n .state) = run-kept .saved ∙ ap (λ l. savedWords (after t q (stepsIn l) .state)) all-taken in

@@ -19,15 +19,16 @@ use Rattle.turns.specs.Turns.{TurnInput, turnOf}
 use Rattle.merges.specs.Merging.{MergeInput, MergeResult, mergeOf}
 use Rattle.merges.proofs.Refusals as refusals
 use Rattle.merges.proofs.Writes.{merge-writes}
-use Rattle.cuts.specs.Histories.{merges, joins, Held, Served, servedIn, stepsIn, doneIn, isDone, servedOf, mergeInputOf, afterServed, afterTaking}
+use Rattle.cuts.specs.Histories.{merges, joins, Phone, ServedTurn, servedIn, stepsIn, doneIn, isDone, servedOf, mergeInputOf, afterServed, afterTaking}
 use Rattle.cuts.specs.Histories.{afterMerge, afterMerging, afterJoin, afterJoining, happens}
-use Rattle.cuts.specs.Uncut.{runList, runFits, NotTaken, no-room}
-use Rattle.cuts.proofs.Accepting.{Accepted}
+use Rattle.cuts.specs.Uncut.{runList, runFits, MergesLists, NotTaken, no-room}
+use Rattle.cuts.specs.Accepting.{Accepted}
 use Rattle.cuts.proofs.Turning.{Kept}
 use Rattle.cuts.proofs.MergeRefusals as merging
 use Rattle.queries.specs.declared.Keeping.{Keeping}
 use Rattle.queries.specs.declared.Keeping.the-variants.{All, Merged}
-use Rattle.queries.specs.Stepping.{isServed, isRows, keeps, keptOf, joinOf, leftAsIs, rowsTaken, takenBy}
+use Rattle.lists.specs.Gathering.{isRows}
+use Rattle.queries.specs.Stepping.{isServed, keeps, keptOf, joinOf, leftAsIs, rowsTaken, takenBy}
 use Rattle.queries.specs.Playing.{Turn, Turns, one-more, Cause, list-left}
 use Rattle.queries.proofs.UnderWay.{UnderWay}
 use Rattle.queries.proofs.Taking.{is-served}
@@ -40,7 +41,7 @@ merged-kept : (keep : Keeping) (e : Ending) → isRows e ≡ false → keeps kee
 merged-kept All e f = refl
 merged-kept Merged e f = ap not f
 
-module _ (keep : Keeping) (t : Tables) (plan : List ℕ) (a : Accepted t plan) (first : Held) (k : Kept t (planOf plan) first) (before : List ℕ) where
+module _ (keep : Keeping) (t : Tables) (plan : List ℕ) (a : Accepted t plan) (first : Phone) (k : Kept t (planOf plan) first) (before : List ℕ) where
   abbrev q : Plan
   q = planOf plan
 
@@ -69,10 +70,10 @@ module _ (keep : Keeping) (t : Tables) (plan : List ℕ) (a : Accepted t plan) (
     abbrev m : MergeResult
     m = takenBy keep i (turnOf i) kept used
 
-    abbrev x : Served
+    abbrev x : ServedTurn
     x = servedOf quantum (turnOf i)
 
-    abbrev turned : Held
+    abbrev turned : Phone
     turned = afterServed (u .held) quantum (turnOf i)
 
     -- what the list's taking comes to, by its answer
@@ -159,7 +160,8 @@ module _ (keep : Keeping) (t : Tables) (plan : List ℕ) (a : Accepted t plan) (
         by-leaving : keeps keep (q .ending) ≡ false → TakenAs kept (written.Words used)
         by-leaving f =
             let none = sym (none-kept f both) in
-            joined-goes kept used (ap (λ l. over l kept) none) (u .words ∙ ap length (none-kept f (u .held .kept) ∙ none)) (omega (arith, kept-length, u .room))
+            joined-goes kept used (ap (λ l. over l kept) none) (u .words ∙ ap length (none-kept f (u .held .kept) ∙ none))
+            (omega (arith, kept-length, u .room))
 
         by-keeping : (d : Keeping) → keep ≡ d → TakenAs (rowsTaken d kept used (x .list) .kept) (rowsTaken d kept used (x .list) .answer)
         by-keeping All f = by-join (ap (λ d. keeps d (q .ending)) f) (leb (used + length (x .list)) (length kept)) refl
@@ -169,7 +171,7 @@ module _ (keep : Keeping) (t : Tables) (plan : List ℕ) (a : Accepted t plan) (
         by-rows = subst⁻¹ (λ (r : MergeResult). TakenAs (r .kept) (r .answer)) taken-is (by-keeping keep refl)
 
       -- any other is merged
-      module _ (others : merging.Merged (q .ending)) (not-rows : isRows (q .ending) ≡ false) where
+      module _ (others : MergesLists (q .ending)) (not-rows : isRows (q .ending) ≡ false) where
         kept-all : (list : List ℕ) → part list ≡ list
         kept-all = all-kept (merged-kept keep (q .ending) not-rows)
 
@@ -223,8 +225,8 @@ module _ (keep : Keeping) (t : Tables) (plan : List ℕ) (a : Accepted t plan) (
 
       by-plan : (e : Ending) → q .ending ≡ e → TakenAs (m .kept) (m .answer)
       by-plan (rows vs) e = by-rows vs e
-      by-plan (top n vs keys) e = by-others (subst⁻¹ merging.Merged e tt) (ap isRows e)
-      by-plan (group vs n) e = by-others (subst⁻¹ merging.Merged e tt) (ap isRows e)
+      by-plan (top n vs keys) e = by-others (subst⁻¹ MergesLists e tt) (ap isRows e)
+      by-plan (group vs n) e = by-others (subst⁻¹ MergesLists e tt) (ap isRows e)
 
       pub list-taken : TakenAs (m .kept) (m .answer)
       list-taken = by-plan (q .ending) refl

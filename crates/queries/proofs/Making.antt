@@ -15,19 +15,21 @@ use Rattle.plans.specs.Plans.{Plan}
 use Rattle.steps.specs.Steps.{State, delivers, step, Run, runFrom, after}
 use Rattle.steps.specs.Saved.{stateWords, stateIn}
 use Rattle.steps.proofs.Runs.{from-add, after-state, after-rows, done-stays, first-delivers}
-use Rattle.steps.proofs.Accepted.{loads-back}
+use Rattle.steps.proofs.AcceptedStates.{loads-back}
 use Rattle.lists.specs.Gathering.{gathered}
 use Rattle.lists.proofs.Room.{no-space-longer}
 use Rattle.turns.specs.declared.TurnEnding.{TurnEnding}
 use Rattle.turns.specs.declared.TurnEnding.the-variants.{Done, Spent, Full, Refused}
 use Rattle.turns.specs.Turns.{TurnInput, givenState, givenPlan, turnOf}
-use Rattle.turns.proofs.Refusals.{Served}
-use Rattle.turns.proofs.Follows.{givenRun, turnRun, follows}
+use Rattle.turns.specs.Refusals.{Served}
+use Rattle.turns.specs.Follows.{givenRun, turnRun}
+use Rattle.turns.proofs.Follows.{follows}
 use Rattle.turns.proofs.Progress.{progresses}
-use Rattle.turns.proofs.Endings.{IsFull, endings}
+use Rattle.turns.specs.Endings.{IsFull}
+use Rattle.turns.proofs.Endings.{endings}
 use Rattle.cuts.specs.Uncut.{EndsAt}
-use Rattle.cuts.proofs.Accepting.{Accepted}
-use Rattle.queries.specs.Stepping.{listOf}
+use Rattle.cuts.specs.Accepting.{Accepted}
+use Rattle.queries.specs.Stepping.{outputList}
 use Rattle.queries.specs.Playing.{listBetween, TurnEnds, spent, full, done, Turn}
 use Rattle.queries.proofs.Refusing.{served-sized}
 
@@ -119,7 +121,7 @@ module _ (i : TurnInput) (a : Accepted (i .tables) (i .plan)) (n : ℕ) (s : Sta
   ending-made = refl
 
   -- and its list is in the output
-  pub list-made : listOf (turnOf i) ≡ listBetween t (i .plan) n (n + m)
+  pub list-made : outputList (turnOf i) ≡ listBetween t (i .plan) n (n + m)
   list-made =
       follows i serve .output .front
       ∙ ap (λ th. gathered (q .ending) th (turnRun i .delivered)) none-sent

@@ -10,11 +10,11 @@ use lib.Seq.{drop-append-le}
 use Rattle.tables.specs.Tables.{Tables}
 use Rattle.plans.specs.Plans.{Plan, planOf}
 use Rattle.steps.specs.Steps.{Run, after}
-use Rattle.steps.proofs.Runs.{done-stays}
+use Rattle.steps.proofs.Runs.{done-later}
 use Rattle.lists.specs.Gathering.{gathered}
 use Rattle.turns.specs.declared.TurnEnding.{TurnEnding}
 use Rattle.cuts.specs.Uncut.{EndsAt}
-use Rattle.cuts.proofs.Accepting.{Accepted}
+use Rattle.cuts.specs.Accepting.{Accepted}
 use Rattle.queries.specs.Playing.{listBetween, TurnEnds, spent, full, done, Turn, Turns, none-made, one-more}
 use Rattle.queries.proofs.Advancing.{longer-by, list-grows}
 use Rattle.queries.proofs.Room.{rows-later}
@@ -42,9 +42,7 @@ module _ (t : Tables) (plan : List ℕ) (a : Accepted t plan) where
     not-past m from n e l y = go (y .ending) (y .ends)
       where
         stays : (j : ℕ) → m ≤ j → after t q j ≡ after t q m
-        stays j g =
-            let d : j ≡ m + (j - m) = omega arith in
-            ap (after t q) d ∙ done-stays t q m (j - m) (e .over)
+        stays j g = done-later t q m j g (e .over)
 
         go : (k : TurnEnding) → TurnEnds t plan quantum room from n k → ⊥
         go k (spent g f) = f (ap (λ (r : Run). r .state) (stays n (omega arith)) ∙ e .over)

@@ -1,8 +1,8 @@
 -- The rounds of an opened query follow the uncut run, and so does a whole play.
 use Prim.Native.Nat.{ℕ, zero, suc, _+_}
 use native.Mathlib.Omega.{arith}
-use mathlib.Core.Path.{_≡_, refl, _∙_, subst, subst⁻¹}
-use mathlib.Core.Logic.{inl, inr}
+use mathlib.Core.Path.{_≡_, refl, sym, _∙_, ap, subst, subst⁻¹}
+use mathlib.Core.Logic.{_↔_}
 use mathlib.Core.List.{List}
 use lib.ListN.{length}
 use Rattle.words.specs.declared.Written.{Written}
@@ -11,11 +11,13 @@ use Rattle.tables.specs.Tables.{Tables}
 use Rattle.turns.specs.Opening.{openOf, Opens}
 use Rattle.queries.specs.declared.Keeping.{Keeping}
 use Rattle.queries.specs.declared.Played.{Played}
+use Rattle.queries.specs.declared.Played.the-variants as played
 use Rattle.queries.specs.declared.Went.{Went}
 use Rattle.queries.specs.declared.Went.the-variants.{On, Over, Stopped}
 use Rattle.queries.specs.Stepping.{takeTurnOf}
-use Rattle.queries.specs.Rounds.{Lent, Position, PlayResult, advanced, roundInput, rounds, answerOf, resultAt, startOf, playedAs, afterOpening, playOf}
-use Rattle.queries.specs.Playing.{Stands, Finishes, Stops, Leaves, Plays, Started}
+use Rattle.queries.specs.Rounds.{Lent, Position, PlayResult, advanced, roundInput, rounds, playAnswer, resultAt, firstPosition, playedAs}
+use Rattle.queries.specs.Rounds.{afterOpening, playOf}
+use Rattle.queries.specs.Playing.{StandsAfter, Finishes, Stops, Leaves, Plays, PlayRefusals, Started}
 use Rattle.queries.proofs.UnderWay.{startAt}
 use Rattle.queries.proofs.Taking.{same-room}
 use Rattle.queries.proofs.Rounds.{rounds-none, rounds-on, rounds-over, rounds-stopped}
@@ -25,7 +27,7 @@ use Rattle.queries.proofs.Starting.{start-accepts, start-keeps, start-g
 
 module _ (keep : Keeping) (t : Tables) (plan state : List ℕ) (saved : ℕ) (s : Started t plan state saved) (output kept : List ℕ) (quantum : ℕ) where
   abbrev start : Position
-  start = startOf saved (record { state = state; output = output; kept = kept })
+  start = firstPosition saved (record { state = state; output = output; kept = kept })
 
   abbrev at : ℕ → Position
   at n = rounds keep t plan quantum n start
@@ -96,20 +98,20 @@ module _ (keep : Keeping) (t : Tables) (plan state : List ℕ) (saved : ℕ) (s 
 
   -- a query that goes on stands where the uncut run does, and its output is as long as the first one
   pub stands-at : (n left used : ℕ) (l : Lent) → at n ≡ record { went = On left used; held = l }
-      → Stands t plan quantum room n (l .state) left × (length (l .output) ≡ room)
+      → StandsAfter t plan quantum room n (l .state) left × (length (l .output) ≡ room)
   stands-at n left used l e =
       let g : Led n (On left used) l = subst (LedTo n) e (led n) in
       (goes-stands t plan state saved s keep kept quantum room n (l .state) left (l .kept) used (g .0), g .1)
 
   -- ---- what they leave
-  by-end : (n : ℕ) (w : Went) (l : Lent) → Led n w l → Leaves keep t plan quantum n room kept (l .state) (l .kept) (answerOf w)
+  by-end : (n : ℕ) (w : Went) (l : Lent) → Led n w l → Leaves keep t plan quantum n room kept (l .state) (l .kept) (playAnswer w)
   by-end n (On left used) l g =
       pauses keep t plan (start-accepts t plan state saved s) (startAt state saved) (start-keeps t plan state saved s) kept n (l .state) left (l .kept) used
       (g .0 .under) (g .0 .alive) quantum room (g .0 .made)
   by-end n (Over words) l f = f
   by-end n (Stopped x) l f = f
 
-  leaves : (n : ℕ) → Leaves keep t plan quantum n room kept (at n .held .state) (at n .held .kept) (answerOf (at n .went))
+  leaves : (n : ℕ) → Leaves keep t plan quantum n room kept (at n .held .state) (at n .held .kept) (playAnswer (at n .went))
   leaves n = by-end n (at n .went) (at n .held) (led n)
 
   pub leaves-by : (n : ℕ) (r : Played) (l : Lent) → record { answer = r; held = l } ≡ resultAt (at n)
@@ -118,24 +120,51 @@ module _ (keep : Keeping) (t : Tables) (plan state : List ℕ) (saved : ℕ) (s 
 
 -- ---- a whole play
 module _ (keep : Keeping) (t : Tables) (plan : List ℕ) (quantum most : ℕ) (lent : Lent) where
-  abbrev Follows : PlayResult → Type 0
-  Follows r = Plays keep t plan quantum most lent (r .held) (r .answer)
+  abbrev PlaysTo : PlayResult → Type 0
+  PlaysTo r = Plays keep t plan quantum most lent (r .held) (r .answer)
 
-  by-answer : (w : Written) → w ≡ openOf t plan (lent .state) .answer → Follows (playedAs keep t plan quantum most w (afterOpening t plan lent))
-  by-answer (written.Refused x) e = inl (not-opened t plan (lent .state) (written.Refused x) e _ (lent .output) (lent .kept) refl x refl)
+  by-answer : (w : Written) → w ≡ openOf t plan (lent .state) .answer → PlaysTo (playedAs keep t plan quantum most w (afterOpening t plan lent))
+  by-answer (written.Refused x) e = not-opened t plan (lent .state) (written.Refused x) e _ (lent .output) (lent .kept) refl x refl
   by-answer (written.Words n) e =
       let o = opens t plan (lent .state) (written.Words n) e n refl in
       let s = started t plan (lent .state) (written.Words n) e _ refl n refl in
-      let p = rounds keep t plan quantum most (startOf n (afterOpening t plan lent)) in
+      let p = rounds keep t plan quantum most (firstPosition n (afterOpening t plan lent)) in
       by-leaving o (p .went) (p .held) (leaves-by keep t plan _ n s (lent .output) (lent .kept) quantum most _ _ refl)
     where
       by-leaving : Opens t plan (lent .state) → (w : Went) (l : Lent)
-          → Leaves keep t plan quantum most (length (lent .output)) (lent .kept) (l .state) (l .kept) (answerOf w)
-          → Plays keep t plan quantum most lent l (answerOf w)
+          → Leaves keep t plan quantum most (length (lent .output)) (lent .kept) (l .state) (l .kept) (playAnswer w)
+          → Plays keep t plan quantum most lent l (playAnswer w)
       by-leaving o (On left used) l f = (o, f)
       by-leaving o (Over words) l f = (o, f)
-      by-leaving o (Stopped x) l f = inr (o, f)
+      by-leaving o (Stopped x) l f = (o, f)
 
   pub plays : Plays keep t plan quantum most lent (playOf keep t plan quantum most lent .held) (playOf keep t plan quantum most lent .answer)
   unfolding playOf
   plays = by-answer (openOf t plan (lent .state) .answer) refl
+
+  -- ---- what it refuses
+  -- rounds are not refused
+  no-refusal : (w : Went) (x : ℕ) → playAnswer w ≡ played.Refused x → ⊥
+  no-refusal (On left used) x e = let z : _≡_ {A = ℕ} 0 1 = cc in omega arith
+  no-refusal (Over words) x e = let z : _≡_ {A = ℕ} 0 1 = cc in omega arith
+  no-refusal (Stopped y) x e = let z : _≡_ {A = ℕ} 0 1 = cc in omega arith
+
+  refused-at : (w : Written) (x : ℕ) → playedAs keep t plan quantum most w (afterOpening t plan lent) .answer ≡ played.Refused x
+      → w ≡ written.Refused x
+  refused-at (written.Words n) x e =
+      absurd (no-refusal (rounds keep t plan quantum most (firstPosition n (afterOpening t plan lent)) .went) x e)
+  refused-at (written.Refused y) x e = let d : y ≡ x = cc in ap written.Refused d
+
+  refused-as : (x : ℕ) → (playOf keep t plan quantum most lent .answer ≡ played.Refused x) ↔ (openOf t plan (lent .state) .answer ≡ written.Refused x)
+  unfolding playOf
+  refused-as x = (
+    refused-at (openOf t plan (lent .state) .answer) x,
+    ap (λ w. playedAs keep t plan quantum most w (afterOpening t plan lent) .answer),
+  )
+
+  pub play-refusals : PlayRefusals keep t plan quantum most lent
+  play-refusals =
+      record {
+        number = refused-as;
+        unchanged = λ x e. subst (Plays keep t plan quantum most lent (playOf keep t plan quantum most lent .held)) e plays .unchanged;
+      }

@@ -18,14 +18,15 @@ use Rattle.plans.specs.Plans.{hasForm, planTests}
 use Rattle.steps.specs.Saved.{leastStateWords, shapeRight, placesRight}
 use Rattle.lists.specs.Gathering.{leastOutput, thresholdRight}
 use Rattle.turns.specs.declared.TurnEnding.the-variants.{Refused}
-use Rattle.turns.specs.Turns.{TurnInput, givenState, givenPlan, stateTests, turnTests, mostSteps, turnOf}
-use Rattle.turns.proofs.Refusals.{Served, turn-refusals}
+use Rattle.turns.specs.Turns.{TurnInput, givenState, givenPlan, ownTests, turnTests, mostSteps, turnOf}
+use Rattle.turns.specs.Refusals.{Served}
+use Rattle.turns.proofs.Refusals.{turn-refusals}
 use Rattle.turns.proofs.Progress.{turn-limits}
 use Rattle.cuts.specs.Uncut.{totals-pass, no-room}
-use Rattle.cuts.proofs.Accepting.{Accepted}
-use Rattle.cuts.proofs.States.{Passed, accepted-when-passed}
+use Rattle.cuts.specs.Accepting.{Accepted, Passed}
+use Rattle.cuts.proofs.States.{accepted-when-passed}
 use Rattle.queries.specs.declared.Keeping.{Keeping}
-use Rattle.queries.specs.Playing.{Sized, Turns, none-made, one-more, Cause, output-short, quantum-wrong, list-left}
+use Rattle.queries.specs.Playing.{InLimits, Turns, none-made, one-more, Cause, output-short, quantum-wrong, list-left}
 
 -- where the tests on the state and the threshold pass, 7 or 8 fails first
 seven-or-eight : (a b c d e : Bool) (y : ℕ) → c ≡ true → d ≡ true → e ≡ true
@@ -56,13 +57,13 @@ module _ (i : TurnInput) (a : Accepted (i .tables) (i .plan)) (p : Passed i) (ro
   early : firstFailing (planTests (i .plan)) ≡ none
   early = all-passes (planTests (i .plan)) (ap hasForm (a .read), (a .variables, tt))
 
-  late : (y : ℕ) → turnOf i .answer .ending ≡ Refused y → firstFailing (stateTests i) ≡ some y
+  late : (y : ℕ) → turnOf i .answer .ending ≡ Refused y → firstFailing (ownTests i) ≡ some y
   late y e =
-      sym (ap (λ o. orElse o (firstFailing (stateTests i))) early)
-      ∙ sym (first-append (planTests (i .plan)) (stateTests i))
-      ∙ sym (ap (λ o. orElse o (firstFailing (planTests (i .plan) ++ stateTests i))) (a .tables))
-      ∙ sym (first-append (tableTests (i .tables)) (planTests (i .plan) ++ stateTests i))
-      ∙ fails-first y (turnTests i) (turn-refusals i .number y .0 e)
+      sym (ap (λ o. orElse o (firstFailing (ownTests i))) early)
+      ∙ sym (first-append (planTests (i .plan)) (ownTests i))
+      ∙ sym (ap (λ o. orElse o (firstFailing (planTests (i .plan) ++ ownTests i))) (a .tables))
+      ∙ sym (first-append (tableTests (i .tables)) (planTests (i .plan) ++ ownTests i))
+      ∙ fails-first y (turnTests i) (turn-refusals i .refused y .0 e)
 
   short : leb leastStateWords (length (i .state)) && leb (leastOutput (givenPlan i .ending)) (length (i .output)) ≡ false → Caused 7
   short h =
@@ -89,12 +90,12 @@ module _ (i : TurnInput) (a : Accepted (i .tables) (i .plan)) (p : Passed i) (ro
       ]
 
 -- ---- a turn that was served has an output and a quantum that every turn has
-pub served-sized : (i : TurnInput) → Served i → Sized (i .plan) (i .quantum) (length (i .output))
+pub served-sized : (i : TurnInput) → Served i → InLimits (i .plan) (i .quantum) (length (i .output))
 served-sized i s = let l = turn-limits i s in record { output = l .output-room; least = l .one-step; most = l .most }
 
 -- and is not stopped for them
 not-sized : (keep : Keeping) (t : Tables) (plan : List ℕ) (quantum room : ℕ) (before : List ℕ) (steps y : ℕ)
-    → Cause keep t plan quantum room before steps y → y ≤ 8 → Sized plan quantum room → ⊥
+    → Cause keep t plan quantum room before steps y → y ≤ 8 → InLimits plan quantum room → ⊥
 not-sized keep t plan quantum room before steps y (output-short l) m z = omega (arith, l, z .output)
 not-sized keep t plan quantum room before steps y (quantum-wrong o f) m z = f (z .least, z .most)
 not-sized keep t plan quantum room before steps y (list-left c later f x (totals-pass p)) m z = omega arith

@@ -2,18 +2,18 @@
 use Prim.Native.Nat.{ℕ, _+_, _-_, _≤_}
 use native.Mathlib.Omega.{arith}
 use native.Mathlib.Decide.{decLt}
-use mathlib.Core.Path.{_≡_, refl, sym, _∙_, ap}
-use mathlib.Core.Option.{Option, none, some}
-use mathlib.Core.List.{List, [], _++_, append-nil}
+use mathlib.Core.Path.{_≡_, refl, ap}
+use mathlib.Core.List.{List, [], _++_}
 use lib.ListN.{length}
 use Rattle.words.specs.Bindings.{Bindings}
 use Rattle.tables.specs.Tables.{Tables}
 use Rattle.plans.specs.Plans.{Plan, planOf}
-use Rattle.steps.specs.Steps.{State, Run, runFrom, after}
-use Rattle.steps.proofs.Runs.{after-rows, done-stays}
+use Rattle.steps.specs.Steps.{after}
+use Rattle.steps.proofs.Runs as runs
 use Rattle.lists.specs.Gathering.{gathered}
 use Rattle.cuts.specs.Uncut.{EndsAt, runList, totals-pass, no-room}
-use Rattle.cuts.proofs.Accepting.{Accepted, opening-accepts}
+use Rattle.cuts.specs.Accepting.{Accepted}
+use Rattle.cuts.proofs.Accepting.{opening-accepts}
 use Rattle.turns.specs.Opening.{Opens}
 use Rattle.queries.specs.declared.Keeping.{Keeping}
 use Rattle.queries.specs.Playing.{listAfter, Cause, output-short, quantum-wrong, list-left, Stops}
@@ -25,11 +25,7 @@ module _ (t : Tables) (plan : List ℕ) (a : Accepted t plan) where
 
   -- more steps only add rows
   pub rows-later : (m n : ℕ) → (cs : List Bindings) × (after t q (m + n) .delivered ≡ after t q m .delivered ++ cs)
-  rows-later m n = go (after t q m .state) refl
-    where
-      go : (o : Option State) → after t q m .state ≡ o → (cs : List Bindings) × (after t q (m + n) .delivered ≡ after t q m .delivered ++ cs)
-      go none e = ([], ap (λ (r : Run). r .delivered) (done-stays t q m n e) ∙ sym (append-nil (after t q m .delivered)))
-      go (some s) e = (runFrom t q s n .delivered, after-rows t q m n s e)
+  rows-later = runs.rows-later t q
 
   -- and make no shorter list
   pub no-shorter : (m n : ℕ) → length (listAfter t plan m) ≤ length (listAfter t plan (m + n))
@@ -45,8 +41,7 @@ module _ (t : Tables) (plan : List ℕ) (a : Accepted t plan) where
   pub whole-longest : (n : ℕ) → EndsAt t q n → (m : ℕ) → length (listAfter t plan m) ≤ length (listAfter t plan n)
   whole-longest n e m =
       elim (decLt n m) [
-        | yes f ↦ let d : m ≡ n + (m - n) = omega arith in
-            omega (arith, ap (λ r. length (runList (q .ending) r)) (ap (after t q) d ∙ done-stays t q n (m - n) (e .over)))
+        | yes f ↦ omega (arith, ap (λ r. length (runList (q .ending) r)) (runs.done-later t q n m (omega arith) (e .over)))
         | no f ↦ let d : n ≡ m + (n - m) = omega arith in
             omega (arith, no-shorter m (n - m), ap (λ k. length (listAfter t plan k)) d)
       ]

@@ -18,8 +18,10 @@ use Rattle.queries.specs.declared.Played.the-variants.{Refused}
 use Rattle.queries.specs.declared.Step.{Step}
 use Rattle.queries.specs.declared.Went.{Went}
 use Rattle.queries.specs.declared.Went.the-variants.{On, Over, Stopped}
-use Rattle.queries.specs.Stepping.{isRows, Stepped, takeTurnOf, wentOf}
-use Rattle.queries.specs.Rounds.{Lent, Position, advanced, roundInput, roundAs, round, rounds, PlayResult, resultAt, startOf, playedAs, playOf}
+use Rattle.lists.specs.Gathering.{isRows}
+use Rattle.queries.specs.Stepping.{Stepped, takeTurnOf, wentOf}
+use Rattle.queries.specs.Rounds.{Lent, Position, advanced, roundInput, roundAs, round, rounds}
+use Rattle.queries.specs.Rounds.{PlayResult, resultAt, firstPosition, playedAs, playOf}
 
 -- a step's answer and buffers, as a position
 pub advanced-by : (s : Step) (state out kept : List ℕ) (z : Stepped) → record { answer = s; state = state; output = out; kept = kept } ≡ z
@@ -88,12 +90,13 @@ module _ (keep : Keeping) (t : Tables) (plan : List ℕ) (quantum most : ℕ) (l
   pub play-refused : (x : ℕ) → w ≡ written.Refused x → record { answer = Refused x; held = opened } ≡ playOf keep t plan quantum most lent
   play-refused x e = played-as (written.Refused x) e
 
-  pub play-opened : (n : ℕ) → w ≡ written.Words n → (r : PlayResult) → r ≡ resultAt (rounds keep t plan quantum most (startOf n opened))
+  pub play-opened : (n : ℕ) → w ≡ written.Words n → (r : PlayResult) → r ≡ resultAt (rounds keep t plan quantum most (firstPosition n opened))
       → r ≡ playOf keep t plan quantum most lent
   play-opened n e r f = f ∙ played-as (written.Words n) e
 
 -- ---- a query whose lists are merged is played alike, whichever lists are kept
-same-turn : (i : TurnInput) (kept : List ℕ) (used : ℕ) → isRows (givenPlan i .ending) ≡ false → takeTurnOf All i kept used ≡ takeTurnOf Merged i kept used
+same-turn : (i : TurnInput) (kept : List ℕ) (used : ℕ) → isRows (givenPlan i .ending) ≡ false
+    → takeTurnOf All i kept used ≡ takeTurnOf Merged i kept used
 unfolding takeTurnOf
 same-turn i kept used h = rw h
 

@@ -16,10 +16,11 @@ use Rattle.steps.specs.Saved.{savedWords}
 use Rattle.lists.specs.Gathering.{gathered, takenInto}
 use Rattle.lists.proofs.TopLists.{fine-none}
 use Rattle.turns.specs.Turns.{TurnInput, givenPlan, turnOf}
-use Rattle.cuts.proofs.Accepting.{Accepted, accepted-gathering}
+use Rattle.cuts.specs.Accepting.{Accepted}
+use Rattle.cuts.proofs.Accepting.{accepted-gathering}
 use Rattle.queries.specs.declared.Keeping.{Keeping}
-use Rattle.queries.specs.Stepping.{isServed, listOf}
-use Rattle.queries.specs.Playing.{listAfter, keptAfter, listBetween, Stands, Finishes, Shows, IsWhole}
+use Rattle.queries.specs.Stepping.{isServed, outputList}
+use Rattle.queries.specs.Playing.{listAfter, keptAfter, listBetween, StandsAfter, Finishes, Shows, IsWhole}
 use Rattle.queries.proofs.Taking.{is-served}
 use Rattle.queries.proofs.Making.{turn-made, ending-made, list-made}
 use Rattle.queries.proofs.Room.{rows-later}
@@ -30,8 +31,8 @@ some-state (some s) f = (s, refl)
 
 -- a turn from where a query stands, with no threshold
 pub shows : (i : TurnInput) → Accepted (i .tables) (i .plan) → i .threshold ≡ [] → (count : ℕ)
-    → Stands (i .tables) (i .plan) (i .quantum) (length (i .output)) count (i .state) (i .given) → isServed (turnOf i .answer .ending) ≡ true
-    → Shows (i .tables) (i .plan) (i .quantum) (length (i .output)) (count + 1) (turnOf i .answer) (listOf (turnOf i))
+    → StandsAfter (i .tables) (i .plan) (i .quantum) (length (i .output)) count (i .state) (i .given) → isServed (turnOf i .answer .ending) ≡ true
+    → Shows (i .tables) (i .plan) (i .quantum) (length (i .output)) (count + 1) (turnOf i .answer) (outputList (turnOf i))
 shows i a none-sent count s served =
     let n = s .steps in
     let here = some-state (after (i .tables) (givenPlan i) n .state) (s .going) in

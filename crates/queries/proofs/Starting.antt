@@ -20,16 +20,17 @@ use Rattle.steps.proofs.Runs.{after-none}
 use Rattle.lists.specs.Groups.{addAllBy, groupsOf}
 use Rattle.lists.specs.Gathering.{groupFits}
 use Rattle.turns.specs.Opening.{openOf, Opens}
-use Rattle.turns.proofs.Refusals.{open-refusals}
+use Rattle.turns.proofs.Refusals.{open-refusals, open-passed}
 use Rattle.turns.proofs.Follows.{starts-run}
 use Rattle.cuts.specs.Histories.{stepsIn, doneIn, history, fresh}
 use Rattle.cuts.specs.Uncut.{runFits}
-use Rattle.cuts.proofs.Accepting.{Accepted, opening-accepts}
+use Rattle.cuts.specs.Accepting.{Accepted}
+use Rattle.cuts.proofs.Accepting.{opening-accepts}
 use Rattle.cuts.proofs.Turning.{Kept}
 use Rattle.cuts.proofs.AnyCut.{fresh-keeps}
 use Rattle.queries.specs.declared.Keeping.{Keeping}
 use Rattle.queries.specs.Stepping.{keeps, keptOf}
-use Rattle.queries.specs.Playing.{none-made, Stands, NotOpened, Started}
+use Rattle.queries.specs.Playing.{none-made, StandsAfter, OpeningRefused, Started}
 use Rattle.queries.proofs.UnderWay.{startAt, UnderWay}
 use Rattle.queries.proofs.Leaving.{stands, not-over, Going}
 
@@ -58,7 +59,7 @@ module _ (t : Tables) (plan state : List ℕ) (saved : ℕ) (s : Started t plan 
   unfolding history stepsIn
   starts keep kept =
       let r = starts-run t plan (s .lent) (s .opens) in
-      let l = leb-true leastStateWords (length (s .lent)) (open-refusals t plan (s .lent) .serves .0 (s .opens) .1 .1 .1 .1 .1 .1 .0) in
+      let l = leb-true leastStateWords (length (s .lent)) (open-passed t plan (s .lent) 7 (s .opens)) in
       let n = length-over (savedWords (after t (planOf plan) 0 .state)) (s .lent) (omega (arith, r .room, r .buffer .counted)) in
       record {
         events = [];
@@ -93,7 +94,7 @@ module _ (t : Tables) (plan state : List ℕ) (saved : ℕ) (s : Started t plan 
 
   -- where it stands, of what it leads to
   pub goes-stands : (keep : Keeping) (before : List ℕ) (quantum room count : ℕ) (now : List ℕ) (left : ℕ) (kept : List ℕ) (used : ℕ)
-      → Going keep t plan (startAt state saved) before quantum room count now left kept used → Stands t plan quantum room count now left
+      → Going keep t plan (startAt state saved) before quantum room count now left kept used → StandsAfter t plan quantum room count now left
   goes-stands keep before quantum room count now left kept used g =
       stands keep t plan start-accepts (startAt state saved) start-keeps before count now left kept used (g .under) (g .alive) quantum room (g .made)
 
@@ -106,7 +107,7 @@ module _ (t : Tables) (plan lent : List ℕ) (r : Written) (answer : r ≡ openO
   started state left n e = record { lent = lent; opens = opens n e; left = left; counted = ap wordsIn (sym e ∙ answer) }
 
   pub not-opened : (state output kept : List ℕ) → state ≡ openOf t plan lent .state → (x : ℕ) → r ≡ written.Refused x
-      → NotOpened t plan (record { state = lent; output = output; kept = kept }) (record { state = state; output = output; kept = kept }) x
+      → OpeningRefused t plan (record { state = lent; output = output; kept = kept }) (record { state = state; output = output; kept = kept }) x
   not-opened state output kept left x e =
       let f = sym answer ∙ e in
       let same = left ∙ open-refusals t plan lent .unchanged x f .buffer in

@@ -12,20 +12,22 @@ use Rattle.words.specs.declared.Written.the-variants as written
 use Rattle.words.proofs.Booleans.{absurd-true}
 use Rattle.plans.specs.declared.Last.{Last}
 use Rattle.plans.specs.declared.Last.the-variants as last
-use Rattle.plans.specs.Endings.{Ending, rows, top, group}
+use Rattle.plans.specs.Endings.{Ending, rows, top, group, endingAt}
 use Rattle.plans.specs.Plans.{readPlan, hasForm}
 use Rattle.plans.specs.Reading.{lastIn}
 use Rattle.turns.specs.declared.TurnEnding.{TurnEnding}
 use Rattle.turns.specs.declared.TurnEnding.the-variants as ending
 use Rattle.turns.specs.declared.Turned.{Turned}
 use Rattle.turns.specs.Turns.{TurnInput, turnOf}
+use Rattle.turns.specs.Refusals.{Served}
 use Rattle.turns.proofs.Refusals as refusals
 use Rattle.turns.proofs.Follows.{follows}
 use Rattle.turns.proofs.OnTheRun.{keeps-lengths}
 use Rattle.merges.specs.Merging.{MergeResult}
 use Rattle.queries.specs.declared.Step.{Step}
 use Rattle.queries.specs.declared.Keeping.{Keeping}
-use Rattle.queries.specs.Stepping.{isServed, isRows, joinOf, leftAsIs, listTaken, Stepped, steppedAs, listOf, takeTurnOf}
+use Rattle.lists.specs.Gathering.{isRows}
+use Rattle.queries.specs.Stepping.{isServed, joinOf, leftAsIs, listTaken, Stepped, steppedAs, outputList, takeTurnOf}
 
 -- ---- the kind of an ending
 abbrev pub rowsKind : Last → Bool
@@ -39,20 +41,25 @@ by-kind (rows vs) = refl
 by-kind (top k vs keys) = refl
 by-kind (group vs m) = refl
 
+-- ending words of some kind, which end a plan
+pub rows-by-kind : (ws : List ℕ) (e : Ending) → endingAt ws ≡ e → (k k₁ : Last) → k ≡ lastIn (endingAt ws) → k ≡ k₁
+    → rowsKind k₁ ≡ isRows e
+rows-by-kind ws e f k k₁ g h = ap rowsKind (sym h ∙ g) ∙ by-kind (endingAt ws) ∙ ap isRows f
+
 -- ---- a served turn
-serves : (i : TurnInput) (e : TurnEnding) → turnOf i .answer .ending ≡ e → isServed e ≡ true → refusals.Served i
+serves : (i : TurnInput) (e : TurnEnding) → turnOf i .answer .ending ≡ e → isServed e ≡ true → Served i
 serves i (ending.Refused y) e h = absurd-true h refl
 serves i ending.Done e h = λ y f. let z : _≡_ {A = ℕ} 0 1 = cc in omega arith
 serves i ending.Spent e h = λ y f. let z : _≡_ {A = ℕ} 0 1 = cc in omega arith
 serves i ending.Full e h = λ y f. let z : _≡_ {A = ℕ} 0 1 = cc in omega arith
 
-pub is-served : (i : TurnInput) → isServed (turnOf i .answer .ending) ≡ true → refusals.Served i
+pub is-served : (i : TurnInput) → isServed (turnOf i .answer .ending) ≡ true → Served i
 is-served i h = serves i (turnOf i .answer .ending) refl h
 
 -- its plan has the form
 pub served-form : (i : TurnInput) (r : Turned) → r ≡ turnOf i .answer → isServed (r .ending) ≡ true → hasForm (readPlan (i .plan)) ≡ true
 served-form i r e h =
-    refusals.turn-refusals i .serves .0 (is-served i (ap (λ (x : Turned). isServed (x .ending)) (sym e) ∙ h)) .1 .1 .1 .1 .0
+    refusals.turn-passed i 5 (is-served i (ap (λ (x : Turned). isServed (x .ending)) (sym e) ∙ h))
 
 -- its list is in the output
 pub served-room : (i : TurnInput) (r : Turned) (out : List ℕ) → r ≡ turnOf i .answer → out ≡ turnOf i .output → isServed (r .ending) ≡ true
@@ -80,7 +87,7 @@ module _ (keep : Keeping) (i : TurnInput) (kept : List ℕ) (used : ℕ) where
     unfolding takeTurnOf
     list-taken m h f =
         let g : isServed (turnOf i .answer .ending) ≡ true = rw er at h in
-        let l : take (r .listed) out ≡ listOf (turnOf i) = rw (er, eo) in
+        let l : take (r .listed) out ≡ outputList (turnOf i) = rw (er, eo) in
         as-turned m ∙ ap (steppedAs (turnOf i)) (f ∙ ap (listTaken keep (i .plan) kept used) l ∙ rw g)
 
     pub none-taken : isServed (r .ending) ≡ false

@@ -9,22 +9,22 @@ use Rattle.tables.specs.Tables.{Tables}
 use Rattle.plans.specs.Plans.{planOf}
 use Rattle.steps.specs.Steps.{after}
 use Rattle.steps.specs.Saved.{leastStateWords}
-use Rattle.cuts.specs.Histories.{Event, Held, stepsIn, history}
+use Rattle.cuts.specs.Histories.{Event, Phone, stepsIn, history}
 use Rattle.cuts.specs.Premises.{Premises}
 use Rattle.cuts.specs.Uncut.{runFits}
 use Rattle.queries.specs.declared.Keeping.{Keeping}
 use Rattle.queries.specs.Stepping.{keptOf}
 
 -- what the phone holds at the start: the saved words, and no list
-abbrev pub startAt : List ℕ → ℕ → Held
+abbrev pub startAt : List ℕ → ℕ → Phone
 startAt state saved = record { saved = take saved state; taken = []; waiting = []; kept = [] }
 
 -- the buffers hold what a list of calls under demand 3's premises leaves, so many turns served and every list taken
-pub record UnderWay (keep : Keeping) (t : Tables) (plan : List ℕ) (first : Held) (before : List ℕ) (count : ℕ) (state : List ℕ) (saved : ℕ) (kept : List ℕ)
-    (used : ℕ) : Type 0 where
+pub record UnderWay (keep : Keeping) (t : Tables) (plan : List ℕ) (first : Phone) (before : List ℕ) (count : ℕ) (state : List ℕ) (saved : ℕ)
+    (kept : List ℕ) (used : ℕ) : Type 0 where
   pub events : List Event
   pub premises : Premises t plan first events
-  pub held : Held
+  pub held : Phone
   pub reached : history t plan first events ≡ held
   pub taken : held .waiting ≡ []
   pub turns : length (held .taken) ≡ count

@@ -1,7 +1,7 @@
 -- A query played to its end, or for so many turns: what it answers and leaves is the uncut run's. Assumes nothing: these are definitions.
 use Prim.Native.Nat.{ℕ, _+_, _≤_, _<_}
 use mathlib.Core.Path.{_≡_}
-use mathlib.Core.Logic.{_⊎_}
+use mathlib.Core.Logic.{_↔_}
 use mathlib.Core.Bool.{true}
 use mathlib.Core.List.{List, []}
 use mathlib.Core.Option.{none}
@@ -22,9 +22,9 @@ use Rattle.turns.specs.Turns.{mostSteps}
 use Rattle.cuts.specs.Uncut.{EndsAt, runList, runFits, NotTaken}
 use Rattle.queries.specs.declared.Keeping.{Keeping}
 use Rattle.queries.specs.declared.Played.{Played}
-use Rattle.queries.specs.declared.Played.the-variants.{Finished, Unfinished, Refused}
+use Rattle.queries.specs.declared.Played.the-variants.{Finished, Unfinished, Stopped, Refused}
 use Rattle.queries.specs.Stepping.{keeps, keptOf}
-use Rattle.queries.specs.Rounds.{Lent}
+use Rattle.queries.specs.Rounds.{Lent, playOf}
 
 -- the rows, best-of list or groups of the uncut run after so many steps
 abbrev pub listAfter : Tables → List ℕ → ℕ → List ℕ
@@ -48,7 +48,7 @@ listBetween t plan from to =
     gathered (planOf plan .ending) [] (drop (length (after t (planOf plan) from .delivered)) (after t (planOf plan) to .delivered))
 
 -- tests 7 and 8 of a turn: its output has the words that its ending needs, and its quantum is in its range
-pub record Sized (plan : List ℕ) (quantum room : ℕ) : Type 0 where
+pub record InLimits (plan : List ℕ) (quantum room : ℕ) : Type 0 where
   pub output : leastOutput (planOf plan .ending) ≤ room
   pub least : 1 ≤ quantum
   pub most : quantum ≤ mostSteps
@@ -62,7 +62,7 @@ pub data TurnEnds (t : Tables) (plan : List ℕ) (quantum room from to : ℕ) : 
 
 -- a turn of the uncut run: at least one step, at most the quantum, and the output has room for their list
 pub record Turn (t : Tables) (plan : List ℕ) (quantum room from to : ℕ) : Type 0 where
-  pub sized : Sized plan quantum room
+  pub sized : InLimits plan quantum room
   pub further : from < to
   pub within : to ≤ from + quantum
   pub fits : length (listBetween t plan from to) ≤ room
@@ -75,7 +75,7 @@ pub data Turns (t : Tables) (plan : List ℕ) (quantum room : ℕ) : ℕ → ℕ
   one-more : (count from to : ℕ) → Turns t plan quantum room count from → Turn t plan quantum room from to → Turns t plan quantum room (count + 1) to
 
 -- where a query stands after so many turns: they are the uncut run's, and the saved words are its state after their steps
-pub record Stands (t : Tables) (plan : List ℕ) (quantum room count : ℕ) (state : List ℕ) (saved : ℕ) : Type 0 where
+pub record StandsAfter (t : Tables) (plan : List ℕ) (quantum room count : ℕ) (state : List ℕ) (saved : ℕ) : Type 0 where
   pub steps : ℕ
   pub made : Turns t plan quantum room count steps
   pub going : ¬ (after t (planOf plan) steps .state ≡ none)
@@ -94,14 +94,15 @@ pub record Finishes (keep : Keeping) (t : Tables) (plan : List ℕ) (quantum mos
 
 -- not finished: the turns allowed were made, and what is kept is of the uncut run's list up to there
 pub record Pauses (keep : Keeping) (t : Tables) (plan : List ℕ) (quantum most room : ℕ) (before state kept : List ℕ) (saved words : ℕ) : Type 0 where
-  pub stands : Stands t plan quantum room most state saved
+  pub stands : StandsAfter t plan quantum room most state saved
   pub list : Holds keep t plan (stands .steps) before kept words
 
 -- why a query that was opened is stopped, its lists taken up to so many steps. By a turn: for an output of so many words, else for the quantum.
 -- Where the list of the next turn is to be kept: for its totals, or for a kept buffer in which it has no room
 pub data Cause (keep : Keeping) (t : Tables) (plan : List ℕ) (quantum room : ℕ) (before : List ℕ) (steps : ℕ) : ℕ → Type 0 where
   output-short : room < leastOutput (planOf plan .ending) → Cause keep t plan quantum room before steps 7
-  quantum-wrong : leastOutput (planOf plan .ending) ≤ room → ¬ ((1 ≤ quantum) × (quantum ≤ mostSteps)) → Cause keep t plan quantum room before steps 8
+  quantum-wrong : leastOutput (planOf plan .ending) ≤ room → ¬ ((1 ≤ quantum) × (quantum ≤ mostSteps))
+      → Cause keep t plan quantum room before steps 8
   list-left : keeps keep (planOf plan .ending) ≡ true → (later : ℕ) → Turn t plan quantum room steps later
       → (x : ℕ) → NotTaken t (planOf plan) later (length before) x → Cause keep t plan quantum room before steps x
 
@@ -116,14 +117,15 @@ pub record Stops (keep : Keeping) (t : Tables) (plan : List ℕ) (quantum most r
   pub words : ℕ
   pub list : Holds keep t plan steps before kept words
 
--- what is left of a query that was opened
+-- what is left of a query that was opened, which is not refused
 abbrev pub Leaves : Keeping → Tables → List ℕ → ℕ → ℕ → ℕ → List ℕ → List ℕ → List ℕ → Played → Type 0
 Leaves keep t plan quantum most room before state kept (Finished words) = Finishes keep t plan quantum most room before kept words
 Leaves keep t plan quantum most room before state kept (Unfinished saved words) = Pauses keep t plan quantum most room before state kept saved words
-Leaves keep t plan quantum most room before state kept (Refused x) = Stops keep t plan quantum most room before kept x
+Leaves keep t plan quantum most room before state kept (Stopped x) = Stops keep t plan quantum most room before kept x
+Leaves keep t plan quantum most room before state kept (Refused x) = ⊥
 
 -- the opening is refused by x, and every buffer is as it was
-pub record NotOpened (t : Tables) (plan : List ℕ) (before after : Lent) (x : ℕ) : Type 0 where
+pub record OpeningRefused (t : Tables) (plan : List ℕ) (before after : Lent) (x : ℕ) : Type 0 where
   pub refused : openOf t plan (before .state) .answer ≡ written.Refused x
   pub unchanged : after ≡ before
 
@@ -132,9 +134,14 @@ Plays keep t plan quantum most before after (Finished words) =
     Opens t plan (before .state) × Finishes keep t plan quantum most (length (before .output)) (before .kept) (after .kept) words
 Plays keep t plan quantum most before after (Unfinished saved words) =
     Opens t plan (before .state) × Pauses keep t plan quantum most (length (before .output)) (before .kept) (after .state) (after .kept) saved words
-Plays keep t plan quantum most before after (Refused x) =
-    NotOpened t plan before after x
-    ⊎ (Opens t plan (before .state) × Stops keep t plan quantum most (length (before .output)) (before .kept) (after .kept) x)
+Plays keep t plan quantum most before after (Stopped x) =
+    Opens t plan (before .state) × Stops keep t plan quantum most (length (before .output)) (before .kept) (after .kept) x
+Plays keep t plan quantum most before after (Refused x) = OpeningRefused t plan before after x
+
+-- what a play refuses, for every input: it answers refused by x exactly where its opening does, and then every buffer is as it was
+pub record PlayRefusals (keep : Keeping) (t : Tables) (plan : List ℕ) (quantum most : ℕ) (lent : Lent) : Type 0 where
+  pub number : (x : ℕ) → (playOf keep t plan quantum most lent .answer ≡ Refused x) ↔ (openOf t plan (lent .state) .answer ≡ written.Refused x)
+  pub unchanged : (x : ℕ) → playOf keep t plan quantum most lent .answer ≡ Refused x → playOf keep t plan quantum most lent .held ≡ lent
 
 -- ---- what is shown
 -- a turn's number, its answer and the list in its output are those of the uncut run's turn with that number

@@ -10,7 +10,7 @@ use Rattle.turns.specs.Opening.{openOf}
 use Rattle.turns.specs.Turns.{TurnInput}
 use Rattle.queries.specs.declared.Keeping.{Keeping}
 use Rattle.queries.specs.declared.Played.{Played}
-use Rattle.queries.specs.declared.Played.the-variants.{Finished, Unfinished, Refused}
+use Rattle.queries.specs.declared.Played.the-variants as played
 use Rattle.queries.specs.declared.Went.{Went}
 use Rattle.queries.specs.declared.Went.the-variants.{On, Over, Stopped}
 use Rattle.queries.specs.Stepping.{Stepped, takeTurnOf, wentOf}
@@ -21,6 +21,9 @@ pub record Lent : Type 0 where
   pub output : List ℕ
   pub kept : List ℕ
 
+abbrev pub buffers : List ℕ → List ℕ → List ℕ → Lent
+buffers state output kept = record { state = state; output = output; kept = kept }
+
 -- how a query goes on after its last turn, and what the buffers hold
 pub record Position : Type 0 where
   pub went : Went
@@ -28,7 +31,7 @@ pub record Position : Type 0 where
 
 -- ---- rounds
 abbrev pub advanced : Stepped → Position
-advanced s = record { went = wentOf (s .answer); held = record { state = s .state; output = s .output; kept = s .kept } }
+advanced s = record { went = wentOf (s .answer); held = buffers (s .state) (s .output) (s .kept) }
 
 -- the turn of a round, with no threshold
 abbrev pub roundInput : Tables → List ℕ → ℕ → ℕ → Lent → TurnInput
@@ -54,22 +57,22 @@ pub record PlayResult : Type 0 where
   pub answer : Played
   pub held : Lent
 
-abbrev pub answerOf : Went → Played
-answerOf (On saved words) = Unfinished saved words
-answerOf (Over words) = Finished words
-answerOf (Stopped x) = Refused x
+abbrev pub playAnswer : Went → Played
+playAnswer (On saved words) = played.Unfinished saved words
+playAnswer (Over words) = played.Finished words
+playAnswer (Stopped x) = played.Stopped x
 
 abbrev pub resultAt : Position → PlayResult
-resultAt p = record { answer = answerOf (p .went); held = p .held }
+resultAt p = record { answer = playAnswer (p .went); held = p .held }
 
 -- the saved words of an opening, and no list kept
-abbrev pub startOf : ℕ → Lent → Position
-startOf opened l = record { went = On opened 0; held = l }
+abbrev pub firstPosition : ℕ → Lent → Position
+firstPosition opened l = record { went = On opened 0; held = l }
 
--- by what the opening answers, with what it leaves
+-- by what the opening answers, with what it leaves: it is refused where that is, and an opened query is never
 abbrev pub playedAs : Keeping → Tables → List ℕ → ℕ → ℕ → Written → Lent → PlayResult
-playedAs keep t plan quantum most (written.Words opened) l = resultAt (rounds keep t plan quantum most (startOf opened l))
-playedAs keep t plan quantum most (written.Refused x) l = record { answer = Refused x; held = l }
+playedAs keep t plan quantum most (written.Words opened) l = resultAt (rounds keep t plan quantum most (firstPosition opened l))
+playedAs keep t plan quantum most (written.Refused x) l = record { answer = played.Refused x; held = l }
 
 -- the opening of a state buffer, the other buffers as they were
 abbrev pub afterOpening : Tables → List ℕ → Lent → Lent

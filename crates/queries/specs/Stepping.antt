@@ -7,8 +7,9 @@ use lib.ListN.{length, take}
 use Rattle.words.specs.declared.Written.{Written}
 use Rattle.words.specs.declared.Written.the-variants as written
 use Rattle.words.specs.Sequences.{over}
-use Rattle.plans.specs.Endings.{Ending, rows, top, group}
+use Rattle.plans.specs.Endings.{Ending}
 use Rattle.plans.specs.Plans.{planOf}
+use Rattle.lists.specs.Gathering.{isRows}
 use Rattle.turns.specs.declared.TurnEnding.{TurnEnding}
 use Rattle.turns.specs.declared.TurnEnding.the-variants as ending
 use Rattle.turns.specs.Turns.{TurnInput, TurnResult, turnOf}
@@ -25,11 +26,6 @@ isServed ending.Done = true
 isServed ending.Spent = true
 isServed ending.Full = true
 isServed (ending.Refused x) = false
-
-abbrev pub isRows : Ending → Bool
-isRows (rows vs) = true
-isRows (top k vs keys) = false
-isRows (group vs m) = false
 
 -- whether the lists of an ending are kept: where only merged ones are, rows are left in the output
 abbrev pub keeps : Keeping → Ending → Bool
@@ -73,12 +69,12 @@ steppedAs r m =
     record { answer = record { turned = r .answer; taken = m .answer }; state = r .state; output = r .output; kept = m .kept }
 
 -- the list that a turn leaves in its output
-abbrev pub listOf : TurnResult → List ℕ
-listOf r = take (r .answer .listed) (r .output)
+abbrev pub outputList : TurnResult → List ℕ
+outputList r = take (r .answer .listed) (r .output)
 
 -- of a turn that was served its list is taken, of any other nothing
 abbrev pub takenBy : Keeping → TurnInput → TurnResult → List ℕ → ℕ → MergeResult
-takenBy keep i r kept used = cond (isServed (r .answer .ending)) (listTaken keep (i .plan) kept used (listOf r)) (leftAsIs kept used)
+takenBy keep i r kept used = cond (isServed (r .answer .ending)) (listTaken keep (i .plan) kept used (outputList r)) (leftAsIs kept used)
 
 -- a turn, and its list taken
 unfoldable pub takeTurnOf : Keeping → TurnInput → List ℕ → ℕ → Stepped

@@ -3,6 +3,7 @@ mod playing;
 mod stepping;
 
 pub use playing::play;
+pub use stepping::is_served;
 pub use stepping::outcome;
 pub use stepping::take_turn;
 use turns::Turned;
@@ -28,9 +29,10 @@ pub enum Went {
 }
 
 // How a play came out: finished, with the words of the whole list; not finished, with the saved words and the words of the list
-// so far; or refused with a number.
+// so far; opened and then stopped by a number; or not opened, refused with a number, and no buffer changed.
 pub enum Played {
     Finished(usize),
     Unfinished { saved: usize, words: usize },
+    Stopped(u32),
     Refused(u32),
 }

@@ -7,7 +7,7 @@ use words::Written;
 ghost use mathlib.Core.Path.{_≡_};
 ghost use Rattle.tables.specs.Tables.{tablesOf};
 ghost use Rattle.queries.specs.declared.Keeping.the-variants.{All};
-ghost use Rattle.queries.specs.Rounds.{startOf, rounds, resultAt, playOf};
+ghost use Rattle.queries.specs.Rounds.{buffers, firstPosition, rounds, resultAt, playOf};
 
 // Turns from an opening's state on, at most so many, and the list of each taken.
 fn go_on(
@@ -22,7 +22,9 @@ fn go_on(
     output: &mut [u32],
     kept: &mut [u32],
 ) -> Played
-    ensures { λ r. ⌜ record { answer = r; held = record { state = now (state .exit); output = now (output .exit); kept = now (kept .exit) } } ≡ resultAt (rounds All (tablesOf (now (rows .entry)) (now (pos .entry)) (now (osp .entry))) (now (plan .entry)) quantum most (startOf opened (record { state = now (state .entry); output = now (output .entry); kept = now (kept .entry) }))) ⌝ }
+    ensures { λ r. ⌜ record { answer = r; held = buffers (now (state .exit)) (now (output .exit)) (now (kept .exit)) }
+        ≡ resultAt (rounds All (tablesOf (now (rows .entry)) (now (pos .entry)) (now (osp .entry))) (now (plan .entry)) quantum most
+        (firstPosition opened (buffers (now (state .entry)) (now (output .entry)) (now (kept .entry))))) ⌝ }
 {
     let mut saved = opened;
     let mut used: usize = 0;
@@ -48,7 +50,7 @@ fn go_on(
                 n += 1;
             }
             Went::Over(words) => return Played::Finished(words),
-            Went::Stopped(x) => return Played::Refused(x),
+            Went::Stopped(x) => return Played::Stopped(x),
         }
     }
     Played::Unfinished {
@@ -69,9 +71,11 @@ pub fn play(
     output: &mut [u32],
     kept: &mut [u32],
 ) -> Played
-    ensures { λ r. ⌜ record { answer = r; held = record { state = now (state .exit); output = now (output .exit); kept = now (kept .exit) } } ≡ playOf All (tablesOf (now (rows .entry)) (now (pos .entry)) (now (osp .entry))) (now (plan .entry)) quantum most (record { state = now (state .entry); output = now (output .entry); kept = now (kept .entry) }) ⌝ }
+    ensures { λ r. ⌜ record { answer = r; held = buffers (now (state .exit)) (now (output .exit)) (now (kept .exit)) }
+        ≡ playOf All (tablesOf (now (rows .entry)) (now (pos .entry)) (now (osp .entry))) (now (plan .entry)) quantum most
+        (buffers (now (state .entry)) (now (output .entry)) (now (kept .entry))) ⌝ }
 {
-    match service::open(rows, pos, osp, plan, state) {
+    match turn_calls::open(rows, pos, osp, plan, state) {
         Written::Refused(x) => Played::Refused(x),
         Written::Words(opened) => go_on(
             rows,

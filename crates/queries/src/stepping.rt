@@ -10,14 +10,15 @@ ghost use mathlib.Core.Bool.{true};
 ghost use mathlib.Core.List.{[]};
 ghost use Rattle.plans.specs.Plans.{readPlan, hasForm, planOf};
 ghost use Rattle.turns.specs.Turns.{turnInput};
-ghost use Rattle.queries.specs.Stepping.{isServed, isRows, joinOf, rowsTaken, listTaken, takeTurnOf, wentOf};
-ghost use Rattle.queries.specs.Rounds.{advanced};
+ghost use Rattle.lists.specs.Gathering.{isRows};
+ghost use Rattle.queries.specs.Stepping.{isServed, joinOf, rowsTaken, listTaken, takeTurnOf, wentOf};
+ghost use Rattle.queries.specs.Rounds.{buffers, advanced};
 
 // What a join that has no room is refused by.
 pub const ROOM: u32 = 14;
 
 // Whether a turn with this ending was served.
-fn is_served(ending: TurnEnding) -> bool
+pub fn is_served(ending: TurnEnding) -> bool
     ensures { λ r. ⌜ r ≡ isServed ending ⌝ }
 {
     match ending {
@@ -68,7 +69,8 @@ fn take_rows(kept: &mut [u32], used: usize, list: &[u32], keeping: Keeping) -> W
 // Takes the list of a served turn: rows by which lists are kept, any other list merged.
 fn take_list(plan: &[u32], kept: &mut [u32], used: usize, list: &[u32], keeping: Keeping) -> Written
     requires { ⌜ hasForm (readPlan (now plan)) ≡ true ⌝ }
-    ensures { λ r. ⌜ record { answer = r; kept = now (kept .exit) } ≡ listTaken keeping (now (plan .entry)) (now (kept .entry)) used (now (list .entry)) ⌝ }
+    ensures { λ r. ⌜ record { answer = r; kept = now (kept .exit) }
+        ≡ listTaken keeping (now (plan .entry)) (now (kept .entry)) used (now (list .entry)) ⌝ }
 {
     if is_rows(plan) {
         return take_rows(kept, used, list, keeping);
@@ -90,9 +92,11 @@ pub fn take_turn(
     used: usize,
     keeping: Keeping,
 ) -> Step
-    ensures { λ r. ⌜ record { answer = r; state = now (state .exit); output = now (output .exit); kept = now (kept .exit) } ≡ takeTurnOf keeping (turnInput (now (rows .entry)) (now (pos .entry)) (now (osp .entry)) (now (plan .entry)) (now (state .entry)) saved quantum [] (now (output .entry))) (now (kept .entry)) used ⌝ }
+    ensures { λ r. ⌜ record { answer = r; state = now (state .exit); output = now (output .exit); kept = now (kept .exit) }
+        ≡ takeTurnOf keeping (turnInput (now (rows .entry)) (now (pos .entry)) (now (osp .entry)) (now (plan .entry)) (now (state .entry))
+        saved quantum [] (now (output .entry))) (now (kept .entry)) used ⌝ }
 {
-    let turned = service::turn(
+    let turned = turn_calls::turn(
         rows,
         pos,
         osp,
@@ -156,7 +160,9 @@ pub fn advance(
     used: usize,
     keeping: Keeping,
 ) -> Went
-    ensures { λ r. ⌜ record { went = r; held = record { state = now (state .exit); output = now (output .exit); kept = now (kept .exit) } } ≡ advanced (takeTurnOf keeping (turnInput (now (rows .entry)) (now (pos .entry)) (now (osp .entry)) (now (plan .entry)) (now (state .entry)) saved quantum [] (now (output .entry))) (now (kept .entry)) used) ⌝ }
+    ensures { λ r. ⌜ record { went = r; held = buffers (now (state .exit)) (now (output .exit)) (now (kept .exit)) }
+        ≡ advanced (takeTurnOf keeping (turnInput (now (rows .entry)) (now (pos .entry)) (now (osp .entry)) (now (plan .entry)) (now (state .entry))
+        saved quantum [] (now (output .entry))) (now (kept .entry)) used) ⌝ }
 {
     outcome(take_turn(
         rows,

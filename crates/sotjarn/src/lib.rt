@@ -1,4 +1,4 @@
-// The three calls for programs in other languages: an answer is a struct of numbers, and a buffer its address and its length in words.
+// The calls for programs in other languages: an answer is a struct of numbers, and a buffer its address and its length in words.
 // bindings/c/sotjarn.h declares them for C.
 use turns::TurnEnding;
 use turns::Turned;
@@ -7,10 +7,12 @@ ghost use mathlib.Core.Path.{_≡_};
 ghost use Rattle.tables.specs.Tables.{tablesOf};
 ghost use Rattle.turns.specs.Opening.{openOf};
 ghost use Rattle.turns.specs.Turns.{turnOf, turnInput};
-ghost use Rattle.merges.specs.Merging.{mergeOf};
+ghost use Rattle.merges.specs.Merging.{mergeInput, mergeOf};
+ghost use Rattle.list_endings.specs.PlanOutputs.{planOutput};
 ghost use Rattle.sotjarn.specs.Numbers.{writtenNumbers, endingNumbers, turnedNumbers};
 
-// What a call that writes to one buffer answers: the number of the test that refused it, or 0; and the words written.
+// What a call that writes to one buffer answers, or that says how long one has to be: the number of the test that refused it, or 0; and
+// the words written or asked for.
 #[repr(C)]
 pub struct WrittenNumbers {
     pub refused: u32,
@@ -107,10 +109,12 @@ pub extern "C" fn sotjarn_open(
     plan: &[u32],
     state: &mut [u32],
 ) -> WrittenNumbers
-    ensures answer { λ r. ⌜ r ≡ writtenNumbers (openOf (tablesOf (now (rows .entry)) (now (pos .entry)) (now (osp .entry))) (now (plan .entry)) (now (state .entry)) .answer) ⌝ }
-    ensures state { λ _. ⌜ now (state .exit) ≡ openOf (tablesOf (now (rows .entry)) (now (pos .entry)) (now (osp .entry))) (now (plan .entry)) (now (state .entry)) .state ⌝ }
+    ensures answer { λ r. ⌜ r ≡ writtenNumbers (openOf (tablesOf (now (rows .entry)) (now (pos .entry)) (now (osp .entry))) (now (plan .entry))
+        (now (state .entry)) .answer) ⌝ }
+    ensures state { λ _. ⌜ now (state .exit)
+        ≡ openOf (tablesOf (now (rows .entry)) (now (pos .entry)) (now (osp .entry))) (now (plan .entry)) (now (state .entry)) .state ⌝ }
 {
-    written_numbers(service::open(rows, pos, osp, plan, state))
+    written_numbers(turn_calls::open(rows, pos, osp, plan, state))
 }
 
 // Runs one turn of a query, or refuses.
@@ -126,11 +130,16 @@ pub extern "C" fn sotjarn_turn(
     threshold: &[u32],
     output: &mut [u32],
 ) -> TurnedNumbers
-    ensures answer { λ r. ⌜ r ≡ turnedNumbers (turnOf (turnInput (now (rows .entry)) (now (pos .entry)) (now (osp .entry)) (now (plan .entry)) (now (state .entry)) given quantum (now (threshold .entry)) (now (output .entry))) .answer) ⌝ }
-    ensures state { λ _. ⌜ now (state .exit) ≡ turnOf (turnInput (now (rows .entry)) (now (pos .entry)) (now (osp .entry)) (now (plan .entry)) (now (state .entry)) given quantum (now (threshold .entry)) (now (output .entry))) .state ⌝ }
-    ensures output { λ _. ⌜ now (output .exit) ≡ turnOf (turnInput (now (rows .entry)) (now (pos .entry)) (now (osp .entry)) (now (plan .entry)) (now (state .entry)) given quantum (now (threshold .entry)) (now (output .entry))) .output ⌝ }
+    ensures answer { λ r. ⌜ r ≡ turnedNumbers (turnOf (turnInput (now (rows .entry)) (now (pos .entry)) (now (osp .entry)) (now (plan .entry))
+        (now (state .entry)) given quantum (now (threshold .entry)) (now (output .entry))) .answer) ⌝ }
+    ensures state { λ _. ⌜ now (state .exit)
+        ≡ turnOf (turnInput (now (rows .entry)) (now (pos .entry)) (now (osp .entry)) (now (plan .entry)) (now (state .entry)) given quantum
+        (now (threshold .entry)) (now (output .entry))) .state ⌝ }
+    ensures output { λ _. ⌜ now (output .exit)
+        ≡ turnOf (turnInput (now (rows .entry)) (now (pos .entry)) (now (osp .entry)) (now (plan .entry)) (now (state .entry)) given quantum
+        (now (threshold .entry)) (now (output .entry))) .output ⌝ }
 {
-    turned_numbers(service::turn(
+    turned_numbers(turn_calls::turn(
         rows,
         pos,
         osp,
@@ -151,8 +160,16 @@ pub extern "C" fn sotjarn_merge(
     given: usize,
     list: &[u32],
 ) -> WrittenNumbers
-    ensures answer { λ r. ⌜ r ≡ writtenNumbers (mergeOf (record { plan = now (plan .entry); kept = now (kept .entry); given = given; list = now (list .entry) }) .answer) ⌝ }
-    ensures kept { λ _. ⌜ now (kept .exit) ≡ mergeOf (record { plan = now (plan .entry); kept = now (kept .entry); given = given; list = now (list .entry) }) .kept ⌝ }
+    ensures answer { λ r. ⌜ r ≡ writtenNumbers (mergeOf (mergeInput (now (plan .entry)) (now (kept .entry)) given (now (list .entry))) .answer) ⌝ }
+    ensures kept { λ _. ⌜ now (kept .exit) ≡ mergeOf (mergeInput (now (plan .entry)) (now (kept .entry)) given (now (list .entry))) .kept ⌝ }
 {
     written_numbers(merges::merge(plan, kept, given, list))
+}
+
+// The words that a turn's output has at least by a plan, which test 7 asks for, or the number of the test that refuses the plan.
+#[no_mangle]
+pub extern "C" fn sotjarn_least_output(plan: &[u32]) -> WrittenNumbers
+    ensures { λ r. ⌜ r ≡ writtenNumbers (planOutput (now (plan .entry))) ⌝ }
+{
+    written_numbers(list_endings::plan_output(plan))
 }

@@ -1,8 +1,10 @@
+pub mod MachineRuns
+pub mod MachineStates
 pub mod Runs
 pub mod Rules
 pub mod Right
 pub mod Reached
 pub mod Ends
 pub mod SavedWords
-pub mod Accepted
+pub mod AcceptedStates
 pub mod Values

@@ -1,38 +1,36 @@
 -- Every state that tests 9 and 10 accept is one that the uncut run passes through.
 use Prim.Native.Nat.{ℕ, zero, suc, _+_, _-_, _*_, _≤_, _<_}
 use native.Mathlib.Omega.{arith}
-use mathlib.Core.Path.{_≡_, refl, _∙_, ap, subst}
+use mathlib.Core.Path.{_≡_, refl, subst}
 use mathlib.Core.Bool.{true}
 use mathlib.Core.Option.{some}
 use mathlib.Core.List.{List, [], _∷_}
 use lib.ListN.{length}
 use borrow.Author.Tests.{ltb-true, lt-ltb}
-use Rattle.words.specs.Sequences.{iterate}
 use Rattle.tables.specs.Tables.{Tables}
 use Rattle.tables.proofs.Ranges.{start-le-end}
 use Rattle.plans.specs.Branches.{patternWidth}
 use Rattle.plans.specs.Plans.{Plan, branchAt}
 use Rattle.steps.specs.Levels.{hasLevel, under}
-use Rattle.steps.specs.Steps.{State, Step, step, startOf, leave, Run, stepped, runFrom, after, upperRight}
-use Rattle.steps.proofs.Runs.{from-add}
+use Rattle.steps.specs.Machines as machine
+use Rattle.steps.specs.Steps.{State, Step, step, startOf, leave, after, upperRight}
+use Rattle.steps.proofs.MachineStates as states
 use Rattle.steps.proofs.Rules.{levelStart, levelEnd, goesDeeper, Rule, skips, opens, gives, drops, starts, finishes, rule, step-opens, step-leaves}
 use Rattle.steps.proofs.Right.{Right, inner-of, level-above}
 
 -- some number of steps leads from one state to another
 abbrev pub Leads : Tables → Plan → State → State → Type 0
-Leads t q a b = (n : ℕ) × (runFrom t q a n .state ≡ some b)
+Leads t q a b = machine.Leads (step t q) a b
 
 module _ (t : Tables) (q : Plan) where
   pub leads-here : (a : State) → Leads t q a a
-  unfolding iterate
-  leads-here a = (0, refl)
+  leads-here = states.leads-here (step t q)
 
   pub leads-on : (a b c : State) → Leads t q a b → Leads t q b c → Leads t q a c
-  leads-on a b c x y = (x .0 + y .0, ap (λ (r : Run). r .state) (from-add t q a b (x .0) (y .0) (x .1)) ∙ y .1)
+  leads-on = states.leads-on (step t q)
 
-  leads-step : (a b : State) (x : Step) → step t q a ≡ x → stepped [] x .state ≡ some b → Leads t q a b
-  unfolding iterate
-  leads-step a b x e p = (1, ap (λ y. stepped [] y .state) e ∙ p)
+  leads-step : (a b : State) (x : Step) → step t q a ≡ x → machine.stepped [] x .state ≡ some b → Leads t q a b
+  leads-step = states.leads-step (step t q)
 
   module _ (i : ℕ) where
     abbrev terms : List ℕ

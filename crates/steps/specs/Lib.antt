@@ -1,3 +1,4 @@
+pub mod Machines
 pub mod Levels
 pub mod Steps
 pub mod Saved

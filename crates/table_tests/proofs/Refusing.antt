@@ -15,7 +15,7 @@ use Rattle.tables.specs.declared.Order.{Order}
 use Rattle.tables.specs.declared.Order.the-variants.{Spo, Pos, Osp}
 use Rattle.tables.specs.Tables.{Tables, rowCount, rowAt, fieldsAt, lengthsRight, kindsRight, ascends, namesRows, tableTests}
 use Rattle.tables.specs.Right.{Sized}
-use Rattle.tables.proofs.Accepted.{sized-lengths}
+use Rattle.tables.proofs.RightTables.{sized-lengths}
 use Rattle.table_tests.specs.Walk.{rightUpto, orderRight, rightOrders, refusalAfter}
 use Rattle.table_tests.proofs.Walking.{upto-none}
 

@@ -4,24 +4,18 @@ use native.Mathlib.Omega.{arith}
 use mathlib.Core.Path.{_≡_, refl, _∙_}
 use mathlib.Core.Bool.{Bool, true, false}
 use mathlib.Core.List.{List, []}
-use lib.ListN.{length, getD}
+use lib.ListN.{length}
 use Rattle.words.specs.Sequences.{allBelow}
 use Rattle.words.proofs.Booleans.{and-both}
 use Rattle.words.proofs.Counting.{fails-below}
-use Rattle.tables.specs.Tables.{tablesOf, subjectColumn, predicateColumn, objectColumn, columnCount, fieldOf, fieldRight, kindsRight}
-use Rattle.table_tests.specs.Walk.{rowRight}
+use Rattle.tables.specs.Tables.{tablesOf, columnCount, rowRight, kindsRight}
 
 -- a row passes; the rows that end before a word pass
 abbrev rowPasses : List ℕ → ℕ → Bool
-rowPasses rows row = allBelow (λ column. fieldRight column (fieldOf rows row column)) columnCount
+rowPasses rows row = rowRight rows (row * columnCount)
 
 unfoldable pub kindsUpto : List ℕ → ℕ → Bool
 kindsUpto rows word = allBelow (rowPasses rows) (word / columnCount)
-
--- the row that starts at a word passes
-abbrev pub rowFrom : List ℕ → ℕ → Bool
-rowFrom rows word =
-    rowRight (getD rows (word + subjectColumn) 0) (getD rows (word + predicateColumn) 0) (getD rows (word + objectColumn) 0)
 
 module _ (rows : List ℕ) where
   -- test 2 asks nothing of the lists
@@ -35,17 +29,16 @@ module _ (rows : List ℕ) where
 
   -- the row that starts at a word
   module _ (word : ℕ) (starts : word % columnCount ≡ 0) where
-    row-passes : rowPasses rows (word / columnCount) ≡ rowFrom rows word
-    unfolding allBelow
+    row-passes : rowPasses rows (word / columnCount) ≡ rowRight rows word
     row-passes = let e : word / columnCount * columnCount ≡ word = omega arith in rw e
 
-    pub kinds-next : kindsUpto rows word ≡ true → rowFrom rows word ≡ true → kindsUpto rows (word + columnCount) ≡ true
+    pub kinds-next : kindsUpto rows word ≡ true → rowRight rows word ≡ true → kindsUpto rows (word + columnCount) ≡ true
     unfolding kindsUpto allBelow
     kinds-next e r =
         let n : (word + columnCount) / columnCount ≡ suc (word / columnCount) = omega arith in
         rw n (and-both (allBelow (rowPasses rows) (word / columnCount)) (rowPasses rows (word / columnCount)) e (row-passes ∙ r))
 
-    pub kinds-fault : word + columnCount ≤ length rows → rowFrom rows word ≡ false → kindsRight (tablesOf rows [] []) ≡ false
+    pub kinds-fault : word + columnCount ≤ length rows → rowRight rows word ≡ false → kindsRight (tablesOf rows [] []) ≡ false
     unfolding kindsRight
     kinds-fault h r =
         fails-below (rowPasses rows) (length rows / columnCount) (word / columnCount) (omega arith) (row-passes ∙ r)

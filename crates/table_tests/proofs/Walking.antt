@@ -122,5 +122,5 @@ module _ (t : Tables) where
   unfolding rightOrders
   orders-all turn b h =
       let k = b .known in
-      let n : 3 ≡ turn = omega arith in
+      let n : orderCount ≡ turn = omega arith in
       rw (b .right 0 (omega arith), b .right 1 (omega arith), b .right 2 (omega arith)) n

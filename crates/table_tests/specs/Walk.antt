@@ -1,17 +1,13 @@
 -- What the walk over the three orders finds, in the parts that its functions answer. Assumes nothing: these are definitions.
 use Prim.Native.Nat.{ℕ, zero, suc, _-_}
-use mathlib.Core.List.{[], _∷_}
 use mathlib.Core.Bool.{Bool, true, false, cond, _&&_}
 use lib.Dec.{ltb}
+use lib.ListN.{replicate}
 use Rattle.words.specs.Sequences.{allBelow, lexBefore}
 use Rattle.tables.specs.declared.Order.{Order}
 use Rattle.tables.specs.declared.Order.the-variants.{Spo, Pos, Osp}
-use Rattle.tables.specs.Tables.{Tables, subjectColumn, predicateColumn, objectColumn, rowCount, rowAt, fieldsAt, fieldRight}
+use Rattle.tables.specs.Tables.{Tables, columnCount, rowCount, rowAt, fieldsAt}
 use Rattle.table_tests.specs.declared.Reading.{Reading}
-
--- the fields of a row have kinds that their columns may have
-abbrev pub rowRight : ℕ → ℕ → ℕ → Bool
-rowRight s p o = (fieldRight subjectColumn s && fieldRight predicateColumn p) && fieldRight objectColumn o
 
 -- the orders in the sequence of the walk
 abbrev pub orderAt : ℕ → Order
@@ -27,7 +23,7 @@ abbrev pub readingAt : Tables → Order → ℕ → Reading
 readingAt t o place =
     cond (ltb (rowAt o t place) (rowCount t))
     (record { named = true; fields = fieldsAt o t place })
-    (record { named = false; fields = 0 ∷ 0 ∷ 0 ∷ [] })
+    (record { named = false; fields = replicate columnCount 0 })
 
 -- the first n places of an order name rows, and their fields ascend strictly
 unfoldable pub rightUpto : Tables → Order → ℕ → Bool
@@ -40,7 +36,7 @@ orderRight t o = rightUpto t o (rowCount t)
 
 -- how many orders are right before the first that is not
 unfoldable pub rightOrders : Tables → ℕ
-rightOrders t = cond (orderRight t Spo) (cond (orderRight t Pos) (cond (orderRight t Osp) 3 2) 1) 0
+rightOrders t = cond (orderRight t Spo) (cond (orderRight t Pos) (cond (orderRight t Osp) orderCount 2) 1) 0
 
 -- the number of the test that so many right orders leave to fail, 0 where all are right
 abbrev pub refusalAfter : ℕ → ℕ

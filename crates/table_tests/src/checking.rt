@@ -1,15 +1,12 @@
 // The check of lent tables: tests 1 to 4, in their order.
 use crate::Reading;
 use tables::COLUMNS;
-use tables::OBJECT;
 use tables::Order;
-use tables::PREDICATE;
 use tables::Place;
-use tables::SUBJECT;
 use tables::fields;
 use tables::number_at;
 use tables::part;
-use words::Term;
+use tables::row_right;
 ghost use mathlib.Core.Path.{_≡_};
 ghost use mathlib.Core.List.{[]};
 ghost use Prim.Native.Nat.{_%_, _<_};
@@ -17,7 +14,7 @@ ghost use lib.ListN.{length};
 ghost use Rattle.words.specs.Tests.{firstFailing, numberOf};
 ghost use Rattle.tables.specs.Tables.{tablesOf, columnCount, rowCount, lengthsRight, kindsRight, tableTests};
 ghost use Rattle.tables.specs.Right.{Sized};
-ghost use Rattle.table_tests.specs.Walk.{rowRight, orderAt, readingAt, rightOrders, refusalAfter};
+ghost use Rattle.table_tests.specs.Walk.{orderAt, readingAt, rightOrders, refusalAfter};
 
 pub const MOST_ROWS: usize = 65536;
 
@@ -52,19 +49,6 @@ fn lengths_right(rows: &[u32], pos: &[u32], osp: &[u32]) -> bool
     count <= MOST_ROWS
 }
 
-// Whether the fields of a row have kinds that their columns may have.
-fn row_right(s: u32, p: u32, o: u32) -> bool
-    ensures { λ r. ⌜ r ≡ rowRight s p o ⌝ }
-{
-    if Term(s).kind() != Term::NAME {
-        return false;
-    }
-    if Term(p).kind() != Term::NAME {
-        return false;
-    }
-    Term(o).kind() < Term::VARIABLE
-}
-
 // Whether each field of whole rows has a kind that its column may have.
 fn kinds_right(rows: &[u32]) -> bool
     requires { ⌜ length (now rows) % columnCount ≡ 0 ⌝ }
@@ -72,7 +56,7 @@ fn kinds_right(rows: &[u32]) -> bool
 {
     let mut at: usize = 0;
     while at < rows.len() {
-        if !row_right(rows[at + SUBJECT], rows[at + PREDICATE], rows[at + OBJECT]) {
+        if !row_right(rows, at) {
             return false;
         }
         at += COLUMNS;
@@ -106,7 +90,7 @@ fn read(rows: &[u32], pos: &[u32], osp: &[u32], order: Order, place: Place) -> R
     } else {
         Reading {
             named: false,
-            fields: [0u32; 3],
+            fields: [0u32; COLUMNS],
         }
     }
 }

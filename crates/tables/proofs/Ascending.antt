@@ -1,47 +1,35 @@
 -- Places in an order of right tables are sorted, and each row stands at exactly one place of each order.
-use Prim.Native.Nat.{ℕ, zero, suc, _+_, _*_, _≤_, _<_}
+use Prim.Native.Nat.{ℕ, _+_, _*_, _≤_, _<_}
 use native.Mathlib.Omega.{arith}
-use native.Mathlib.Decide.{decLt}
-use mathlib.Core.Path.{_≡_, sym, ap, subst}
+use mathlib.Core.Path.{_≡_, ap}
 use mathlib.Core.Bool.{Bool, true}
 use lib.ListN.{length}
 use Rattle.words.specs.Sequences.{lexBefore, countBelow}
-use Rattle.words.proofs.Booleans.{absurd-true}
-use Rattle.words.proofs.Orders.{Three, less, same, more, three, lex-trans, lex-asym}
 use Rattle.words.proofs.Pigeonhole.{Injection, Hit, all-hit}
 use Rattle.words.proofs.Permuting.{count-permuted}
 use Rattle.tables.specs.declared.Order.{Order}
 use Rattle.tables.specs.declared.Order.the-variants.{Spo}
 use Rattle.tables.specs.Tables.{Tables, columnCount, rowCount, rowAt, fieldsOf, fieldsAt}
 use Rattle.tables.specs.Right.{Right}
+use Rattle.tables.proofs.Columns.{fields-length}
+use Rattle.tables.proofs.Sorted.{Sorted}
+use Rattle.tables.proofs.Sorted as sorted
 
 module _ (t : Tables) (w : Right t) (o : Order) where
   -- the words of a place's row are there
   pub in-rows : (place : ℕ) → place < rowCount t → rowAt o t place * columnCount + columnCount ≤ length (t .rows)
   in-rows place h = let n = w .named o place h in omega arith
 
-  -- an earlier place has its fields before those of a later one
+  -- its fields, one a column, come before those of the next place
+  pub order-sorted : Sorted columnCount (rowCount t) (fieldsAt o t)
+  order-sorted = record { width = λ place h. fields-length o (t .rows) (rowAt o t place); up = w .up o }
+
+  -- an earlier place has its fields before those of a later one, and no two have the same
   pub ascend : (j i : ℕ) → j < i → i < rowCount t → lexBefore (fieldsAt o t j) (fieldsAt o t i) ≡ true
-  ascend j zero h l = absurd (omega arith)
-  ascend j (suc i) h l =
-      elim (decLt j i) [
-        | yes k ↦ lex-trans (fieldsAt o t j) (fieldsAt o t i) (fieldsAt o t (suc i)) (ascend j i k (omega arith)) (w .up o i l)
-        | no k ↦ subst (λ n. lexBefore (fieldsAt o t n) (fieldsAt o t (suc i)) ≡ true) (let x : i ≡ j = omega arith in x) (w .up o i l)
-      ]
+  ascend = sorted.ascend columnCount (rowCount t) (fieldsAt o t) order-sorted
 
-  apart : (j i : ℕ) → j < i → i < rowCount t → fieldsAt o t j ≡ fieldsAt o t i → ⊥
-  apart j i h l e =
-      let p : lexBefore (fieldsAt o t j) (fieldsAt o t j) ≡ true = subst (λ xs. lexBefore (fieldsAt o t j) xs ≡ true) (sym e) (ascend j i h l) in
-      absurd-true p (lex-asym (fieldsAt o t j) (fieldsAt o t j) p)
-
-  -- no two places have the same fields
   pub one-fields : (j i : ℕ) → j < rowCount t → i < rowCount t → fieldsAt o t j ≡ fieldsAt o t i → j ≡ i
-  one-fields j i l k e = go (three j i)
-    where
-      go : Three j i → j ≡ i
-      go (less h) = absurd (apart j i h k e)
-      go (same h) = h
-      go (more h) = absurd (apart i j h l (sym e))
+  one-fields = sorted.one-fields columnCount (rowCount t) (fieldsAt o t) order-sorted
 
   -- no row stands at two places
   pub one-place : (j i : ℕ) → j < rowCount t → i < rowCount t → rowAt o t j ≡ rowAt o t i → j ≡ i

@@ -73,8 +73,12 @@ lengthsRight t =
 abbrev pub fieldRight : ℕ → ℕ → Bool
 fieldRight column w = cond (eqb column objectColumn) (ltb (termKind w) variableKind) (eqb (termKind w) nameKind)
 
+-- each field of the row that starts at a word has a kind that its column may have
+unfoldable pub rowRight : List ℕ → ℕ → Bool
+rowRight rows word = allBelow (λ column. fieldRight column (getD rows (word + column) 0)) columnCount
+
 unfoldable pub kindsRight : Tables → Bool
-kindsRight t = allBelow (λ row. allBelow (λ column. fieldRight column (fieldOf (t .rows) row column)) columnCount) (rowCount t)
+kindsRight t = allBelow (λ row. rowRight (t .rows) (row * columnCount)) (rowCount t)
 
 -- the fields ascend strictly from each place to the next
 unfoldable pub ascends : Order → Tables → Bool

@@ -11,22 +11,22 @@ use borrow.Author.Tests.{ltb-true, leb-true}
 use Rattle.words.specs.Sequences.{all}
 use Rattle.words.specs.Tests.{Test, firstFailing, numberOf}
 use Rattle.words.proofs.Booleans.{and-left, and-right}
-use Rattle.words.proofs.Testing.{passes-all}
+use Rattle.words.proofs.Testing.{passes-all, testNumbered, test-passed}
 use Rattle.words.proofs.Numbering.{one-fails, none-fails, front-fails, front-decides, rest-decides, both-pass}
 use Rattle.tables.specs.Tables.{Tables, tableTests}
 use Rattle.tables.specs.Right.{Right}
-use Rattle.tables.proofs.Accepted.{right}
+use Rattle.tables.proofs.RightTables.{right}
 use Rattle.plans.specs.Endings.{Ending}
 use Rattle.plans.specs.Plans.{readPlan, hasForm, variablesRight, planTests}
 use Rattle.plan_tests.proofs.Checked as checked
 use Rattle.steps.specs.Saved.{leastStateWords, shapeRight, placesRight}
 use Rattle.lists.specs.Gathering.{leastOutput, thresholdRight}
-use Rattle.turns.specs.Turns.{TurnInput, mostSteps, givenState, givenPlan, stateTests, turnTests}
+use Rattle.turns.specs.Turns.{TurnInput, mostSteps, givenState, givenPlan, ownTests, turnTests}
 use Rattle.turn_tests.specs.Testing.{sizeNumber, lateNumber}
 
 -- ---- the tests of a turn
 -- what a turn has that passes all of its tests
-pub record Accepted (i : TurnInput) : Type 0 where
+pub record AcceptedTurn (i : TurnInput) : Type 0 where
   pub right : Right (i .tables)
   pub planned : hasForm (readPlan (i .plan)) ≡ true
   pub variables : variablesRight (givenPlan i) ≡ true
@@ -43,20 +43,20 @@ module _ (i : TurnInput) where
   pub turn-refuses : (n : ℕ) → n ≡ numberOf (firstFailing (turnTests i)) → (n ≡ 0 → ⊥) → firstFailing (turnTests i) ≡ some n
   turn-refuses n e h = one-fails (firstFailing (turnTests i)) n e h
 
-  pub accepted : firstFailing (turnTests i) ≡ none → Accepted i
+  pub accepted : firstFailing (turnTests i) ≡ none → AcceptedTurn i
   accepted e =
-      let t = both-pass (tableTests (i .tables)) (planTests (i .plan) ++ stateTests i) e in
-      let p = both-pass (planTests (i .plan)) (stateTests i) (t .1) in
+      let t = both-pass (tableTests (i .tables)) (planTests (i .plan) ++ ownTests i) e in
+      let p = both-pass (planTests (i .plan)) (ownTests i) (t .1) in
       let q = checked.accepted (i .plan) (p .0) in
-      let s = passes-all (stateTests i) (p .1) in
+      let s : (n : ℕ) → testNumbered n (ownTests i) ≡ true = λ n. test-passed n (ownTests i) (passes-all (ownTests i) (p .1)) in
       record {
         right = right (i .tables) (t .0);
         planned = q .0;
         variables = q .1;
-        state-room = leb-true leastStateWords (length (i .state)) (and-left (leb leastStateWords (length (i .state))) _ (s .0));
-        room = leb-true (leastOutput (givenPlan i .ending)) (length (i .output)) (and-right (leb leastStateWords (length (i .state))) _ (s .0));
-        few = leb-true (i .quantum) mostSteps (and-right (leb 1 (i .quantum)) _ (s .1 .0));
-        sent = s .1 .1 .1 .1 .0;
+        state-room = leb-true leastStateWords (length (i .state)) (and-left (leb leastStateWords (length (i .state))) _ (s 7));
+        room = leb-true (leastOutput (givenPlan i .ending)) (length (i .output)) (and-right (leb leastStateWords (length (i .state))) _ (s 7));
+        few = leb-true (i .quantum) mostSteps (and-right (leb 1 (i .quantum)) _ (s 8));
+        sent = s 11;
       }
 
 -- ---- tests 1 to 6, which opening and a turn begin with
@@ -120,13 +120,13 @@ module _ (i : TurnInput) where
 
   pub early-fails : (n : ℕ) → n ≡ numberOf (firstFailing (earlyTests (i .tables) (i .plan))) → (n ≡ 0 → ⊥)
       → n ≡ numberOf (firstFailing (turnTests i))
-  early-fails n e h = front-decides (earlyTests (i .tables) (i .plan)) (stateTests i) n e h
+  early-fails n e h = front-decides (earlyTests (i .tables) (i .plan)) (ownTests i) n e h
 
   -- where those pass, by the ending as it was read
   module _ (z : numberOf (firstFailing (earlyTests (i .tables) (i .plan))) ≡ 0) (e : Ending) (es : e ≡ givenPlan i .ending) (n : ℕ)
       (en : n ≡ sizeNumber (roomRight e) quantumRight) where
-    state-decides : firstFailing (turnTests i) ≡ firstFailing (stateTests i)
-    state-decides = rest-decides (earlyTests (i .tables) (i .plan)) (stateTests i) (early-pass (i .tables) (i .plan) z)
+    state-decides : firstFailing (turnTests i) ≡ firstFailing (ownTests i)
+    state-decides = rest-decides (earlyTests (i .tables) (i .plan)) (ownTests i) (early-pass (i .tables) (i .plan) z)
 
     size-is : n ≡ numberOf (firstFailing sizeTests)
     size-is = rw es at en ∙ size-number (roomRight (givenPlan i .ending)) quantumRight

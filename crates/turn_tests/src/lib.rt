@@ -3,6 +3,5 @@ mod testing;
 
 pub use testing::ACCEPTED;
 pub use testing::ROOM;
-pub use testing::STATE_WORDS;
 pub use testing::check;
 pub use testing::prepare;

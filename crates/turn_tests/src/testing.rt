@@ -1,7 +1,9 @@
 // The tests of opening and of a turn, in their order.
-use loaded_states::Loaded;
-use loaded_states::refused;
-use plans::Last;
+use list_endings::least_output;
+use list_endings::threshold_right;
+use state_loading::Loaded;
+use state_loading::refused;
+use steps::STATE_WORDS;
 ghost use mathlib.Core.Path.{_≡_};
 ghost use mathlib.Core.Bool.{true, _&&_};
 ghost use mathlib.Core.List.{_++_};
@@ -13,14 +15,12 @@ ghost use Rattle.tables.specs.Right.{Right};
 ghost use Rattle.plans.specs.Endings.{endingForm, endingAt};
 ghost use Rattle.plans.specs.Plans.{readPlan, hasForm, planOf, planTests};
 ghost use Rattle.steps.specs.Saved.{stateIn, leastStateWords, shapeRight, placesRight};
-ghost use Rattle.cursors.specs.Held.{stateOf, Held};
+ghost use Rattle.step_cursors.specs.Held.{stateOf, Held};
 ghost use Rattle.lists.specs.Gathering.{leastOutput, thresholdRight};
 ghost use Rattle.turns.specs.Turns.{mostSteps, turnTests, turnInput};
 ghost use Rattle.turn_tests.specs.Testing.{sizeNumber, lateNumber};
 
-// The words that a state buffer needs, and the most steps of a turn.
-pub const STATE_WORDS: usize = 9;
-
+// The most steps of a turn.
 pub const MOST_STEPS: u32 = 1000000;
 
 // The tests of room, quantum, state and threshold, by their numbers; and that all pass.
@@ -36,7 +36,8 @@ pub const ACCEPTED: u32 = 0;
 
 // Tests 1 to 6: 0, or the number of the first that tables and plan fail.
 pub fn check(rows: &[u32], pos: &[u32], osp: &[u32], plan: &[u32]) -> u32
-    ensures { λ r. ⌜ r ≡ numberOf (firstFailing (tableTests (tablesOf (now (rows .entry)) (now (pos .entry)) (now (osp .entry))) ++ planTests (now (plan .entry)))) ⌝ }
+    ensures { λ r. ⌜ r ≡ numberOf (firstFailing (tableTests (tablesOf (now (rows .entry)) (now (pos .entry)) (now (osp .entry)))
+        ++ planTests (now (plan .entry)))) ⌝ }
 {
     let number = table_tests::check(rows, pos, osp);
     if number != 0 {
@@ -45,24 +46,12 @@ pub fn check(rows: &[u32], pos: &[u32], osp: &[u32], plan: &[u32]) -> u32
     plan_tests::check(plan)
 }
 
-// The words that an output has at least: one row, k rows, one record.
-fn least_output(ending: &[u32]) -> usize
-    requires { ⌜ endingForm (now ending) ≡ true ⌝ }
-    ensures { λ r. ⌜ r ≡ leastOutput (endingAt (now (ending .entry))) ⌝ }
-{
-    let width = plans::variables(ending).len();
-    match plans::ending_kind(ending) {
-        Last::Rows => width,
-        Last::Top => plans::best_count(ending) * width,
-        Last::Group => width + group_totals::TOTALS,
-        Last::Neither => 0,
-    }
-}
-
 // Tests 7 and 8: 0, or the number of the first that the buffers and the quantum fail.
 fn sizes(ending: &[u32], state: &[u32], quantum: u32, output: &[u32]) -> u32
     requires { ⌜ endingForm (now ending) ≡ true ⌝ }
-    ensures { λ r. ⌜ r ≡ sizeNumber (leb leastStateWords (length (now (state .entry))) && leb (leastOutput (endingAt (now (ending .entry)))) (length (now (output .entry)))) (leb 1 quantum && leb quantum mostSteps) ⌝ }
+    ensures { λ r. ⌜ r ≡ sizeNumber
+        (leb leastStateWords (length (now (state .entry))) && leb (leastOutput (endingAt (now (ending .entry)))) (length (now (output .entry))))
+        (leb 1 quantum && leb quantum mostSteps) ⌝ }
 {
     if state.len() < STATE_WORDS {
         return ROOM;
@@ -79,19 +68,6 @@ fn sizes(ending: &[u32], state: &[u32], quantum: u32, output: &[u32]) -> u32
     ACCEPTED
 }
 
-// Test 11: a threshold is empty, or one row for a best-of ending.
-fn threshold_right(ending: &[u32], threshold: &[u32]) -> bool
-    requires { ⌜ endingForm (now ending) ≡ true ⌝ }
-    ensures { λ r. ⌜ r ≡ thresholdRight (endingAt (now (ending .entry))) (now (threshold .entry)) ⌝ }
-{
-    match plans::ending_kind(ending) {
-        Last::Top => best_tests::best_threshold(plans::variables(ending), threshold),
-        Last::Rows => lists::no_threshold(threshold),
-        Last::Group => lists::no_threshold(threshold),
-        Last::Neither => false,
-    }
-}
-
 // Tests 9 to 11: the cursor of the state, or the number of the first test that fails.
 fn load(
     rows: &[u32],
@@ -105,13 +81,17 @@ fn load(
 ) -> Loaded
     requires { ⌜ Right (tablesOf (now rows) (now pos) (now osp)) ⌝ }
     requires { ⌜ hasForm (readPlan (now plan)) ≡ true ⌝ }
-    ensures { λ r. ⌜ r .refused ≡ lateNumber (leb given (length (now (state .entry))) && shapeRight (planOf (now (plan .entry))) (take given (now (state .entry)))) (placesRight (tablesOf (now (rows .entry)) (now (pos .entry)) (now (osp .entry))) (planOf (now (plan .entry))) (take given (now (state .entry)))) (thresholdRight (planOf (now (plan .entry)) .ending) (now (threshold .entry))) ⌝ }
-    ensures { λ r. ⌜ (r .refused ≡ 0 → (stateOf (r .from) ≡ stateIn (take given (now (state .entry)))) × Held (tablesOf (now (rows .entry)) (now (pos .entry)) (now (osp .entry))) (now (plan .entry)) (r .from) (now (bound .exit))) ⌝ }
+    ensures { λ r. ⌜ r .refused ≡ lateNumber
+        (leb given (length (now (state .entry))) && shapeRight (planOf (now (plan .entry))) (take given (now (state .entry))))
+        (placesRight (tablesOf (now (rows .entry)) (now (pos .entry)) (now (osp .entry))) (planOf (now (plan .entry))) (take given (now (state .entry))))
+        (thresholdRight (planOf (now (plan .entry)) .ending) (now (threshold .entry))) ⌝ }
+    ensures { λ r. ⌜ (r .refused ≡ 0 → (stateOf (r .from) ≡ stateIn (take given (now (state .entry))))
+        × Held (tablesOf (now (rows .entry)) (now (pos .entry)) (now (osp .entry))) (now (plan .entry)) (r .from) (now (bound .exit))) ⌝ }
 {
     if given > state.len() {
         return refused(STATE);
     }
-    let loaded = loaded_states::load(rows, pos, osp, plan, &state[..given], bound);
+    let loaded = state_loading::load(rows, pos, osp, plan, &state[..given], bound);
     if loaded.refused != ACCEPTED {
         return loaded;
     }
@@ -134,8 +114,11 @@ pub fn prepare(
     output: &[u32],
     bound: &mut [u32; 16],
 ) -> Loaded
-    ensures { λ r. ⌜ r .refused ≡ numberOf (firstFailing (turnTests (turnInput (now (rows .entry)) (now (pos .entry)) (now (osp .entry)) (now (plan .entry)) (now (state .entry)) given quantum (now (threshold .entry)) (now (output .entry))))) ⌝ }
-    ensures { λ r. ⌜ (r .refused ≡ 0 → (stateOf (r .from) ≡ stateIn (take given (now (state .entry)))) × Held (tablesOf (now (rows .entry)) (now (pos .entry)) (now (osp .entry))) (now (plan .entry)) (r .from) (now (bound .exit))) ⌝ }
+    ensures { λ r. ⌜ r .refused
+        ≡ numberOf (firstFailing (turnTests (turnInput (now (rows .entry)) (now (pos .entry)) (now (osp .entry)) (now (plan .entry))
+        (now (state .entry)) given quantum (now (threshold .entry)) (now (output .entry))))) ⌝ }
+    ensures { λ r. ⌜ (r .refused ≡ 0 → (stateOf (r .from) ≡ stateIn (take given (now (state .entry))))
+        × Held (tablesOf (now (rows .entry)) (now (pos .entry)) (now (osp .entry))) (now (plan .entry)) (r .from) (now (bound .exit))) ⌝ }
 {
     let number = check(rows, pos, osp, plan);
     if number != ACCEPTED {

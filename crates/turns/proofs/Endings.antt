@@ -1,4 +1,4 @@
--- The ending of a served turn, in the words of document 01, each in both directions: done, spent or full, and exactly one.
+-- The ending of a served turn, in the words of the rules (docs/RULES.md, 7), each in both directions: done, spent or full, and exactly one.
 use Prim.Native.Nat.{ℕ, _≤_, _<_}
 use native.Mathlib.Omega.{arith}
 use mathlib.Core.Path.{_≡_, refl, sym, _∙_, ap, subst, subst⁻¹}
@@ -10,54 +10,17 @@ use Rattle.words.specs.Bindings.{Bindings}
 use Rattle.words.proofs.Testing.{none-some, some-injective}
 use Rattle.steps.specs.Steps.{State, delivers, step, Run}
 use Rattle.steps.specs.Saved.{positionWords, savedWords, stateIn}
-use Rattle.lists.proofs.Room.{NoSpaceFor, no-space-longer, longer-no-space}
+use Rattle.lists.specs.Space.{NoSpaceFor}
+use Rattle.lists.proofs.Room.{no-space-longer, longer-no-space}
 use Rattle.turns.specs.declared.TurnEnding.{TurnEnding}
 use Rattle.turns.specs.declared.TurnEnding.the-variants.{Done, Spent, Full, Refused}
 use Rattle.turns.specs.Turns.{Progress, going, stopped, endingOf, stepsOf, leftOf, rowsOf, TurnInput, givenState, givenPlan, served, turnOf}
-use Rattle.turns.proofs.Stepping.{GoesOn, Stands, roomFor, has-room, lacks-room, served-stands}
-use Rattle.turns.proofs.Refusals.{Served}
-use Rattle.turns.proofs.Follows.{givenRun, turnRun, listOf, follows, served-steps, served-ending, served-run}
+use Rattle.turns.specs.Refusals.{Served}
+use Rattle.turns.specs.Follows.{givenRun, turnRun, listOf}
+use Rattle.turns.specs.Endings.{NoSpace, IsDone, IsSpent, IsFull, ExactlyOne, first, second, third, Endings}
+use Rattle.turns.proofs.Stepping.{GoesOn, AfterAttempts, roomFor, has-room, lacks-room, served-attempts}
+use Rattle.turns.proofs.Follows.{follows, served-steps, served-ending, served-run}
 use Rattle.turns.proofs.Progress.{turn-limits}
-
--- after n steps from a turn's state, the next would deliver a row (kind 8) or a new group for which the output has no space
-pub record NoSpace (i : TurnInput) (n : ℕ) : Type 0 where
-  pub state : State
-  pub row : Bindings
-  pub next : State
-  pub here : givenRun i n .state ≡ some state
-  pub would-deliver : step (i .tables) (givenPlan i) state ≡ delivers row next
-  pub no-space : NoSpaceFor (givenPlan i .ending) (length (i .output)) (givenRun i n .delivered) row
-
--- done, after at most the quantum, with no state words
-pub record IsDone (i : TurnInput) : Type 0 where
-  pub over : turnRun i .state ≡ none
-  pub within : turnOf i .answer .steps ≤ i .quantum
-  pub no-state : turnOf i .answer .saved ≡ 0
-
--- spent, after exactly the quantum, not done
-pub record IsSpent (i : TurnInput) : Type 0 where
-  pub exactly : turnOf i .answer .steps ≡ i .quantum
-  pub not-done : ¬ (turnRun i .state ≡ none)
-
--- full, when less than the quantum was taken and there is no space for what the next step would deliver
-pub record IsFull (i : TurnInput) : Type 0 where
-  pub less : turnOf i .answer .steps < i .quantum
-  pub no-space : NoSpace i (turnOf i .answer .steps)
-
-pub data ExactlyOne (A B C : Type 0) : Type 0 where
-  first : A → ¬ B → ¬ C → ExactlyOne A B C
-  second : ¬ A → B → ¬ C → ExactlyOne A B C
-  third : ¬ A → ¬ B → C → ExactlyOne A B C
-
-pub record Endings (i : TurnInput) : Type 0 where
-  pub done : (turnOf i .answer .ending ≡ Done) ↔ IsDone i
-  pub spent : (turnOf i .answer .ending ≡ Spent) ↔ IsSpent i
-  pub full : (turnOf i .answer .ending ≡ Full) ↔ IsFull i
-  pub one : ExactlyOne (IsDone i) (IsSpent i) (IsFull i)
-  -- there are no state words exactly where the run is over
-  pub no-words : (turnOf i .answer .saved ≡ 0) ↔ (turnRun i .state ≡ none)
-  -- the steps are no more than that takes: at none before was the run over, or space lacking
-  pub no-earlier : (n : ℕ) → n < turnOf i .answer .steps → (¬ (givenRun i n .state ≡ none)) × (¬ NoSpace i n)
 
 -- ---- no two at once
 done-spent : (i : TurnInput) → IsDone i → IsSpent i → ⊥
@@ -92,7 +55,7 @@ module _ (i : TurnInput) (serve : Served i) where
   rows-fit : length (listOf i (turnRun i .delivered)) ≤ length (i .output)
   rows-fit = let f = follows i serve in omega (arith, f .room, f .output .counted)
 
-  ended-as : (p : Progress) → Stands (i .tables) (givenPlan i) (roomFor i) (stateIn (givenState i)) (i .quantum) p
+  ended-as : (p : Progress) → AfterAttempts (i .tables) (givenPlan i) (roomFor i) (stateIn (givenState i)) (i .quantum) p
       → turnOf i .answer .steps ≡ stepsOf p → turnOf i .answer .ending ≡ endingOf p
       → turnRun i ≡ record { state = leftOf p; delivered = rowsOf p } → Ended i
   ended-as (going n u bs) h s e r =
@@ -127,7 +90,7 @@ module _ (i : TurnInput) (serve : Served i) where
   ended-as (stopped (Refused x) n o bs) h s e r = absurd (h .how)
 
   ended : Ended i
-  ended = ended-as (served i) (served-stands i) (served-steps i serve) (served-ending i serve) (served-run i serve)
+  ended = ended-as (served i) (served-attempts i) (served-steps i serve) (served-ending i serve) (served-run i serve)
 
   -- where a step was taken the run went on, and what it delivered had space
   went-on : (n : ℕ) → GoesOn (i .tables) (givenPlan i) (roomFor i) (givenRun i n) → (¬ (givenRun i n .state ≡ none)) × (¬ NoSpace i n)
@@ -141,7 +104,7 @@ module _ (i : TurnInput) (serve : Served i) where
   )
 
   taken : (n : ℕ) → n < turnOf i .answer .steps → (¬ (givenRun i n .state ≡ none)) × (¬ NoSpace i n)
-  taken n l = went-on n (served-stands i .taken n (subst (λ m. n < m) (served-steps i serve) l))
+  taken n l = went-on n (served-attempts i .taken n (subst (λ m. n < m) (served-steps i serve) l))
 
   words-none : (turnOf i .answer .saved ≡ 0) ↔ (turnRun i .state ≡ none)
   unfolding positionWords

@@ -1,46 +1,26 @@
--- A served turn is steps of the uncut run, from the state that it was given: its state is that many steps on, and its list is
--- made of the rows of those steps alone. A served opening writes where the run starts.
+-- A served turn is steps of the uncut run from the state that it was given, and a served opening writes where the run starts.
 use Prim.Native.Nat.{ℕ, _≤_}
 use native.Mathlib.Omega.{arith}
 use mathlib.Core.Path.{_≡_, refl, sym, _∙_, ap, subst⁻¹}
 use mathlib.Core.List.{List, []}
 use lib.ListN.{length}
 use borrow.Author.Tests.{leb-true}
-use Rattle.words.specs.Bindings.{Bindings}
 use Rattle.words.specs.Answers.{wordsIn}
 use Rattle.words.specs.Sequences.{iterate}
-use Rattle.words.proofs.Testing.{AllPass}
-use Rattle.words.proofs.Buffers.{Overwritten, overwritten}
+use Rattle.words.specs.Buffers.{Overwritten}
+use Rattle.words.proofs.Buffers.{overwritten}
 use Rattle.tables.specs.Tables.{Tables}
 use Rattle.plans.specs.Plans.{planOf}
-use Rattle.steps.specs.Steps.{Run, startOf, runFrom, after}
-use Rattle.steps.specs.Saved.{positionWords, upperWords, leastStateWords, stateWords, savedWords, stateIn}
-use Rattle.lists.specs.Gathering.{gathered}
+use Rattle.steps.specs.Steps.{Run, startOf, after}
+use Rattle.steps.specs.Saved.{positionWords, upperWords, leastStateWords, stateWords, savedWords}
 use Rattle.lists.proofs.OneRow.{gathered-nil}
-use Rattle.turns.specs.Opening.{Opened, openTests, openOf, Opens}
-use Rattle.turns.specs.Turns.{Progress, going, stopped, endingOf, stepsOf, leftOf, rowsOf, TurnInput, TurnResult, resultOf, givenState, givenPlan, turnList, finished, served, turnOf}
-use Rattle.turns.proofs.Stepping.{has-room, served-stands}
-use Rattle.turns.proofs.Refusals.{open-refusals, opened-so, Served, turned-so}
-
--- the run from the state that a turn was given
-abbrev pub givenRun : TurnInput → ℕ → Run
-givenRun i n = runFrom (i .tables) (givenPlan i) (stateIn (givenState i)) n
-
--- that run after the steps that the turn answers
-abbrev pub turnRun : TurnInput → Run
-turnRun i = givenRun i (turnOf i .answer .steps)
-
--- the list that a turn's ending makes of some rows
-abbrev pub listOf : TurnInput → List Bindings → List ℕ
-listOf i bs = gathered (givenPlan i .ending) (i .threshold) bs
-
-pub record Follows (i : TurnInput) : Type 0 where
-  -- the state buffer: the words of the state that many steps on, none at the run's end, over what it held
-  pub state : Overwritten (savedWords (turnRun i .state)) (i .state) (turnOf i .state) (turnOf i .answer .saved)
-  -- the output: the list of the rows of those steps, over what it held
-  pub output : Overwritten (listOf i (turnRun i .delivered)) (i .output) (turnOf i .output) (turnOf i .answer .listed)
-  -- which has room for it
-  pub room : turnOf i .answer .listed ≤ length (i .output)
+use Rattle.turns.specs.Opening.{Opened, openOf, Opens}
+use Rattle.turns.specs.Turns.{Progress, going, stopped, endingOf, stepsOf, leftOf, rowsOf, TurnInput, TurnResult, resultOf, givenPlan}
+use Rattle.turns.specs.Turns.{turnList, finished, served, turnOf}
+use Rattle.turns.specs.Refusals.{Served}
+use Rattle.turns.specs.Follows.{givenRun, turnRun, listOf, Follows, StartsRun}
+use Rattle.turns.proofs.Stepping.{has-room, served-attempts}
+use Rattle.turns.proofs.Refusals.{open-passed, opened-so, turned-so}
 
 -- the result of some progress, by its parts
 pub by-parts : (i : TurnInput) (p : Progress)
@@ -62,7 +42,7 @@ module _ (i : TurnInput) (serve : Served i) where
 
   -- the run where the turn leaves it
   pub served-run : turnRun i ≡ record { state = leftOf (served i); delivered = rowsOf (served i) }
-  served-run = ap (givenRun i) served-steps ∙ served-stands i .run
+  served-run = ap (givenRun i) served-steps ∙ served-attempts i .run
 
   -- the result in terms of that run
   served-result : turnOf i
@@ -77,7 +57,7 @@ module _ (i : TurnInput) (serve : Served i) where
   rows-fit =
       let h : length (listOf i []) ≤ length (i .output) =
       let e = ap length (gathered-nil (givenPlan i .ending) (i .threshold)) in omega arith in
-      has-room i (rowsOf (served i)) .0 (served-stands i .fitted (has-room i [] .1 h))
+      has-room i (rowsOf (served i)) .0 (served-attempts i .fitted (has-room i [] .1 h))
 
   pub follows : Follows i
   follows =
@@ -91,14 +71,8 @@ module _ (i : TurnInput) (serve : Served i) where
 
 -- ---- opening
 -- test 7
-open-room : (t : Tables) (plan state : List ℕ) → AllPass (openTests t plan state) → leastStateWords ≤ length state
-open-room t plan state h = leb-true leastStateWords (length state) (h .1 .1 .1 .1 .1 .1 .0)
-
--- the words that a served opening writes: the uncut run's state after no step
-pub record StartsRun (t : Tables) (plan state : List ℕ) : Type 0 where
-  pub buffer : Overwritten (savedWords (after t (planOf plan) 0 .state)) state
-      (openOf t plan state .state) (wordsIn (openOf t plan state .answer))
-  pub room : wordsIn (openOf t plan state .answer) ≤ length state
+open-room : (t : Tables) (plan state : List ℕ) → Opens t plan state → leastStateWords ≤ length state
+open-room t plan state h = leb-true leastStateWords (length state) (open-passed t plan state 7 h)
 
 pub starts-run : (t : Tables) (plan state : List ℕ) → Opens t plan state → StartsRun t plan state
 unfolding after iterate positionWords upperWords
@@ -107,5 +81,5 @@ starts-run t plan state h =
       buffer = subst⁻¹ (λ (r : Opened). Overwritten (stateWords (startOf t (planOf plan) 0)) state (r .state) (wordsIn (r .answer)))
           (opened-so t plan state h) (overwritten (stateWords (startOf t (planOf plan) 0)) state);
       room = subst⁻¹ (λ (r : Opened). wordsIn (r .answer) ≤ length state) (opened-so t plan state h)
-          (let l = open-room t plan state (open-refusals t plan state .serves .0 h) in omega arith);
+          (let l = open-room t plan state h in omega arith);
     }

@@ -1,6 +1,6 @@
 -- A served turn stands on the uncut run: it was given a state that the run passes through, and leaves the run so many steps on.
 -- Its buffers keep their lengths.
-use Prim.Native.Nat.{ℕ, _+_, _≤_}
+use Prim.Native.Nat.{_≤_}
 use native.Mathlib.Omega.{arith}
 use mathlib.Core.Path.{_≡_, refl, sym, _∙_, ap}
 use mathlib.Core.Bool.{true}
@@ -18,43 +18,31 @@ use Rattle.steps.proofs.Runs.{after-state, after-rows}
 use Rattle.steps.proofs.Right.{Right, accepted-right, RightOrDone, right-from}
 use Rattle.steps.proofs.Reached.{reached}
 use Rattle.steps.proofs.SavedWords.{shape-of}
-use Rattle.steps.proofs.Accepted.{words-most}
+use Rattle.steps.proofs.AcceptedStates.{words-most}
 use Rattle.turns.specs.Turns.{TurnInput, givenState, givenPlan, turnOf}
-use Rattle.turns.proofs.Refusals.{Served, turn-refusals}
-use Rattle.turns.proofs.Follows.{turnRun, listOf, follows}
+use Rattle.turns.specs.Refusals.{Served}
+use Rattle.turns.specs.Follows.{turnRun, listOf}
+use Rattle.turns.specs.OnTheRun.{OnTheRun, KeepsLengths}
+use Rattle.turns.proofs.Refusals.{turn-passed}
+use Rattle.turns.proofs.Follows.{follows}
 use Rattle.turns.proofs.Progress.{turn-limits}
-
-pub record OnTheRun (i : TurnInput) : Type 0 where
-  -- the steps of the uncut run before the turn
-  pub before : ℕ
-  -- it was given the words of the run's state there
-  pub given : after (i .tables) (givenPlan i) before .state ≡ some (stateIn (givenState i))
-  pub words : givenState i ≡ stateWords (stateIn (givenState i))
-  -- and leaves the run's state after its own steps, and the rows delivered by then
-  pub state : after (i .tables) (givenPlan i) (before + turnOf i .answer .steps) .state ≡ turnRun i .state
-  pub rows : after (i .tables) (givenPlan i) (before + turnOf i .answer .steps) .delivered
-      ≡ after (i .tables) (givenPlan i) before .delivered ++ turnRun i .delivered
-
-pub record KeepsLengths (i : TurnInput) : Type 0 where
-  pub state : length (turnOf i .state) ≡ length (i .state)
-  pub output : length (turnOf i .output) ≡ length (i .output)
 
 module _ (i : TurnInput) (serve : Served i) where
   pub given-form : PlanForm (givenPlan i)
   given-form =
-      plan-form (i .plan) (givenPlan i) (was-read (readPlan (i .plan)) (turn-refusals i .serves .0 serve .1 .1 .1 .1 .0))
+      plan-form (i .plan) (givenPlan i) (was-read (readPlan (i .plan)) (turn-passed i 5 serve))
 
   shape : shapeRight (givenPlan i) (givenState i) ≡ true
   shape =
       and-right (leb (i .given) (length (i .state))) (shapeRight (givenPlan i) (givenState i))
-      (turn-refusals i .serves .0 serve .1 .1 .1 .1 .1 .1 .1 .1 .0)
+      (turn-passed i 9 serve)
 
   -- tests 9 and 10
   pub given-right : Right (i .tables) (givenPlan i) (stateIn (givenState i))
   given-right =
       let x = shape-of (givenPlan i) (givenState i) shape in
       accepted-right (i .tables) (givenPlan i) (stateIn (givenState i)) (x .branch) (x .level)
-      (turn-refusals i .serves .0 serve .1 .1 .1 .1 .1 .1 .1 .1 .1 .0)
+      (turn-passed i 10 serve)
 
   pub on-the-run : OnTheRun i
   on-the-run =

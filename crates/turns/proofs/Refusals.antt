@@ -4,38 +4,28 @@ use Prim.Native.Nat.{ℕ}
 use native.Mathlib.Omega.{arith}
 use mathlib.Core.Path.{_≡_, refl, ap}
 use mathlib.Core.Logic.{_↔_}
-use mathlib.Core.Option.{none}
+use mathlib.Core.Bool.{true}
+use mathlib.Core.Option.{Option, none, some}
 use mathlib.Core.List.{List, [], _∷_, map}
+use lib.ListN.{length}
 use Rattle.words.specs.declared.Written.the-variants as written
 use Rattle.words.specs.Answers.{wordsIn}
-use Rattle.words.specs.Tests.{Test}
-use Rattle.words.proofs.Testing.{AllPass, FirstFails, fails-first, all-passes}
-use Rattle.words.proofs.Refusing.{refused-by, served-when}
+use Rattle.words.specs.Tests.{firstFailing, numberOf, AllPass, FirstFails}
+use Rattle.words.proofs.Testing.{fails-first, all-passes, testNumbered, test-passed}
+use Rattle.words.proofs.Refusing.{refused-by, served-when, answers-by}
 use Rattle.tables.specs.Tables.{Tables}
 use Rattle.plans.specs.Plans.{planOf}
 use Rattle.steps.specs.Steps.{startOf}
-use Rattle.steps.specs.Saved.{stateWords}
+use Rattle.steps.specs.Saved.{stateWords, savedWords}
+use Rattle.turns.specs.declared.Turned.{Turned}
 use Rattle.turns.specs.declared.TurnEnding.the-variants.{Done, Spent, Full, Refused}
 use Rattle.turns.specs.Opening.{Opened, openTests, openedWith, openedAs, openOf, Opens}
-use Rattle.turns.specs.Turns.{Progress, going, stopped, TurnInput, TurnResult, resultOf, givenPlan, turnTests, finished, served, turnedAs, turnOf}
-use Rattle.turns.proofs.Stepping.{How, roomFor, served-stands}
+use Rattle.turns.specs.Turns.{Progress, going, stopped, refusalOf, valuesOf, TurnInput, TurnResult, resultOf, givenPlan, turnTests, finished, served}
+use Rattle.turns.specs.Turns.{turnedAs, turnOf}
+use Rattle.turns.specs.Refusals.{OpenAnswers, OpenRefusals, TurnAnswers, Served, TurnRefusals}
+use Rattle.turns.proofs.Stepping.{How, roomFor, served-attempts}
 
 -- ---- opening
--- a refused opening leaves the state buffer as it was, and has written no words
-pub record NotOpened (t : Tables) (plan state : List ℕ) : Type 0 where
-  pub buffer : openOf t plan state .state ≡ state
-  pub words : wordsIn (openOf t plan state .answer) ≡ 0
-
-pub record OpenRefusals (t : Tables) (plan state : List ℕ) : Type 0 where
-  -- the table's numbers, in the table's order
-  pub order : map (λ (x : Test). x .0) (openTests t plan state) ≡ 1 ∷ 2 ∷ 3 ∷ 4 ∷ 5 ∷ 6 ∷ 7 ∷ []
-  -- it answers x exactly where x is the number of the first test that fails
-  pub number : (x : ℕ) → (openOf t plan state .answer ≡ written.Refused x) ↔ FirstFails x (openTests t plan state)
-  -- a refusal changes no buffer
-  pub unchanged : (x : ℕ) → openOf t plan state .answer ≡ written.Refused x → NotOpened t plan state
-  -- it is served, answering no such number, exactly where every test passes
-  pub serves : Opens t plan state ↔ AllPass (openTests t plan state)
-
 module _ (t : Tables) (plan state : List ℕ) where
   not-opened : (x : ℕ) → FirstFails x (openTests t plan state)
       → openOf t plan state ≡ record { answer = written.Refused x; state = state }
@@ -45,9 +35,9 @@ module _ (t : Tables) (plan state : List ℕ) where
   serves-open : (x : ℕ) → ¬ (openedAs t plan state none .answer ≡ written.Refused x)
   serves-open x e = let z : _≡_ {A = ℕ} 0 1 = cc in omega arith
 
-  open-number : (x : ℕ) → (openOf t plan state .answer ≡ written.Refused x) ↔ FirstFails x (openTests t plan state)
+  open-refused : (x : ℕ) → (openOf t plan state .answer ≡ written.Refused x) ↔ FirstFails x (openTests t plan state)
   unfolding openOf
-  open-number x =
+  open-refused x =
       refused-by written.Refused (λ o. openedAs t plan state o .answer) (λ x y e. cc) (λ x. refl) serves-open
       (openTests t plan state) x
 
@@ -56,6 +46,16 @@ module _ (t : Tables) (plan state : List ℕ) where
   open-serves =
       served-when written.Refused (λ o. openedAs t plan state o .answer) (λ x y e. cc) (λ x. refl) serves-open
       (openTests t plan state)
+
+  -- its number and its words
+  open-answers : OpenAnswers t plan state (openOf t plan state .answer)
+  unfolding openOf
+  open-answers =
+      answers-by (openTests t plan state) (stateWords (startOf t (planOf plan) 0)) (λ o. openedAs t plan state o .answer) (λ x. refl) refl
+
+  -- a test that a served opening passed, by its number
+  pub open-passed : (n : ℕ) → Opens t plan state → testNumbered n (openTests t plan state) ≡ true
+  open-passed n h = test-passed n (openTests t plan state) (open-serves .0 h)
 
   -- an opening that is served writes the start state
   pub opened-so : Opens t plan state → openOf t plan state ≡ openedWith (stateWords (startOf t (planOf plan) 0)) state
@@ -66,35 +66,14 @@ module _ (t : Tables) (plan state : List ℕ) where
   open-refusals =
       record {
         order = refl;
-        number = open-number;
-        unchanged = λ x e. let r = not-opened x (open-number x .0 e) in
+        number = open-answers;
+        refused = open-refused;
+        unchanged = λ x e. let r = not-opened x (open-refused x .0 e) in
             record { buffer = ap (λ (o : Opened). o .state) r; words = ap (λ (o : Opened). wordsIn (o .answer)) r };
         serves = open-serves;
       }
 
 -- ---- a turn
--- a refused turn leaves the state buffer and the output as they were, has made no step and has written no words
-pub record NotTurned (i : TurnInput) : Type 0 where
-  pub state : turnOf i .state ≡ i .state
-  pub output : turnOf i .output ≡ i .output
-  pub steps : turnOf i .answer .steps ≡ 0
-  pub saved : turnOf i .answer .saved ≡ 0
-  pub listed : turnOf i .answer .listed ≡ 0
-
--- a served turn is one that is not refused
-abbrev pub Served : TurnInput → Type 0
-Served i = (x : ℕ) → ¬ (turnOf i .answer .ending ≡ Refused x)
-
-pub record TurnRefusals (i : TurnInput) : Type 0 where
-  -- the table's numbers, in the table's order
-  pub order : map (λ (x : Test). x .0) (turnTests i) ≡ 1 ∷ 2 ∷ 3 ∷ 4 ∷ 5 ∷ 6 ∷ 7 ∷ 8 ∷ 9 ∷ 10 ∷ 11 ∷ []
-  -- it answers x exactly where x is the number of the first test that fails
-  pub number : (x : ℕ) → (turnOf i .answer .ending ≡ Refused x) ↔ FirstFails x (turnTests i)
-  -- a refusal changes no buffer
-  pub unchanged : (x : ℕ) → turnOf i .answer .ending ≡ Refused x → NotTurned i
-  -- it is served, answering no such number, exactly where every test passes
-  pub serves : Served i ↔ AllPass (turnTests i)
-
 module _ (i : TurnInput) where
   -- the steps of a turn never end in a refusal
   never-refused : (p : Progress) → How (i .tables) (givenPlan i) (roomFor i) (i .quantum) p → (x : ℕ)
@@ -110,15 +89,39 @@ module _ (i : TurnInput) where
   not-turned x h = ap (turnedAs i) (fails-first x (turnTests i) h)
 
   serves-turn : (x : ℕ) → ¬ (turnedAs i none .answer .ending ≡ Refused x)
-  serves-turn x = never-refused (served i) (served-stands i .how) x
+  serves-turn x = never-refused (served i) (served-attempts i .how) x
 
-  turn-number : (x : ℕ) → (turnOf i .answer .ending ≡ Refused x) ↔ FirstFails x (turnTests i)
+  turn-refused : (x : ℕ) → (turnOf i .answer .ending ≡ Refused x) ↔ FirstFails x (turnTests i)
   unfolding turnOf
-  turn-number x = refused-by Refused (λ o. turnedAs i o .answer .ending) (λ x y e. cc) (λ x. refl) serves-turn (turnTests i) x
+  turn-refused x = refused-by Refused (λ o. turnedAs i o .answer .ending) (λ x y e. cc) (λ x. refl) serves-turn (turnTests i) x
 
   turn-serves : Served i ↔ AllPass (turnTests i)
   unfolding turnOf
   turn-serves = served-when Refused (λ o. turnedAs i o .answer .ending) (λ x y e. cc) (λ x. refl) serves-turn (turnTests i)
+
+  -- its number and its values: those of its steps have the number 0, and done has no state words
+  abbrev AsEnded : Turned → Type 0
+  AsEnded a = valuesOf a ≡ record { steps = a .steps; saved = a .saved; listed = a .listed }
+
+  steps-answer : (p : Progress) → How (i .tables) (givenPlan i) (roomFor i) (i .quantum) p
+      → (refusalOf (finished i p .answer .ending) ≡ 0) × AsEnded (finished i p .answer)
+  steps-answer (going n s bs) h = (refl, refl)
+  steps-answer (stopped Done n s bs) h = (refl, let e = ap (λ o. length (savedWords o)) (h .0) in rw e)
+  steps-answer (stopped Full n s bs) h = (refl, refl)
+  steps-answer (stopped Spent n s bs) h = absurd h
+  steps-answer (stopped (Refused y) n s bs) h = absurd h
+
+  answer-by : (o : Option ℕ) → (refusalOf (turnedAs i o .answer .ending) ≡ numberOf o) × AsEnded (turnedAs i o .answer)
+  answer-by none = steps-answer (served i) (served-attempts i .how)
+  answer-by (some x) = (refl, refl)
+
+  turn-answers : TurnAnswers i (turnOf i .answer)
+  unfolding turnOf
+  turn-answers = let a = answer-by (firstFailing (turnTests i)) in record { number = a .0; values = a .1 }
+
+  -- a test that a served turn passed, by its number
+  pub turn-passed : (n : ℕ) → Served i → testNumbered n (turnTests i) ≡ true
+  turn-passed n h = test-passed n (turnTests i) (turn-serves .0 h)
 
   -- a turn that is served is the result of its steps
   pub turned-so : Served i → turnOf i ≡ finished i (served i)
@@ -129,8 +132,9 @@ module _ (i : TurnInput) where
   turn-refusals =
       record {
         order = refl;
-        number = turn-number;
-        unchanged = λ x e. let r = not-turned x (turn-number x .0 e) in
+        number = turn-answers;
+        refused = turn-refused;
+        unchanged = λ x e. let r = not-turned x (turn-refused x .0 e) in
             record {
               state = ap (λ (o : TurnResult). o .state) r;
               output = ap (λ (o : TurnResult). o .output) r;

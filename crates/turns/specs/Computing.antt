@@ -1,6 +1,7 @@
 -- One name that opens every definition of this crate, for proofs that compute.
 use Rattle.turns.specs.Opening.{openOf}
-use Rattle.turns.specs.Turns.{tryStep, progress, turnOf}
+use Rattle.turns.specs.Bounded.{tryStep}
+use Rattle.turns.specs.Turns.{progress, turnOf}
 
 unfoldable pub computing : Unit {0}
 unfolding openOf tryStep progress turnOf

@@ -1,3 +1,9 @@
+pub mod Bounded
 pub mod Opening
 pub mod Turns
+pub mod Refusals
+pub mod Follows
+pub mod Endings
+pub mod OnTheRun
+pub mod AfterDone
 pub mod Computing

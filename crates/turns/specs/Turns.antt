@@ -1,22 +1,24 @@
 -- A turn: its steps, its tests in order, its answer, and the state and the output at exit. Assumes nothing: these are definitions.
-use Prim.Native.Nat.{ℕ, _+_}
+use Prim.Native.Nat.{ℕ}
 use mathlib.Core.List.{List, [], _∷_, _++_}
-use mathlib.Core.Bool.{Bool, cond, _&&_}
+use mathlib.Core.Bool.{Bool, _&&_}
 use mathlib.Core.Option.{Option, none, some}
 use lib.ListN.{length, take}
 use lib.Dec.{leb}
 use Rattle.words.specs.Bindings.{Bindings}
-use Rattle.words.specs.Sequences.{iterate, over}
+use Rattle.words.specs.Sequences.{over}
 use Rattle.words.specs.Tests.{Test, firstFailing}
 use Rattle.tables.specs.Tables.{Tables, tablesOf, tableTests}
 use Rattle.plans.specs.Endings.{Ending}
 use Rattle.plans.specs.Plans.{Plan, planOf, planTests}
-use Rattle.steps.specs.Steps.{State, Step, moves, delivers, ends, step}
+use Rattle.steps.specs.Steps.{State, step}
 use Rattle.steps.specs.Saved.{stateIn, savedWords, leastStateWords, shapeRight, placesRight}
 use Rattle.lists.specs.Gathering.{gathered, leastOutput, thresholdRight}
 use Rattle.turns.specs.declared.TurnEnding.{TurnEnding}
 use Rattle.turns.specs.declared.TurnEnding.the-variants.{Done, Spent, Full, Refused}
 use Rattle.turns.specs.declared.Turned.{Turned}
+use Rattle.turns.specs.Bounded as bounded
+pub use Rattle.turns.specs.Bounded.{going, stopped, endingOf, stepsOf, leftOf, rowsOf, tried}
 
 -- the number of the test that refused a turn, 0 where it was served
 abbrev pub refusalOf : TurnEnding → ℕ
@@ -25,42 +27,31 @@ refusalOf Spent = 0
 refusalOf Full = 0
 refusalOf (Refused x) = x
 
+-- the values of a turn's answer: its steps, the words of its state, and the words of its list
+pub record TurnValues : Type 0 where
+  pub steps : ℕ
+  pub saved : ℕ
+  pub listed : ℕ
+
+-- those that each ending has: done has no state, and a refusal has its number alone
+abbrev pub valuesBy : TurnEnding → ℕ → ℕ → ℕ → TurnValues
+valuesBy Done steps saved listed = record { steps = steps; saved = 0; listed = listed }
+valuesBy Spent steps saved listed = record { steps = steps; saved = saved; listed = listed }
+valuesBy Full steps saved listed = record { steps = steps; saved = saved; listed = listed }
+valuesBy (Refused x) steps saved listed = record { steps = 0; saved = 0; listed = 0 }
+
+abbrev pub valuesOf : Turned → TurnValues
+valuesOf a = valuesBy (a .ending) (a .steps) (a .saved) (a .listed)
+
 -- ---- a turn's steps
 -- a turn under way, with its steps, its state and the rows delivered; or stopped, with no state when done
-pub data Progress : Type 0 where
-  going : ℕ → State → List Bindings → Progress
-  stopped : TurnEnding → ℕ → Option State → List Bindings → Progress
+abbrev pub Progress : Type 0
+Progress = bounded.Progress State Bindings
 
--- the parts of a progress: the ending that it has come to, its steps, its state, none when done, and its rows
-abbrev pub endingOf : Progress → TurnEnding
-endingOf (going n s bs) = Spent
-endingOf (stopped e n s bs) = e
-
-abbrev pub stepsOf : Progress → ℕ
-stepsOf (going n s bs) = n
-stepsOf (stopped e n s bs) = n
-
-abbrev pub leftOf : Progress → Option State
-leftOf (going n s bs) = some s
-leftOf (stopped e n s bs) = s
-
-abbrev pub rowsOf : Progress → List Bindings
-rowsOf (going n s bs) = bs
-rowsOf (stopped e n s bs) = bs
-
--- after n steps at s, with some rows, the next step: a row is delivered only if the list with it fits
-abbrev pub tried : (List Bindings → Bool) → ℕ → State → List Bindings → Step → Progress
-tried fits n s bs (moves u) = going (n + 1) u bs
-tried fits n s bs (delivers b u) = cond (fits (bs ++ (b ∷ []))) (going (n + 1) u (bs ++ (b ∷ []))) (stopped Full n (some s) bs)
-tried fits n s bs ends = stopped Done (n + 1) none bs
-
-unfoldable pub tryStep : Tables → Plan → (List Bindings → Bool) → Progress → Progress
-tryStep t q fits (going n s bs) = tried fits n s bs (step t q s)
-tryStep t q fits (stopped e n s bs) = stopped e n s bs
-
--- at most so many steps from a state
+-- at most so many steps from a state, as long as the rows that they deliver fit
 unfoldable pub progress : Tables → Plan → (List Bindings → Bool) → ℕ → State → Progress
-progress t q fits quantum s = iterate (tryStep t q fits) quantum (going 0 s [])
+unfolding bounded.progress
+progress t q fits quantum s = bounded.progress (step t q) fits quantum s
 
 -- the list of some rows fits an output of so many words
 abbrev pub fitsIn : Ending → List ℕ → ℕ → List Bindings → Bool
@@ -100,8 +91,8 @@ abbrev pub givenPlan : TurnInput → Plan
 givenPlan i = planOf (i .plan)
 
 -- 7: room for the state and the output; 8: the quantum; 9 and 10: the state; 11: the threshold
-abbrev pub stateTests : TurnInput → List Test
-stateTests i =
+abbrev pub ownTests : TurnInput → List Test
+ownTests i =
     (7, leb leastStateWords (length (i .state)) && leb (leastOutput (givenPlan i .ending)) (length (i .output)))
     ∷ (8, leb 1 (i .quantum) && leb (i .quantum) mostSteps)
     ∷ (9, leb (i .given) (length (i .state)) && shapeRight (givenPlan i) (givenState i))
@@ -110,7 +101,7 @@ stateTests i =
     ∷ []
 
 abbrev pub turnTests : TurnInput → List Test
-turnTests i = tableTests (i .tables) ++ (planTests (i .plan) ++ stateTests i)
+turnTests i = tableTests (i .tables) ++ (planTests (i .plan) ++ ownTests i)
 
 -- ---- what a turn answers, and what it leaves
 pub record TurnResult : Type 0 where

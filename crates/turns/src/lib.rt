@@ -1,4 +1,4 @@
-// What a turn answers. Its steps, its tests and its result are defined in specs/; crate service has the calls.
+// What a turn answers. Its steps, its tests and its result are defined in specs/; crate turn_calls has the calls.
 
 // How a turn ended: done, spent, full, or refused with its number.
 pub enum TurnEnding {

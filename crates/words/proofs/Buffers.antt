@@ -7,6 +7,7 @@ use mathlib.Core.List.{List, [], _∷_, _++_}
 use lib.ListN.{length, take, drop, getD, set, length-append, length-drop}
 use lib.Seq.{take-append-seam, drop-append-seam, drop-append-add, drop-drop, set-append-seam, append-snoc, drop-cons}
 use Rattle.words.specs.Sequences.{over}
+use Rattle.words.specs.Buffers.{Overwritten}
 
 pub take-over : (ws buffer : List ℕ) → take (length ws) (over ws buffer) ≡ ws
 take-over ws buffer = take-append-seam ws (drop (length ws) buffer)
@@ -33,13 +34,6 @@ over-over new old before out h e =
     ∙ drop-append-add old (drop (length old) before) (length new - length old)
     ∙ drop-drop (length new - length old) (length old) before
     ∙ ap (λ k. drop k before) (sym n))
-
--- some words stand over the first ones of a buffer, they are counted, and the words past them are untouched
-pub record Overwritten (ws before after : List ℕ) (count : ℕ) : Type 0 where
-  pub counted : count ≡ length ws
-  pub front : take count after ≡ ws
-  pub rest : drop count after ≡ drop count before
-  pub whole : after ≡ over ws before
 
 pub overwritten : (ws before : List ℕ) → Overwritten ws before (over ws before) (length ws)
 overwritten ws before = record { counted = refl; front = take-over ws before; rest = drop-over ws before; whole = refl }

@@ -67,7 +67,8 @@ found : (f : ℕ → ℕ) (r n : ℕ) → Hit f n r ⊎ ((i : ℕ) → i < n →
 found f r zero = inr (λ i l e. omega arith)
 found f r (suc n) = go (eqb (f n) r) refl (found f r n)
   where
-    go : (b : Bool) → eqb (f n) r ≡ b → Hit f n r ⊎ ((i : ℕ) → i < n → f i ≡ r → ⊥) → Hit f (suc n) r ⊎ ((i : ℕ) → i < suc n → f i ≡ r → ⊥)
+    go : (b : Bool) → eqb (f n) r ≡ b → Hit f n r ⊎ ((i : ℕ) → i < n → f i ≡ r → ⊥)
+        → Hit f (suc n) r ⊎ ((i : ℕ) → i < suc n → f i ≡ r → ⊥)
     go true e h = inl (record { from = n; below = omega arith; is = eqb-true (f n) r e })
     go false e (inl h) = let l = h .below in inl (record { from = h .from; below = omega arith; is = h .is })
     go false e (inr h) =

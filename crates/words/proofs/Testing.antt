@@ -4,24 +4,17 @@ use mathlib.Core.Path.{_≡_, refl, sym, _∙_, ap}
 use mathlib.Core.Bool.{Bool, true, false, cond}
 use mathlib.Core.Option.{Option, none, some}
 use mathlib.Core.List.{List, [], _∷_, _++_}
+use lib.Dec.{eqb}
 use native.Mathlib.Omega.{arith}
-use Rattle.words.specs.Tests.{Test, firstFailing}
+use borrow.Author.Tests.{eqb-true}
+use Rattle.words.specs.Tests.{Test, firstFailing, AllPass, FirstFails, here, there, testsBefore}
+use Rattle.words.proofs.Booleans.{absurd-true}
 
 pub none-some {ℓ} : {A : Type ℓ} {a : A} → _≡_ {A = Option A} none (some a) → ⊥
 none-some e = let z : _≡_ {A = ℕ} 0 1 = cc in omega arith
 
 pub some-injective {ℓ} : {A : Type ℓ} {a b : A} → some a ≡ some b → a ≡ b
 some-injective e = cc
-
--- the tests of a list all pass
-abbrev pub AllPass : List Test → Type 0
-AllPass [] = Unit {0}
-AllPass (x ∷ xs) = (x .1 ≡ true) × AllPass xs
-
--- a test with a number fails, and those before it in the list pass
-pub data FirstFails (n : ℕ) : List Test → Type 0 where
-  here : {xs : List Test} → FirstFails n ((n, false) ∷ xs)
-  there : {m : ℕ} {xs : List Test} → FirstFails n xs → FirstFails n ((m, true) ∷ xs)
 
 pub passes-all : (xs : List Test) → firstFailing xs ≡ none → AllPass xs
 unfolding firstFailing
@@ -63,3 +56,46 @@ first-append (x ∷ xs) ys = go (x .1) (first-append xs ys)
         → cond b (firstFailing (xs ++ ys)) (some (x .0)) ≡ orElse (cond b (firstFailing xs) (some (x .0))) (firstFailing ys)
     go true ih = ih
     go false ih = refl
+
+-- ---- tests that passed
+-- those of two lists, one behind the other
+pub front-passes : (xs ys : List Test) → AllPass (xs ++ ys) → AllPass xs
+front-passes [] ys h = tt
+front-passes (x ∷ xs) ys h = (h .0, front-passes xs ys (h .1))
+
+pub rest-passes : (xs ys : List Test) → AllPass (xs ++ ys) → AllPass ys
+rest-passes [] ys h = h
+rest-passes (x ∷ xs) ys h = rest-passes xs ys (h .1)
+
+-- what the first test with a number says, true where none has it; it computes on a list whose numbers stand there
+abbrev pub testNumbered : ℕ → List Test → Bool
+testNumbered n [] = true
+testNumbered n (x ∷ xs) = cond (eqb n (x .0)) (x .1) (testNumbered n xs)
+
+-- a test that passed, by its number: tests that are put in before it or after it change nothing
+pub test-passed : (n : ℕ) (xs : List Test) → AllPass xs → testNumbered n xs ≡ true
+test-passed n [] h = refl
+test-passed n (x ∷ xs) h = go (eqb n (x .0)) (test-passed n xs (h .1))
+  where
+    go : (b : Bool) → testNumbered n xs ≡ true → cond b (x .1) (testNumbered n xs) ≡ true
+    go true ih = h .0
+    go false ih = ih
+
+-- ---- a test that fails, by its number
+-- some test fails first
+pub some-fails : (n : ℕ) (xs : List Test) → testNumbered n xs ≡ false → (y : ℕ) × FirstFails y xs
+some-fails n xs e = go (firstFailing xs) refl
+  where
+    go : (o : Option ℕ) → firstFailing xs ≡ o → (y : ℕ) × FirstFails y xs
+    go none p = absurd-true (test-passed n xs (passes-all xs p)) e
+    go (some y) p = (y, first-fails y xs p)
+
+-- and where those before it pass, it is that one
+pub fails-at : (n : ℕ) (xs : List Test) → testNumbered n xs ≡ false → AllPass (testsBefore n xs) → FirstFails n xs
+fails-at n [] e h = absurd-true refl e
+fails-at n ((m, b) ∷ xs) e h = go (eqb n m) refl e h (fails-at n xs)
+  where
+    go : (c : Bool) → eqb n m ≡ c → cond c b (testNumbered n xs) ≡ false → AllPass (cond c [] ((m, b) ∷ testsBefore n xs))
+        → (testNumbered n xs ≡ false → AllPass (testsBefore n xs) → FirstFails n xs) → FirstFails n ((m, b) ∷ xs)
+    go true p f k ih = rw (f, ← eqb-true n m p) here
+    go false p f k ih = rw (k .0) (there (ih f (k .1)))

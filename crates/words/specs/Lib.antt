@@ -2,5 +2,6 @@ pub mod Words
 pub mod Bindings
 pub mod Sequences
 pub mod Tests
+pub mod Buffers
 pub mod Answers
 pub mod Computing

@@ -2,7 +2,10 @@
 ghost use mathlib.Core.Path.{_≡_};
 ghost use Prim.Native.Nat.{_%_, _<_, _≤_};
 ghost use Rattle.words.specs.Bindings.{valueOf};
-ghost use Rattle.words.specs.Words.{termValues, termKind, termValue, name, number, text, variable, unbound, isVariable, isNumber, isValue, keyRank, lastRank, lowNumbers, kind, low, word, headKind, branchKind, trueKind, andKind, orKind, notKind, comparisonKind, rowsKind, topKind, risingKind, fallingKind, groupKind, depths, positionWord, placeWord, branchOf, depthOf};
+ghost use Rattle.words.specs.Words.{termValues, termKind, termValue, name, number, text, variable, unbound, isVariable, isNumber, isValue};
+ghost use Rattle.words.specs.Words.{keyRank, lastRank, lowNumbers, kind, low, word, headKind, branchKind, trueKind, andKind, orKind, notKind};
+ghost use Rattle.words.specs.Words.{comparisonKind, rowsKind, topKind, risingKind, fallingKind, groupKind, depths, positionWord, placeWord};
+ghost use Rattle.words.specs.Words.{branchOf, depthOf};
 
 // A term: two bits of kind and a value of 30.
 pub struct Term(pub u32);

@@ -33,7 +33,7 @@ pub fn for_each_seed(cases: u64, test: impl Fn(&mut Random)) {
 pub struct Tally(RefCell<BTreeMap<String, u32>>);
 
 impl Tally {
-    fn note<T>(&self, answer: &Result<T, u32>, served: &str) {
+    pub fn note<T>(&self, answer: &Result<T, u32>, served: &str) {
         let what = answer
             .as_ref()
             .map_or_else(|number| format!("refused by {number}"), |_| served.to_string());

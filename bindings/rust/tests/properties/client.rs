@@ -1,11 +1,14 @@
 //! What the crate adds to the calls: the builder writes the rules' words, the readers read them, and turns and kept lists add up.
 
-use crate::checking::{for_each_seed, whole_list};
-use crate::evaluation::calls::Query;
+use crate::checking::{for_each_seed, whole_list, Tally};
+use crate::evaluation::calls::{accepted_plan, Query};
 use crate::evaluation::plan::{self, Ending};
 use crate::evaluation::words::*;
 use crate::inputs::{calls, damage, plans};
-use sotjarn::{Branch, Comparison, Condition, Kept, Key, List, Place, Plan, State, Tables, Term, TurnEnding, Value, Variable};
+use sotjarn::{
+    least_output, Branch, Comparison, Condition, Kept, Key, List, Place, Plan, Refusal, State, Tables, Term, TurnEnding, Value,
+    Variable,
+};
 
 const COMPARISONS: [Comparison; 6] = [
     Comparison::Equal,
@@ -125,6 +128,44 @@ fn the_builder_writes_the_words_of_the_rules() {
 }
 
 #[test]
+fn plan_words_are_read_back_or_refused_as_the_rules_say() {
+    let tally = Tally::default();
+    for_each_seed(6000, |random| {
+        let query = plans::short_query(random);
+        let mut call = calls::open(random, &query);
+        if random.chance(70) {
+            damage::open(random, &query, &mut call);
+        }
+        let right = accepted_plan(&call.plan);
+        tally.note(&right, "read");
+        let read = Plan::from_words(&call.plan).map_err(Refusal::code);
+        assert_eq!(read, right.as_ref().map(built).map_err(|&number| number));
+        let least = least_output(&call.plan).map_err(Refusal::code);
+        assert_eq!(least, right.map(|plan| plan.least_output()));
+    });
+    tally.came(&["read", "refused by 5", "refused by 6"], 200);
+}
+
+#[test]
+fn stored_lists_are_taken_up_again_or_refused() {
+    for_each_seed(3000, |random| {
+        let query = plans::short_query(random);
+        let plan = built(&query.plan);
+        let merge = calls::merge(random, &query);
+        let stored = merge.kept[..merge.given].to_vec();
+        let taken = Kept::from_words(&plan, stored.clone()).expect("a list of this plan");
+        assert_eq!(taken.words(), stored);
+
+        let mut cut = stored.clone();
+        cut.push(0);
+        assert!(plan.width() == 1 || Kept::from_words(&plan, cut) == Err(Refusal::MergedLists));
+        let mut wrong = stored;
+        wrong.splice(..0, vec![UNBOUND + 1; plan.width()]);
+        assert_eq!(Kept::from_words(&plan, wrong), Err(Refusal::MergedLists));
+    });
+}
+
+#[test]
 fn the_readers_read_states_and_lists() {
     for_each_seed(3000, |random| {
         let query = plans::short_query(random);
@@ -176,10 +217,7 @@ fn turns_and_kept_lists_add_up_to_the_uncut_run() {
         assert_eq!(kept.words(), whole_list(&query));
         assert!(made.state().is_empty());
         assert!(made.turns(5, plan.least_output()).next().is_none());
-        assert_eq!(
-            made.turn(5, &[], &mut vec![0; plan.least_output()]),
-            Err(sotjarn::Refusal::StateForm)
-        );
+        assert_eq!(made.turn(5, &[], &mut vec![0; plan.least_output()]), Err(Refusal::StateForm));
     });
 }
 
@@ -190,12 +228,12 @@ fn turns_end_after_a_refusal() {
         let mut made = sotjarn::Query::open(tables(&query), &query.words).expect("the opening is accepted");
         let state = made.state().to_vec();
         let refused: Vec<_> = made.turns(0, query.plan.least_output()).collect();
-        assert_eq!(refused, [Err(sotjarn::Refusal::Quantum)]);
+        assert_eq!(refused, [Err(Refusal::Quantum)]);
         assert_eq!(made.state(), state);
         let long = random.words(12);
         let mut loaded = sotjarn::Query::load(tables(&query), &query.words, &long);
         let refused: Vec<_> = loaded.turns(1, query.plan.least_output()).collect();
-        assert_eq!(refused, [Err(sotjarn::Refusal::StateForm)]);
+        assert_eq!(refused, [Err(Refusal::StateForm)]);
         assert_eq!(loaded.state(), long);
     });
 }

@@ -3,6 +3,7 @@ use borrow.Author.Needs.{needs}
 use mathlib.Core.Path.{refl, sym, _∙_, subst}
 use Rattle.plan_tests.proofs.Checked.{check-passes, check-refuses, accepted}
 use Rattle.merges.specs.Answering.{PiecesRight}
+use Rattle.merges.proofs.Refusals.{merge-told}
 use Rattle.merges.proofs.Tested.{plan-refused, given-long}
 use Rattle.merges.proofs.Pieces.{pieces-right}
 use Rattle.merges.proofs.merge.Statement.{statement}
@@ -15,13 +16,13 @@ returns : tie.Need-returns
 returns c =
     let s = c .before .before .before .before .before in
     let n = c .before .check in
-    plan-refused _ (n .result) (check-refuses (s .args .plan .now) (n .result) (n .ensures) (c .if1 .taken))
+    merge-told _ (plan-refused _ (n .result) (check-refuses (s .args .plan .now) (n .result) (n .ensures) (c .if1 .taken)))
 
 returns-2 : tie.Need-returns-2
 returns-2 c =
     let s = c .before .before .before .before .before .before in
     let passes = check-passes (s .args .plan .now) (sym (c .before .before .check .ensures) ∙ c .before .if1 .left) in
-    given-long _ (record { passes = passes; ending = refl }) (c .if2 .taken)
+    merge-told _ (given-long _ (record { passes = passes; ending = refl }) (c .if2 .taken))
 
 ending-part-requires : tie.Need-ending-part-requires
 ending-part-requires c κs =
@@ -43,7 +44,9 @@ returns-3 c =
     let s = c .before .before .before .before .before .before .before .before .before .before .before in
     let passes = check-passes (s .args .plan .now) (sym (c .before .before .before .before .before .before .before .check .ensures)
     ∙ c .before .before .before .before .before .before .if1 .left) in
-    c .before .before .merge-ending .ensures (s .args .plan .now) (record { passes = passes; ending = sym (c .before .before .before .before .ending-part .ensures .1) })
+    merge-told _
+    (c .before .before .merge-ending .ensures (s .args .plan .now)
+    (record { passes = passes; ending = sym (c .before .before .before .before .ending-part .ensures .1) }))
 
 pub merge-spec : {M : Type 1} → statement M
 merge-spec =

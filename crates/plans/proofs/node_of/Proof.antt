@@ -13,31 +13,69 @@ low-requires c κs = search needs
 
 returns : tie.Need-returns
 unfolding nodeOf
-returns c = rw (← c .before .before .before .kind .ensures, ← c .before .before .low .ensures, eq-eqb _ _ (c .before .if1 .taken), le-leb _ _ (c .if2 .taken))
+returns c = rw (
+  ← c .before .before .before .kind .ensures,
+  ← c .before .before .low .ensures,
+  eq-eqb _ _ (c .before .if1 .taken),
+  le-leb _ _
+      (c .if2 .taken),
+)
 
 returns-2 : tie.Need-returns-2
 unfolding nodeOf
-returns-2 c = rw (← c .before .before .before .kind .ensures, ← c .before .before .low .ensures, eq-eqb _ _ (c .before .if1 .taken), lt-leb _ _ (c .if2 .left))
+returns-2 c = rw (
+  ← c .before .before .before .kind .ensures,
+  ← c .before .before .low .ensures,
+  eq-eqb _ _ (c .before .if1 .taken),
+  lt-leb _ _
+      (c .if2 .left),
+)
 
 returns-3 : tie.Need-returns-3
 unfolding nodeOf
-returns-3 c = rw (← c .before .before .before .kind .ensures, ← c .before .before .low .ensures, ne-eqb _ _ (c .before .if1 .left), ne-eqb _ _ (c .if3 .taken))
+returns-3 c = rw (
+  ← c .before .before .before .kind .ensures,
+  ← c .before .before .low .ensures,
+  ne-eqb _ _ (c .before .if1 .left),
+  ne-eqb _ _
+      (c .if3 .taken),
+)
 
 returns-4 : tie.Need-returns-4
 unfolding nodeOf
-returns-4 c = rw (← c .before .before .before .before .kind .ensures, ← c .before .before .before .low .ensures, eq-eqb _ _ (c .before .if3 .left), c .match .keys1)
+returns-4 c = rw (
+  ← c .before .before .before .before .kind .ensures,
+  ← c .before .before .before .low .ensures,
+  eq-eqb _ _ (c .before .if3 .left),
+  c .match .keys1,
+)
 
 returns-5 : tie.Need-returns-5
 unfolding nodeOf
-returns-5 c = rw (← c .before .before .before .before .kind .ensures, ← c .before .before .before .low .ensures, eq-eqb _ _ (c .before .if3 .left), c .match .keys2)
+returns-5 c = rw (
+  ← c .before .before .before .before .kind .ensures,
+  ← c .before .before .before .low .ensures,
+  eq-eqb _ _ (c .before .if3 .left),
+  c .match .keys2,
+)
 
 returns-6 : tie.Need-returns-6
 unfolding nodeOf
-returns-6 c = rw (← c .before .before .before .before .kind .ensures, ← c .before .before .before .low .ensures, eq-eqb _ _ (c .before .if3 .left), c .match .keys3)
+returns-6 c = rw (
+  ← c .before .before .before .before .kind .ensures,
+  ← c .before .before .before .low .ensures,
+  eq-eqb _ _ (c .before .if3 .left),
+  c .match .keys3,
+)
 
 returns-7 : tie.Need-returns-7
 unfolding nodeOf
-returns-7 c = rw (← c .before .before .before .before .kind .ensures, ← c .before .before .before .low .ensures, eq-eqb _ _ (c .before .if3 .left), c .match .keys4)
+returns-7 c = rw (
+  ← c .before .before .before .before .kind .ensures,
+  ← c .before .before .before .low .ensures,
+  eq-eqb _ _ (c .before .if3 .left),
+  c .match .keys4,
+)
 
 returns-8 : tie.Need-returns-8
 unfolding nodeOf

@@ -17,7 +17,7 @@ same-length c = search needs
 
 returns : tie.Need-returns
 returns c =
-    let m = c .before .before .before .merge .ensures in
+    let m = c .before .before .before .merge .ensures .0 in
     (c .written-numbers .ensures ∙ ap (λ (o : MergeResult). writtenNumbers (o .answer)) m, ap (λ (o : MergeResult). o .kept) m)
 
 pub sotjarn-merge-spec : {M : Type 1} → statement M

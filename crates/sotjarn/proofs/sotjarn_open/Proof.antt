@@ -17,7 +17,7 @@ same-length c = search needs
 
 returns : tie.Need-returns
 returns c =
-    let o = c .before .before .before .«open» .ensures in
+    let o = c .before .before .before .«open» .ensures .0 in
     (c .written-numbers .ensures ∙ ap (λ (x : Opened). writtenNumbers (x .answer)) o, ap (λ (x : Opened). x .state) o)
 
 pub sotjarn-open-spec : {M : Type 1} → statement M

@@ -20,8 +20,10 @@ same-length-2 c = search needs
 
 returns : tie.Need-returns
 returns c =
-    let t = c .before .before .before .before .before .turn .ensures in
-    (c .turned-numbers .ensures ∙ ap (λ (x : TurnResult). turnedNumbers (x .answer)) t, (ap (λ (x : TurnResult). x .state) t, ap (λ (x : TurnResult). x .output) t))
+    let t = c .before .before .before .before .before .turn .ensures .0 in (
+      c .turned-numbers .ensures ∙ ap (λ (x : TurnResult). turnedNumbers (x .answer)) t,
+      (ap (λ (x : TurnResult). x .state) t, ap (λ (x : TurnResult). x .output) t),
+    )
 
 pub sotjarn-turn-spec : {M : Type 1} → statement M
 sotjarn-turn-spec =

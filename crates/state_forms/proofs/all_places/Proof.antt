@@ -1,4 +1,4 @@
--- `saved_states::all_places` meets its contract. The loop's invariant: the test of all words is that of the words from `i` on.
+-- `state_saving::all_places` meets its contract. The loop's invariant: the test of all words is that of the words from `i` on.
 use Prim.Native.Nat.{_-_, _≤_, zero-le}
 use mathlib.Core.Path.{_≡_, refl, sym, ap, _∙_}
 use native.Mathlib.Omega.{arith}

@@ -1,4 +1,4 @@
--- `saved_states::depth_right` meets its contract.
+-- `state_saving::depth_right` meets its contract.
 use borrow.Author.Needs.{needs}
 use Prim.Native.Nat.{_-_}
 use native.Mathlib.Omega.{arith}

@@ -1,4 +1,4 @@
--- `saved_states::has_form` meets its contract.
+-- `state_saving::has_form` meets its contract.
 use borrow.Author.Needs.{needs}
 use Prim.Native.Nat.{_-_}
 use mathlib.Core.Path.{sym, ap, _∙_}

@@ -1,4 +1,4 @@
--- `saved_states::position_right` meets its contract.
+-- `state_saving::position_right` meets its contract.
 use borrow.Author.Needs.{needs}
 use mathlib.Core.Path.{sym, ap, ap₂, _∙_}
 use native.Mathlib.Omega.{arith}

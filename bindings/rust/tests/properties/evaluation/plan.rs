@@ -210,7 +210,7 @@ impl Plan {
 
     pub fn k(&self) -> usize {
         match self.ending {
-            Ending::Top(0, ..) => 64,
+            Ending::Top(0, ..) => 10,
             Ending::Top(k, ..) => k as usize,
             _ => 1,
         }

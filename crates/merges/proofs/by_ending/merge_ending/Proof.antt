@@ -3,7 +3,7 @@ use borrow.Author.Needs.{needs}
 use mathlib.Core.Path.{refl, sym, _∙_, subst}
 use Rattle.plans.specs.Endings.{endingAt}
 use Rattle.plans.proofs.EndingRead.{some-kind}
-use Rattle.merges.specs.Answering.{Accepted, PiecesRight}
+use Rattle.merges.specs.Answering.{AcceptedPlan, PiecesRight}
 use Rattle.merges.proofs.Tested.{rows-wrong}
 use Rattle.merges.proofs.Pieces.{rows-of, top-of, group-of}
 use Rattle.merges.proofs.by_ending.merge_ending.Statement.{statement}
@@ -57,7 +57,7 @@ enum-told-4 c = search needs
 returns : tie.Need-returns
 returns c =
     let s = c .before .before .before .before .before .before in
-    λ plan a. rows-wrong _ (subst (Accepted plan) (rows-of _ (c .before .before .ending-kind .ensures) (c .enum-told .given .1)) a) (s .pre .2)
+    λ plan a. rows-wrong _ (subst (AcceptedPlan plan) (rows-of _ (c .before .before .ending-kind .ensures) (c .enum-told .given .1)) a) (s .pre .2)
 
 same-length : tie.Need-same-length
 same-length c = search needs
@@ -68,7 +68,7 @@ returns-2 c =
     let is = top-of (endingAt (s .args .e .now)) (c .before .before .before .before .before .before .before .before .before .ending-kind .ensures)
     (c .before .before .before .before .before .before .before .enum-told2 .given .1) (c .before .before .before .before .best-count .ensures)
     (c .before .before .before .before .before .before .variables .ensures) (c .before .before .before .before .before .keys .ensures) in
-    λ plan a. c .before .before .merge-top .ensures plan (subst (Accepted plan) is a)
+    λ plan a. c .before .before .merge-top .ensures plan (subst (AcceptedPlan plan) is a)
 
 same-length-2 : tie.Need-same-length-2
 same-length-2 c = search needs
@@ -78,7 +78,7 @@ returns-3 c =
     let s = c .before .before .before .before .before .before .before .before .before .before .before in
     let is = group-of (endingAt (s .args .e .now)) (c .before .before .before .before .before .before .before .ending-kind .ensures)
     (c .before .before .before .before .before .enum-told3 .given .1) (c .before .before .before .before .variables2 .ensures) in
-    λ plan a. c .before .before .merge-groups .ensures _ _ refl plan (subst (Accepted plan) is a)
+    λ plan a. c .before .before .merge-groups .ensures _ _ refl plan (subst (AcceptedPlan plan) is a)
 
 returns-4 : tie.Need-returns-4
 returns-4 c =

@@ -10,8 +10,8 @@ use lib.Seq.{length-take-le}
 use borrow.Author.Tests.{leb-true}
 use Rattle.plans.specs.Endings.{Ending, top}
 use Rattle.lists.specs.Gathering.{merged}
-use Rattle.best_lists.specs.BestLists.{BestList, Mergeable}
-use Rattle.best_lists.proofs.RightLists.{right-best, mergeable}
+use Rattle.list_best.specs.BestLists.{BestList, Mergeable}
+use Rattle.list_best.proofs.RightLists.{right-best, mergeable}
 use Rattle.merges.specs.Answering.{bothRight}
 use Rattle.merges.proofs.Tested.{goes-on, refuses, each-right, lists-wrong, top-no-room, top-merged}
 use Rattle.merges.proofs.by_ending.merge_top.Statement.{statement}

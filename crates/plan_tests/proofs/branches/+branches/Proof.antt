@@ -105,7 +105,8 @@ branches-returns-3 t c =
     let args = c .before .before .before .before .before .before .before .before .before .before .args in
     let if1 = c .before .before .before .before .before .before .before .before .if1 in
     let words = c .before .before .before .before .before .words in
-    sym (branches-two (args .count) (args .p .now) (if1 .left) (b .result) (b .ensures) _ _ (words .given .1) (r .result) (r .ensures) ∙ rw (c .enum-told2 .given .1))
+    sym (branches-two (args .count) (args .p .now) (if1 .left) (b .result) (b .ensures) _ _ (words .given .1) (r .result) (r .ensures)
+    ∙ rw (c .enum-told2 .given .1))
 
 branches-returns-4 : (t : ℕ) → branches-lts.Need-returns-4 (callees t) (branches-at t) branches.Post
 branches-returns-4 t c =

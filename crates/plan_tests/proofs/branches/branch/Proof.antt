@@ -66,7 +66,8 @@ returns-3 c =
     let if1 = c .before .before .before .before .before .before .before .before .if1 in
     let if2 = c .before .before .before .before .before .before .before .if2 in
     let words = c .before .before .words in
-    sym (branch-with (args .p .now) (n .result) (n .ensures .0) (if1 .left) (if2 .left) (l .result) (l .ensures) ∙ rw (words .given .1, lt-leb _ _ (c .if3 .taken)))
+    sym (branch-with (args .p .now) (n .result) (n .ensures .0) (if1 .left) (if2 .left) (l .result) (l .ensures)
+    ∙ rw (words .given .1, lt-leb _ _ (c .if3 .taken)))
 
 add-t19 : tie.Need-add-t19
 add-t19 c =

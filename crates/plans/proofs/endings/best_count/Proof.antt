@@ -1,4 +1,4 @@
--- `best_count` meets its contract: 0 means the most.
+-- `best_count` meets its contract: 0 means ten.
 use borrow.Author.Needs.{needs}
 use mathlib.Core.Path.{refl, sym, ap, _∙_}
 use lib.ListN.{getD}

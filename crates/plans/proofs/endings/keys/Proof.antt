@@ -26,7 +26,11 @@ sub-after-rows c =
     let t = c .before .before .last-of in
     let first = c .before .before .before .first in
     let pre = c .before .before .before .before .before .pre in
-    omega (arith, some-word e (t .result) (t .ensures ∙ ap lastOf (first .ensures)) (not-neither e (t .result) (t .ensures ∙ ap lastOf (first .ensures)) pre))
+    omega (
+      arith,
+      some-word e (t .result) (t .ensures ∙ ap lastOf (first .ensures))
+          (not-neither e (t .result) (t .ensures ∙ ap lastOf (first .ensures)) pre),
+    )
 
 part-after-rows-start : tie.Need-part-after-rows-start
 part-after-rows-start c =
@@ -34,7 +38,11 @@ part-after-rows-start c =
     let t = c .before .before .last-of in
     let first = c .before .before .before .first in
     let pre = c .before .before .before .before .before .pre in
-    omega (arith, some-word e (t .result) (t .ensures ∙ ap lastOf (first .ensures)) (not-neither e (t .result) (t .ensures ∙ ap lastOf (first .ensures)) pre))
+    omega (
+      arith,
+      some-word e (t .result) (t .ensures ∙ ap lastOf (first .ensures))
+          (not-neither e (t .result) (t .ensures ∙ ap lastOf (first .ensures)) pre),
+    )
 
 part-after-rows-end : tie.Need-part-after-rows-end
 part-after-rows-end c = omega arith

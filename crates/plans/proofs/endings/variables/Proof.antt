@@ -36,7 +36,11 @@ sub-row-variables c =
     let t = c .before .before .last-of in
     let first = c .before .before .before .first in
     let pre = c .before .before .before .before .before .pre in
-    omega (arith, some-word e (t .result) (t .ensures ∙ ap lastOf (first .ensures)) (not-neither e (t .result) (t .ensures ∙ ap lastOf (first .ensures)) pre))
+    omega (
+      arith,
+      some-word e (t .result) (t .ensures ∙ ap lastOf (first .ensures))
+          (not-neither e (t .result) (t .ensures ∙ ap lastOf (first .ensures)) pre),
+    )
 
 part-row-variables-start : tie.Need-part-row-variables-start
 part-row-variables-start c =
@@ -44,7 +48,11 @@ part-row-variables-start c =
     let t = c .before .before .last-of in
     let first = c .before .before .before .first in
     let pre = c .before .before .before .before .before .pre in
-    omega (arith, some-word e (t .result) (t .ensures ∙ ap lastOf (first .ensures)) (not-neither e (t .result) (t .ensures ∙ ap lastOf (first .ensures)) pre))
+    omega (
+      arith,
+      some-word e (t .result) (t .ensures ∙ ap lastOf (first .ensures))
+          (not-neither e (t .result) (t .ensures ∙ ap lastOf (first .ensures)) pre),
+    )
 
 part-row-variables-end : tie.Need-part-row-variables-end
 part-row-variables-end c = omega arith

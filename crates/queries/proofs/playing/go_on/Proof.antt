@@ -7,7 +7,7 @@ use lib.ListN.{length}
 use Rattle.tables.specs.Tables.{tablesOf}
 use Rattle.queries.specs.declared.Keeping.the-variants.{All}
 use Rattle.queries.specs.declared.Went.the-variants.{On}
-use Rattle.queries.specs.Rounds.{startOf, rounds, resultAt}
+use Rattle.queries.specs.Rounds.{firstPosition, rounds, resultAt}
 use Rattle.queries.proofs.Rounds.{rounds-none, rounds-next, rounds-made, rounds-over, rounds-stopped}
 use Rattle.queries.proofs.playing.go_on.Statement.{statement}
 use Rattle.queries.proofs.playing.go_on.Tie as tie
@@ -15,7 +15,7 @@ use Rattle.queries.proofs.playing.go_on.Tie as tie
 abbrev Inv-loop : tie.InvT-loop
 Inv-loop rows pos osp plan quantum most state₀ opened output₀ kept₀ saved₀ used₀ n₀ state output kept saved used n =
     (n ≤ most) × (length state ≡ length state₀) × (length output ≡ length output₀) × (length kept ≡ length kept₀)
-    × (rounds All (tablesOf rows pos osp) plan quantum n (startOf opened (record { state = state₀; output = output₀; kept = kept₀ }))
+    × (rounds All (tablesOf rows pos osp) plan quantum n (firstPosition opened (record { state = state₀; output = output₀; kept = kept₀ }))
     ≡ record { went = On saved used; held = record { state = state; output = output; kept = kept } })
 
 abbrev μ-loop : tie.MeasureT-loop

@@ -1,9 +1,6 @@
 -- `is_rows` meets its contract: by the kind of the plan's ending.
 use borrow.Author.Needs.{needs}
-use mathlib.Core.Path.{sym, _∙_, ap}
-use Rattle.plans.specs.Endings.{endingAt}
-use Rattle.queries.specs.Stepping.{isRows}
-use Rattle.queries.proofs.Taking.{rowsKind, by-kind}
+use Rattle.queries.proofs.Taking.{rows-by-kind}
 use Rattle.queries.proofs.stepping.is_rows.Statement.{statement}
 use Rattle.queries.proofs.stepping.is_rows.Tie as tie
 
@@ -28,26 +25,26 @@ enum-told-4 c = search needs
 returns : tie.Need-returns
 returns c =
     let k = c .before .before in
-    let p = k .before in
-    ap rowsKind (sym (c .enum-told .given .1) ∙ k .ending-kind .ensures) ∙ by-kind (endingAt (p .ending-part .result .now)) ∙ ap isRows (p .ending-part .ensures .1)
+    let p = k .before .ending-part in
+    rows-by-kind (p .result .now) _ (p .ensures .1) _ _ (k .ending-kind .ensures) (c .enum-told .given .1)
 
 returns-2 : tie.Need-returns-2
 returns-2 c =
     let k = c .before .before in
-    let p = k .before in
-    ap rowsKind (sym (c .enum-told2 .given .1) ∙ k .ending-kind .ensures) ∙ by-kind (endingAt (p .ending-part .result .now)) ∙ ap isRows (p .ending-part .ensures .1)
+    let p = k .before .ending-part in
+    rows-by-kind (p .result .now) _ (p .ensures .1) _ _ (k .ending-kind .ensures) (c .enum-told2 .given .1)
 
 returns-3 : tie.Need-returns-3
 returns-3 c =
     let k = c .before .before in
-    let p = k .before in
-    ap rowsKind (sym (c .enum-told3 .given .1) ∙ k .ending-kind .ensures) ∙ by-kind (endingAt (p .ending-part .result .now)) ∙ ap isRows (p .ending-part .ensures .1)
+    let p = k .before .ending-part in
+    rows-by-kind (p .result .now) _ (p .ensures .1) _ _ (k .ending-kind .ensures) (c .enum-told3 .given .1)
 
 returns-4 : tie.Need-returns-4
 returns-4 c =
     let k = c .before .before in
-    let p = k .before in
-    ap rowsKind (sym (c .enum-told4 .given .1) ∙ k .ending-kind .ensures) ∙ by-kind (endingAt (p .ending-part .result .now)) ∙ ap isRows (p .ending-part .ensures .1)
+    let p = k .before .ending-part in
+    rows-by-kind (p .result .now) _ (p .ensures .1) _ _ (k .ending-kind .ensures) (c .enum-told4 .given .1)
 
 pub is-rows-spec : {M : Type 1} → statement M
 is-rows-spec =

@@ -2,7 +2,7 @@
 use borrow.Author.Needs.{needs}
 use mathlib.Core.Path.{_≡_, sym, _∙_}
 use Rattle.plans.specs.Plans.{planOf}
-use Rattle.queries.specs.Stepping.{isRows}
+use Rattle.lists.specs.Gathering.{isRows}
 use Rattle.queries.proofs.stepping.take_list.Statement.{statement}
 use Rattle.queries.proofs.stepping.take_list.Tie as tie
 
@@ -33,7 +33,7 @@ returns-2 c =
     let s = c .before .before .before .before .before .before .before .before .before in
     let k = c .before .before .before .before in
     let h : isRows (planOf (s .args .plan .now) .ending) ≡ _ = sym (k .before .is-rows .ensures) ∙ k .if1 .left in
-    rw h (c .before .before .merge .ensures)
+    rw h (c .before .before .merge .ensures .0)
 
 pub take-list-spec : {M : Type 1} → statement M
 take-list-spec =

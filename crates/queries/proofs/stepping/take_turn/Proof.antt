@@ -19,14 +19,14 @@ is-served-requires c κs = search needs
 slice-reshare-prefix-take-list : tie.Need-slice-reshare-prefix-take-list
 slice-reshare-prefix-take-list c =
     let u = c .before .before .before .before .before .before .before in
-    let e = u .turn .ensures in
+    let e = u .turn .ensures .0 in
     served-room _ (u .turn .result) _ (ap (λ (r : TurnResult). r .answer) e) (ap (λ (r : TurnResult). r .output) e)
     (sym (c .before .before .is-served .ensures) ∙ c .before .if1 .taken)
 
 slice-aggregate-take-list : tie.Need-slice-aggregate-take-list
 slice-aggregate-take-list c =
     let u = c .before .before .before .before .before .before .before .before in
-    let e = u .turn .ensures in
+    let e = u .turn .ensures .0 in
     sym (length-take-le (u .turn .result .listed) _
     (served-room _ (u .turn .result) _ (ap (λ (r : TurnResult). r .answer) e) (ap (λ (r : TurnResult). r .output) e)
     (sym (c .before .before .before .is-served .ensures) ∙ c .before .before .if1 .taken)))
@@ -34,7 +34,7 @@ slice-aggregate-take-list c =
 take-list-requires : tie.Need-take-list-requires
 take-list-requires c κs =
     let u = c .before .before .before .before .before .before .before .before in
-    served-form _ (u .turn .result) (ap (λ (r : TurnResult). r .answer) (u .turn .ensures))
+    served-form _ (u .turn .result) (ap (λ (r : TurnResult). r .answer) (u .turn .ensures .0))
     (sym (c .before .before .before .is-served .ensures) ∙ c .before .before .if1 .taken)
 
 same-length : tie.Need-same-length
@@ -51,11 +51,12 @@ returns c =
     let l = c .before .before in
     let u = c .before .before .before .before .before .before .before .before .before .before .before in
     let s = u .before .before .before .before .before .before .before .before .before .before .before in
-    let e = u .turn .ensures in
+    let e = u .turn .ensures .0 in
     list-taken (s .args .keeping) _ (s .args .kept .now) (s .args .used) (u .turn .result) _ _ (ap (λ (r : TurnResult). r .answer) e)
     (ap (λ (r : TurnResult). r .state) e) (ap (λ (r : TurnResult). r .output) e)
     (record { answer = l .take-list .result; kept = l .take-list .last .1 .0 })
-    (sym (c .before .before .before .before .before .before .is-served .ensures) ∙ c .before .before .before .before .before .if1 .taken) (l .take-list .ensures)
+    (sym (c .before .before .before .before .before .before .is-served .ensures) ∙ c .before .before .before .before .before .if1 .taken)
+    (l .take-list .ensures)
 
 same-length-4 : tie.Need-same-length-4
 same-length-4 c = search needs
@@ -67,7 +68,7 @@ returns-2 : tie.Need-returns-2
 returns-2 c =
     let u = c .before .before .before .before .before .before in
     let s = u .before .before .before .before .before .before .before .before .before .before .before in
-    let e = u .turn .ensures in
+    let e = u .turn .ensures .0 in
     none-taken (s .args .keeping) _ (s .args .kept .now) (s .args .used) (u .turn .result) _ _ (ap (λ (r : TurnResult). r .answer) e)
     (ap (λ (r : TurnResult). r .state) e) (ap (λ (r : TurnResult). r .output) e)
     (sym (c .before .is-served .ensures) ∙ c .if1 .left)

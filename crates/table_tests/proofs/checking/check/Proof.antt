@@ -5,7 +5,7 @@ use native.Mathlib.Omega.{arith}
 use borrow.Author.Tests.{not-true, not-false}
 use Rattle.tables.specs.Tables.{Tables, tablesOf, lengthsRight, kindsRight}
 use Rattle.tables.specs.Right.{Sized}
-use Rattle.tables.proofs.Accepted.{lengths-sized}
+use Rattle.tables.proofs.RightTables.{lengths-sized}
 use Rattle.table_tests.specs.Walk.{refusalAfter}
 use Rattle.table_tests.proofs.RowKinds.{kinds-alone}
 use Rattle.table_tests.proofs.Refusing.{lengths-first, kinds-first, orders-first, no-rows}

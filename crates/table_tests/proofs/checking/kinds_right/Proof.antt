@@ -19,39 +19,12 @@ abbrev μ-loop : tie.MeasureT-loop
 loop-holds : tie.Need-loop-holds Inv-loop μ-loop
 loop-holds c = (refl, zero-le, kinds-none (c .before .args .rows .now))
 
-add-row-right : tie.Need-add-row-right Inv-loop μ-loop
-add-row-right c = omega arith
-
-mul-row-right : tie.Need-mul-row-right Inv-loop μ-loop
-mul-row-right c = omega arith
-
-shared-slice-read-row-right : tie.Need-shared-slice-read-row-right Inv-loop μ-loop
-shared-slice-read-row-right c = omega arith
-
-add-row-right-2 : tie.Need-add-row-right-2 Inv-loop μ-loop
-add-row-right-2 c = omega arith
-
-mul-row-right-2 : tie.Need-mul-row-right-2 Inv-loop μ-loop
-mul-row-right-2 c = omega arith
-
-shared-slice-read-row-right-2 : tie.Need-shared-slice-read-row-right-2 Inv-loop μ-loop
-shared-slice-read-row-right-2 c = omega arith
-
-add-row-right-3 : tie.Need-add-row-right-3 Inv-loop μ-loop
-add-row-right-3 c = omega arith
-
-mul-row-right-3 : tie.Need-mul-row-right-3 Inv-loop μ-loop
-mul-row-right-3 c = omega arith
-
-shared-slice-read-row-right-3 : tie.Need-shared-slice-read-row-right-3 Inv-loop μ-loop
-shared-slice-read-row-right-3 c = omega arith
-
 row-right-requires : tie.Need-row-right-requires Inv-loop μ-loop
-row-right-requires c κs = tt
+row-right-requires c κs = omega arith
 
 returns : tie.Need-returns Inv-loop μ-loop
 returns c =
-    let l = c .before .before .before .before .before .before in
+    let l = c .before .before .before in
     sym (kinds-fault (l .before .before .args .rows .now) (l .loop .at) (l .loop .inv .0) (omega arith)
     (sym (c .before .row-right .ensures) ∙ not-true _ (c .if1 .taken)))
 
@@ -63,7 +36,7 @@ loop-less c = omega arith
 
 loop-again : tie.Need-loop-again Inv-loop μ-loop
 loop-again c =
-    let l = c .before .before .before .before .before .before in (
+    let l = c .before .before .before in (
       omega arith,
       omega arith,
       kinds-next (l .before .before .args .rows .now) (l .loop .at) (l .loop .inv .0) (l .loop .inv .2)
@@ -82,15 +55,6 @@ kinds-right-spec =
     Inv-loop
     μ-loop
     loop-holds
-    add-row-right
-    mul-row-right
-    shared-slice-read-row-right
-    add-row-right-2
-    mul-row-right-2
-    shared-slice-read-row-right-2
-    add-row-right-3
-    mul-row-right-3
-    shared-slice-read-row-right-3
     row-right-requires
     returns
     add-at

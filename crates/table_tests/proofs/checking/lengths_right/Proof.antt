@@ -14,7 +14,10 @@ returns-2 : tie.Need-returns-2
 unfolding lengthsRight
 returns-2 c =
     let a = c .before .before .args in
-    rw (eq-eqb (length (a .rows .now) % columnCount) 0 (c .before .if1 .left), ne-eqb (length (a .pos .now)) (length (a .rows .now) / columnCount) (c .if2 .taken))
+    rw (
+      eq-eqb (length (a .rows .now) % columnCount) 0 (c .before .if1 .left),
+      ne-eqb (length (a .pos .now)) (length (a .rows .now) / columnCount) (c .if2 .taken),
+    )
 
 returns-3 : tie.Need-returns-3
 unfolding lengthsRight

@@ -13,7 +13,8 @@ use Rattle.tables.specs.Tables.{Tables, tablesOf, columnCount, rowCount, rowAt,
 use Rattle.tables.proofs.Columns.{fields-length}
 use Rattle.tables.proofs.Sides.{from-less, from-same, from-more, from-end}
 use Rattle.table_tests.specs.Walk.{orderCount, orderRight, rightUpto, rightOrders}
-use Rattle.table_tests.proofs.Walking.{read-row, read-fields, read-none, upto-first, upto-next, unnamed-fault, descent-fault, RightBefore, orders-none, orders-next, orders-fault, orders-all}
+use Rattle.table_tests.proofs.Walking.{read-row, read-fields, read-none, upto-first, upto-next, unnamed-fault, descent-fault}
+use Rattle.table_tests.proofs.Walking.{RightBefore, orders-none, orders-next, orders-fault, orders-all}
 use Rattle.table_tests.proofs.checking.walk.Statement.{statement}
 use Rattle.table_tests.proofs.checking.walk.Tie as tie
 
@@ -41,7 +42,8 @@ abbrev μ-orders : tie.MeasureT-orders
 μ-orders rows pos osp count turn₀ turn = orderCount - turn
 
 -- ---- what each loop is about
-abbrev start : tie.At-orders Inv-columns μ-columns Inv-places μ-places Inv-orders μ-orders → tie.Start Inv-columns μ-columns Inv-places μ-places Inv-orders μ-orders
+abbrev start : tie.At-orders Inv-columns μ-columns Inv-places μ-places Inv-orders μ-orders
+    → tie.Start Inv-columns μ-columns Inv-places μ-places Inv-orders μ-orders
 start l = l .before .before .before .before
 
 abbrev lent : tie.At-orders Inv-columns μ-columns Inv-places μ-places Inv-orders μ-orders → Tables
@@ -61,7 +63,8 @@ abbrev reading : tie.At-columns Inv-columns μ-columns Inv-places μ-places Inv-
     μ-places Inv-orders μ-orders
 reading c = c .before .before .before .before
 
-abbrev places : tie.At-columns Inv-columns μ-columns Inv-places μ-places Inv-orders μ-orders → tie.At-places Inv-columns μ-columns Inv-places μ-places Inv-orders μ-orders
+abbrev places : tie.At-columns Inv-columns μ-columns Inv-places μ-places Inv-orders μ-orders
+    → tie.At-places Inv-columns μ-columns Inv-places μ-places Inv-orders μ-orders
 places c = reading c .before .before
 
 abbrev last : tie.At-columns Inv-columns μ-columns Inv-places μ-places Inv-orders μ-orders → List ℕ
@@ -241,7 +244,8 @@ returns-4 : tie.Need-returns-4 Inv-columns μ-columns Inv-places μ-places Inv-o
 returns-4 c =
     let b = c .before .before in
     let d = b .before .before in
-    descends d (from-more (last d) (next d) (d .columns .column) (last-long d) (next-long d) (omega (arith, b .before .part .ensures, b .part2 .ensures, c .if4 .taken)))
+    descends d (from-more (last d) (next d) (d .columns .column) (last-long d) (next-long d)
+    (omega (arith, b .before .part .ensures, b .part2 .ensures, c .if4 .taken)))
 
 returns-5 : tie.Need-returns-5 Inv-columns μ-columns Inv-places μ-places Inv-orders μ-orders
 returns-5 c =

@@ -1,0 +1,136 @@
+/* Words for C and C++: terms, the words of plans and states, and refusals by name and in a line of text.
+ *
+ * Each macro of a number gives a uint32_t and is a constant where its arguments are, so that a plan can be a static array. A value that
+ * its bits cannot hold is cut to them: 30 bits of a term, 28 of a plan's or a state's word. docs/FORMATS.md says where each word stands;
+ * tests/c_words compares all of this with the definitions.
+ */
+#ifndef SOTJARN_WORDS_H
+#define SOTJARN_WORDS_H
+
+#include <stdint.h>
+
+#ifdef __cplusplus
+extern "C" {
+#endif
+
+/* ---- Terms: two bits of kind and a value of 30. */
+#define SOTJARN_TERM(kind, value) ((uint32_t)(kind) << 30 | ((uint32_t)(value) & UINT32_C(0x3FFFFFFF)))
+#define SOTJARN_TERM_KIND(word) ((uint32_t)(word) >> 30)
+#define SOTJARN_TERM_VALUE(word) ((uint32_t)(word) & UINT32_C(0x3FFFFFFF))
+
+enum { SOTJARN_KIND_NAME = 0, SOTJARN_KIND_NUMBER = 1, SOTJARN_KIND_TEXT = 2, SOTJARN_KIND_VARIABLE = 3 };
+
+#define SOTJARN_NAME(value) SOTJARN_TERM(SOTJARN_KIND_NAME, value)
+#define SOTJARN_NUMBER(value) SOTJARN_TERM(SOTJARN_KIND_NUMBER, value)
+#define SOTJARN_TEXT(value) SOTJARN_TERM(SOTJARN_KIND_TEXT, value)
+#define SOTJARN_VARIABLE(number) SOTJARN_TERM(SOTJARN_KIND_VARIABLE, number)
+#define SOTJARN_UNBOUND UINT32_C(0xC0000000) /* in a delivered row: the variable has no value */
+
+/* ---- Words of plans and states: four bits of kind, and a count or number of 28. */
+#define SOTJARN_WORD(kind, low) ((uint32_t)(kind) << 28 | ((uint32_t)(low) & UINT32_C(0x0FFFFFFF)))
+#define SOTJARN_WORD_KIND(word) ((uint32_t)(word) >> 28)
+#define SOTJARN_WORD_LOW(word) ((uint32_t)(word) & UINT32_C(0x0FFFFFFF))
+
+/* A plan: a head, its branches, one ending. A branch: its patterns, three terms each, and one condition. */
+#define SOTJARN_HEAD(branches) SOTJARN_WORD(1, branches)
+#define SOTJARN_BRANCH(patterns) SOTJARN_WORD(2, patterns)
+
+/* Conditions: "and" and "or" stand before two of them, "not" before one, a comparison before two terms. */
+#define SOTJARN_TRUE SOTJARN_WORD(3, 0)
+#define SOTJARN_AND SOTJARN_WORD(4, 0)
+#define SOTJARN_OR SOTJARN_WORD(5, 0)
+#define SOTJARN_NOT SOTJARN_WORD(6, 0)
+#define SOTJARN_COMPARISON(comparison) SOTJARN_WORD(7, comparison)
+
+enum {
+    SOTJARN_EQUAL = 0,
+    SOTJARN_UNEQUAL = 1,
+    SOTJARN_LESS = 2,
+    SOTJARN_AT_MOST = 3,
+    SOTJARN_GREATER = 4,
+    SOTJARN_AT_LEAST = 5
+};
+
+/* Endings: rows and their variables; top k, a rows part and its keys; a group, its variables and the measured one. A k of 0 means ten rows. */
+enum { SOTJARN_DEFAULT_BEST = 10 };
+#define SOTJARN_ROWS(variables) SOTJARN_WORD(8, variables)
+#define SOTJARN_TOP(k) SOTJARN_WORD(9, k)
+#define SOTJARN_RISING(variable) SOTJARN_WORD(10, variable)
+#define SOTJARN_FALLING(variable) SOTJARN_WORD(11, variable)
+#define SOTJARN_GROUP(variables) SOTJARN_WORD(12, variables)
+
+/* A state: its branch (from 0) and depth, and a place for each level. */
+#define SOTJARN_POSITION(branch, depth) SOTJARN_WORD(14, (uint32_t)(branch) * 16 + (uint32_t)(depth))
+#define SOTJARN_PLACE(place) SOTJARN_WORD(15, place)
+#define SOTJARN_STATE_BRANCH(word) (SOTJARN_WORD_LOW(word) / 16)
+#define SOTJARN_STATE_DEPTH(word) (SOTJARN_WORD_LOW(word) % 16)
+
+/* ---- Records of groups: the keys, then so many words: rows, numbers and sum of two words each, least, greatest. */
+enum { SOTJARN_TOTALS_WORDS = 8 };
+
+/* Two words as one number, the low word first. */
+static inline uint64_t sotjarn_wide(const uint32_t *words)
+{
+    return (uint64_t)words[1] << 32 | words[0];
+}
+
+/* ---- Refusals. */
+enum {
+    SOTJARN_REFUSED_TABLE_LENGTHS = 1,
+    SOTJARN_REFUSED_FIELD_KIND = 2,
+    SOTJARN_REFUSED_ROW_ORDER = 3,
+    SOTJARN_REFUSED_ROW_NUMBERS = 4,
+    SOTJARN_REFUSED_PLAN_FORM = 5,
+    SOTJARN_REFUSED_PLAN_VARIABLES = 6,
+    SOTJARN_REFUSED_BUFFER_LENGTHS = 7,
+    SOTJARN_REFUSED_QUANTUM = 8,
+    SOTJARN_REFUSED_STATE_FORM = 9,
+    SOTJARN_REFUSED_STATE_NOT_PASSED = 10,
+    SOTJARN_REFUSED_THRESHOLD = 11,
+    SOTJARN_REFUSED_MERGED_LISTS = 12,
+    SOTJARN_REFUSED_TOTALS = 13,
+    SOTJARN_REFUSED_KEPT_LENGTH = 14
+};
+
+/* What is wrong and what to do, in a line, by the number that a call refused by. */
+static inline const char *sotjarn_refusal_text(uint32_t refused)
+{
+    static const char *const texts[] = {
+        "not refused",
+        "the lengths of the tables do not fit together, or there are more than 65,536 rows; lend three words a row, "
+        "and in each list one number a row",
+        "a field of some row has the wrong kind; make every subject and predicate a name, and every object a name, a "
+        "number or a text",
+        "the rows do not ascend strictly; sort the rows as unsigned words by subject, predicate, object, and leave out "
+        "repeats",
+        "a list of row numbers names a row that is not there, or its rows do not ascend strictly; write the lists anew "
+        "from these rows: one by predicate, object, subject, one by object, subject, predicate",
+        "the form of the plan is wrong: a kind, a count, its length or a condition's size, or words are left over; "
+        "keep to 1 to 4 branches, 1 to 8 patterns, conditions of 31 nodes and 8 deep, 1 to 16 columns, k up to 64, 1 "
+        "to 4 keys, 4 group variables, and 256 words in all",
+        "a variable of the plan is above ?15, is not bound, or is repeated; use ?0 to ?15; bind a condition's "
+        "variables in its own branch and the ending's in some branch; take keys from the columns; name no column or "
+        "group variable twice",
+        "the output or the state buffer is too short; lend a state buffer of 9 words, and an output for one row, k "
+        "rows or one group, as the plan ends",
+        "the quantum is outside its range; give 1 to 1,000,000 steps",
+        "the state is empty, or its kinds, branch, depth or length are wrong; give the words that opening or the last "
+        "turn wrote, as many as it said; after done there are none",
+        "the query never passes through this state; send the state with the plan and the tables that it came from, or "
+        "open the query anew",
+        "the threshold is not one row of a best-of query; send none, or the last row of a full list merged by the same "
+        "plan",
+        "a list is not one that this plan makes, or the plan delivers plain rows; merge whole lists of turns of the "
+        "same plan; join the lists of a row query end to end instead",
+        "a total would pass 2^64 - 1; merge each list once; such totals no survey reaches",
+        "the kept buffer is too short for the merged list; lend a longer buffer: the words of both lists are always "
+        "enough",
+    };
+    return refused < sizeof texts / sizeof *texts ? texts[refused] : "a number that this header does not know: the library is newer";
+}
+
+#ifdef __cplusplus
+}
+#endif
+
+#endif

@@ -1,0 +1,153 @@
+//! The calls of the proved library over slices, as the portable engine has them: the only place with unsafe code.
+//!
+//! What bindings/c/sotjarn.h asks of a caller, slices give: a slice's address is never null, even where its length is 0; it is aligned
+//! for u32; so many words may be read from it; a `&mut` slice may be written and overlaps no other; and nobody writes what is borrowed
+//! while the call runs. The library keeps no address and has no state of its own.
+
+/// What opening and merging answer, and what a plan asks of an output.
+#[repr(C)]
+pub struct WrittenNumbers {
+    pub refused: u32,
+    pub words: usize,
+}
+
+/// What a turn answers.
+#[repr(C)]
+pub struct TurnedNumbers {
+    pub ending: u32,
+    pub refused: u32,
+    pub steps: u32,
+    pub saved: usize,
+    pub listed: usize,
+}
+
+// The numbers of a turn's endings.
+pub const DONE: u32 = 0;
+pub const SPENT: u32 = 1;
+pub const FULL: u32 = 2;
+pub const REFUSED: u32 = 3;
+
+/// The calls as the header declares them.
+mod foreign {
+    use super::{TurnedNumbers, WrittenNumbers};
+
+    extern "C" {
+        pub fn sotjarn_open(
+            rows: *const u32,
+            rows_len: usize,
+            pos: *const u32,
+            pos_len: usize,
+            osp: *const u32,
+            osp_len: usize,
+            plan: *const u32,
+            plan_len: usize,
+            state: *mut u32,
+            state_len: usize,
+        ) -> WrittenNumbers;
+
+        pub fn sotjarn_turn(
+            rows: *const u32,
+            rows_len: usize,
+            pos: *const u32,
+            pos_len: usize,
+            osp: *const u32,
+            osp_len: usize,
+            plan: *const u32,
+            plan_len: usize,
+            state: *mut u32,
+            state_len: usize,
+            state_words: usize,
+            quantum: u32,
+            threshold: *const u32,
+            threshold_len: usize,
+            output: *mut u32,
+            output_len: usize,
+        ) -> TurnedNumbers;
+
+        pub fn sotjarn_merge(
+            plan: *const u32,
+            plan_len: usize,
+            kept: *mut u32,
+            kept_len: usize,
+            kept_words: usize,
+            list: *const u32,
+            list_len: usize,
+        ) -> WrittenNumbers;
+
+        pub fn sotjarn_least_output(plan: *const u32, plan_len: usize) -> WrittenNumbers;
+    }
+}
+
+pub fn sotjarn_open(rows: &[u32], pos: &[u32], osp: &[u32], plan: &[u32], state: &mut [u32]) -> WrittenNumbers {
+    // Sound: each address and length is a slice's, and `state`, the one that is written, is a `&mut` slice (see the module).
+    unsafe {
+        foreign::sotjarn_open(
+            rows.as_ptr(),
+            rows.len(),
+            pos.as_ptr(),
+            pos.len(),
+            osp.as_ptr(),
+            osp.len(),
+            plan.as_ptr(),
+            plan.len(),
+            state.as_mut_ptr(),
+            state.len(),
+        )
+    }
+}
+
+#[allow(clippy::too_many_arguments)]
+pub fn sotjarn_turn(
+    rows: &[u32],
+    pos: &[u32],
+    osp: &[u32],
+    plan: &[u32],
+    state: &mut [u32],
+    given: usize,
+    quantum: u32,
+    threshold: &[u32],
+    output: &mut [u32],
+) -> TurnedNumbers {
+    // Sound: each address and length is a slice's; `state` and `output`, the two that are written, are `&mut` slices, so they
+    // overlap neither each other nor the rest (see the module).
+    unsafe {
+        foreign::sotjarn_turn(
+            rows.as_ptr(),
+            rows.len(),
+            pos.as_ptr(),
+            pos.len(),
+            osp.as_ptr(),
+            osp.len(),
+            plan.as_ptr(),
+            plan.len(),
+            state.as_mut_ptr(),
+            state.len(),
+            given,
+            quantum,
+            threshold.as_ptr(),
+            threshold.len(),
+            output.as_mut_ptr(),
+            output.len(),
+        )
+    }
+}
+
+pub fn sotjarn_merge(plan: &[u32], kept: &mut [u32], given: usize, list: &[u32]) -> WrittenNumbers {
+    // Sound: each address and length is a slice's, and `kept`, the one that is written, is a `&mut` slice (see the module).
+    unsafe {
+        foreign::sotjarn_merge(
+            plan.as_ptr(),
+            plan.len(),
+            kept.as_mut_ptr(),
+            kept.len(),
+            given,
+            list.as_ptr(),
+            list.len(),
+        )
+    }
+}
+
+pub fn sotjarn_least_output(plan: &[u32]) -> WrittenNumbers {
+    // Sound: the address and the length are a slice's, and nothing is written (see the module).
+    unsafe { foreign::sotjarn_least_output(plan.as_ptr(), plan.len()) }
+}

@@ -1,0 +1,97 @@
+// Comparisons of two terms.
+use conditions::Truth;
+use conditions::Value;
+use conditions::negation;
+use conditions::of_test;
+use plans::COMPARISON_WORDS;
+use words::PlanWord;
+use words::Term;
+use words::value_of;
+ghost use mathlib.Core.Path.{_≡_};
+ghost use lib.Dec.{ltb, leb};
+ghost use Rattle.conditions.specs.Truth.{kindsAre, equality, inequality, comparison};
+ghost use Rattle.conditions.specs.Values.{haveOrder, areMixed, comparisonAt};
+
+// Whether two terms are of two kinds, in that order.
+fn kinds_are(j: u32, k: u32, a: u32, b: u32) -> bool
+    ensures { λ r. ⌜ r ≡ kindsAre j k a b ⌝ }
+{
+    Term(a).kind() == j && Term(b).kind() == k
+}
+
+// Whether two terms are two numbers or two texts.
+fn have_order(a: u32, b: u32) -> bool
+    ensures { λ r. ⌜ r ≡ haveOrder a b ⌝ }
+{
+    kinds_are(Term::NUMBER, Term::NUMBER, a, b) || kinds_are(Term::TEXT, Term::TEXT, a, b)
+}
+
+// Whether two terms are a number and a text.
+fn are_mixed(a: u32, b: u32) -> bool
+    ensures { λ r. ⌜ r ≡ areMixed a b ⌝ }
+{
+    kinds_are(Term::NUMBER, Term::TEXT, a, b) || kinds_are(Term::TEXT, Term::NUMBER, a, b)
+}
+
+fn equality(a: u32, b: u32) -> Truth
+    ensures { λ r. ⌜ r ≡ equality a b ⌝ }
+{
+    if a == b {
+        return Truth::True;
+    }
+    if are_mixed(a, b) {
+        return Truth::Error;
+    }
+    Truth::False
+}
+
+// Of two terms of one kind, the words are in the order of the values.
+fn less(a: u32, b: u32) -> Truth
+    ensures { λ r. ⌜ r ≡ inequality ltb a b ⌝ }
+{
+    if have_order(a, b) {
+        return of_test(a < b);
+    }
+    Truth::Error
+}
+
+fn at_most(a: u32, b: u32) -> Truth
+    ensures { λ r. ⌜ r ≡ inequality leb a b ⌝ }
+{
+    if have_order(a, b) {
+        return of_test(a <= b);
+    }
+    Truth::Error
+}
+
+// The comparison with a number, of two values.
+fn compare(operator: u32, a: u32, b: u32) -> Truth
+    ensures { λ r. ⌜ r ≡ comparison operator a b ⌝ }
+{
+    match operator {
+        PlanWord::EQUAL => equality(a, b),
+        PlanWord::UNEQUAL => negation(equality(a, b)),
+        PlanWord::LESS => less(a, b),
+        PlanWord::AT_MOST => at_most(a, b),
+        PlanWord::GREATER => less(b, a),
+        PlanWord::AT_LEAST => at_most(b, a),
+        _ => Truth::Error,
+    }
+}
+
+// The value of the comparison at the start of p.
+pub fn compared(p: &[u32], bound: &[u32; 16]) -> Value
+    ensures { λ r. ⌜ r ≡ comparisonAt (now (bound .entry)) (now (p .entry)) ⌝ }
+{
+    if p.len() < COMPARISON_WORDS {
+        return Value::Unread;
+    }
+    Value::Is {
+        truth: compare(
+            PlanWord(p[0]).low(),
+            value_of(p[1], bound),
+            value_of(p[2], bound),
+        ),
+        words: COMPARISON_WORDS,
+    }
+}

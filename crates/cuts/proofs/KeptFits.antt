@@ -1,0 +1,101 @@
+-- In every history no total of the lists taken passes 2^64 - 1: a list with which one would is refused by 13, and so not taken.
+use Prim.Native.Nat.{ℕ}
+use mathlib.Core.Path.{_≡_, refl, sym, _∙_, ap}
+use mathlib.Core.Bool.{true}
+use mathlib.Core.List.{List, [], _∷_, _++_}
+use Rattle.words.specs.declared.Written.{Written}
+use Rattle.words.specs.declared.Written.the-variants.{Words, Refused}
+use Rattle.words.specs.Sequences.{all, iterate}
+use Rattle.tables.specs.Tables.{Tables}
+use Rattle.plans.specs.Endings.{Ending, rows, top, group}
+use Rattle.plans.specs.Plans.{Plan, planOf}
+use Rattle.steps.specs.Steps.{Run, after}
+use Rattle.lists.specs.Groups.{addAllBy}
+use Rattle.turns.specs.declared.TurnEnding.{TurnEnding}
+use Rattle.turns.specs.declared.TurnEnding.the-variants as ending
+use Rattle.turns.specs.Opening.{openOf, Opens}
+use Rattle.turns.specs.Turns.{TurnResult, turnOf}
+use Rattle.merges.specs.Merging.{mergeOf}
+use Rattle.cuts.specs.Histories.{Event, turns, merges, joins, Phone, ServedTurn, stepsIn, turnInputOf, mergeInputOf}
+use Rattle.cuts.specs.Histories.{afterTurn, afterMerge, afterMerging, afterJoin, afterJoining, happens, history, fresh}
+use Rattle.cuts.specs.Premises.{Premises}
+use Rattle.cuts.specs.Uncut.{runFits}
+use Rattle.cuts.specs.Accepting.{Accepted}
+use Rattle.cuts.proofs.Accepting.{opening-accepts}
+use Rattle.cuts.proofs.Chains.{steps-more}
+use Rattle.cuts.proofs.Turning.{Kept}
+use Rattle.cuts.proofs.AnyCut.{history-keeps, fresh-keeps}
+use Rattle.cuts.proofs.MergeRefusals.{merge-fits}
+
+-- no row, no total
+nothing-fits : (e : Ending) (r : Run) → r .delivered ≡ [] → runFits e r ≡ true
+unfolding all addAllBy
+nothing-fits (rows vs) r d = refl
+nothing-fits (top k vs keys) r d = refl
+nothing-fits (group vs m) r d = rw d
+
+module _ (t : Tables) (plan : List ℕ) (a : Accepted t plan) where
+  abbrev q : Plan
+  q = planOf plan
+
+  abbrev TakenFits : Phone → Type 0
+  TakenFits h = runFits (q .ending) (after t q (stepsIn (h .taken))) ≡ true
+
+  module _ (h : Phone) (k : Kept t q h) (f : TakenFits h) where
+    turn-fits : (quantum : ℕ) (r : TurnResult) (e : TurnEnding) → TakenFits (afterTurn h quantum r e)
+    turn-fits quantum r ending.Done = f
+    turn-fits quantum r ending.Spent = f
+    turn-fits quantum r ending.Full = f
+    turn-fits quantum r (ending.Refused x) = f
+
+    module _ (x : ServedTurn) (rest : List ServedTurn) (waits : h .waiting ≡ x ∷ rest) where
+      -- the lists of a row query have no totals; any other that is taken passed 13
+      taken-fits : (behind : List ℕ) (words : ℕ) → mergeOf (mergeInputOf plan h behind x) .answer ≡ Words words
+          → (e : Ending) → q .ending ≡ e → runFits (q .ending) (after t q (stepsIn (h .taken ++ (x ∷ [])))) ≡ true
+      taken-fits behind words s (rows vs) p = rw p
+      taken-fits behind words s (top n vs keys) p = rw p
+      taken-fits behind words s (group vs m) p =
+          ap (λ n. runFits (q .ending) (after t q n)) (steps-more (h .taken) x)
+          ∙ merge-fits t plan a h k (rw p tt) x rest waits behind words s
+
+      merge-fits-on : (behind : List ℕ) (w : Written) → mergeOf (mergeInputOf plan h behind x) .answer ≡ w
+          → TakenFits (afterMerge h x rest (mergeOf (mergeInputOf plan h behind x)) w)
+      merge-fits-on behind (Words n) s = taken-fits behind n s (q .ending) refl
+      merge-fits-on behind (Refused n) s = f
+
+      join-fits : (e : Ending) → q .ending ≡ e → TakenFits (afterJoin e h x rest)
+      join-fits (rows vs) p = rw p
+      join-fits (top n vs keys) p = f
+      join-fits (group vs m) p = f
+
+    merging-fits : (behind : List ℕ) (waiting : List ServedTurn) → h .waiting ≡ waiting → TakenFits (afterMerging plan h behind waiting)
+    merging-fits behind [] e = f
+    merging-fits behind (x ∷ rest) e = merge-fits-on x rest e behind (mergeOf (mergeInputOf plan h behind x) .answer) refl
+
+    joining-fits : (waiting : List ServedTurn) → h .waiting ≡ waiting → TakenFits (afterJoining plan h waiting)
+    joining-fits [] e = f
+    joining-fits (x ∷ rest) e = join-fits x rest e (q .ending) refl
+
+    event-fits : (e : Event) → TakenFits (happens t plan h e)
+    unfolding happens
+    event-fits (turns behind quantum threshold output) =
+        turn-fits quantum (turnOf (turnInputOf t plan h behind quantum threshold output))
+        (turnOf (turnInputOf t plan h behind quantum threshold output) .answer .ending)
+    event-fits (merges behind) = merging-fits behind (h .waiting) refl
+    event-fits joins = joining-fits (h .waiting) refl
+
+  history-fits : (es : List Event) (h : Phone) → Kept t q h → TakenFits h → Premises t plan h es → TakenFits (history t plan h es)
+  unfolding history
+  history-fits [] h k f p = f
+  history-fits (e ∷ es) h k f p =
+      history-fits es (happens t plan h e) (history-keeps t plan a (e ∷ []) h k (p .0, tt)) (event-fits h k f e) (p .1)
+
+-- from a fresh opening
+pub kept-fits : (t : Tables) (plan state : List ℕ) → Opens t plan state → (es : List Event)
+    → Premises t plan (fresh (openOf t plan state)) es
+    → runFits (planOf plan .ending) (after t (planOf plan) (stepsIn (history t plan (fresh (openOf t plan state)) es .taken))) ≡ true
+unfolding stepsIn after iterate
+kept-fits t plan state o es p =
+    let a = opening-accepts t plan state o in
+    history-fits t plan a es (fresh (openOf t plan state)) (fresh-keeps t plan a state o)
+    (nothing-fits (planOf plan .ending) (after t (planOf plan) 0) refl) p

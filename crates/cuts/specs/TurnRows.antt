@@ -1,0 +1,28 @@
+-- The rows that the turns of a history delivered, joined in order. Assumes nothing: these are definitions.
+use Prim.Native.Nat.{ℕ}
+use mathlib.Core.List.{List, [], _∷_, _++_}
+use Rattle.words.specs.Bindings.{Bindings}
+use Rattle.tables.specs.Tables.{Tables}
+use Rattle.turns.specs.declared.TurnEnding.{TurnEnding}
+use Rattle.turns.specs.declared.TurnEnding.the-variants as ending
+use Rattle.turns.specs.Turns.{TurnInput, turnOf, served, rowsOf}
+use Rattle.cuts.specs.Histories.{Event, turns, merges, joins, Phone, turnInputOf, happens}
+
+-- by what a turn answered: the rows that its own steps delivered, of which its list is made; none of a refused one
+abbrev pub deliveredInTurn : TurnInput → TurnEnding → List Bindings
+deliveredInTurn i ending.Done = rowsOf (served i)
+deliveredInTurn i ending.Spent = rowsOf (served i)
+deliveredInTurn i ending.Full = rowsOf (served i)
+deliveredInTurn i (ending.Refused x) = []
+
+-- merges and joins deliver nothing
+abbrev pub deliveredInEvent : Tables → List ℕ → Phone → Event → List Bindings
+deliveredInEvent t plan h (turns behind quantum threshold output) =
+    deliveredInTurn (turnInputOf t plan h behind quantum threshold output)
+    (turnOf (turnInputOf t plan h behind quantum threshold output) .answer .ending)
+deliveredInEvent t plan h (merges behind) = []
+deliveredInEvent t plan h joins = []
+
+unfoldable pub deliveredIn : Tables → List ℕ → Phone → List Event → List Bindings
+deliveredIn t plan h [] = []
+deliveredIn t plan h (e ∷ es) = deliveredInEvent t plan h e ++ deliveredIn t plan (happens t plan h e) es

@@ -1,0 +1,4 @@
+pub mod Receiving
+pub mod Least
+pub mod ByKind
+pub mod OutputRefusals

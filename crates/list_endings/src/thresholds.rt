@@ -1,0 +1,19 @@
+// A threshold, by the ending of a plan.
+use plans::Last;
+ghost use mathlib.Core.Path.{_≡_};
+ghost use mathlib.Core.Bool.{true};
+ghost use Rattle.plans.specs.Endings.{endingForm, endingAt};
+ghost use Rattle.lists.specs.Gathering.{thresholdRight};
+
+// Test 11: a threshold is empty, or one row for a best-of ending.
+pub fn threshold_right(ending: &[u32], threshold: &[u32]) -> bool
+    requires { ⌜ endingForm (now ending) ≡ true ⌝ }
+    ensures { λ r. ⌜ r ≡ thresholdRight (endingAt (now (ending .entry))) (now (threshold .entry)) ⌝ }
+{
+    match plans::ending_kind(ending) {
+        Last::Top => list_best_tests::best_threshold(plans::variables(ending), threshold),
+        Last::Rows => lists::no_threshold(threshold),
+        Last::Group => lists::no_threshold(threshold),
+        Last::Neither => false,
+    }
+}

@@ -1,0 +1,246 @@
+-- `ending_form` meets its contract: each arm is the form of what the first word begins.
+use borrow.Author.Needs.{needs}
+use Prim.Native.Nat.{ℕ, _-_}
+use mathlib.Core.Path.{_≡_, sym, ap, _∙_}
+use native.Mathlib.Omega.{arith}
+use lib.ListN.{length, take, drop}
+use borrow.Author.Tests.{eq-eqb, ne-eqb}
+use Rattle.plans.specs.Endings.{lastOf}
+use Rattle.plans.proofs.EndingForms.{form-neither, form-rows, form-top, form-group, rows-room, rows-after, some-word}
+use Rattle.plan_ending_forms.proofs.endings.ending_form.Statement.{statement}
+use Rattle.plan_ending_forms.proofs.endings.ending_form.Tie as tie
+
+first-requires : tie.Need-first-requires
+first-requires c κs = search needs
+
+last-of-requires : tie.Need-last-of-requires
+last-of-requires c κs = search needs
+
+enum-told : tie.Need-enum-told
+enum-told c = search needs
+
+rows-form-requires : tie.Need-rows-form-requires
+rows-form-requires c κs = search needs
+
+row-width-requires : tie.Need-row-width-requires
+row-width-requires c κs = search needs
+
+add-result : tie.Need-add-result
+add-result c = omega arith
+
+returns : tie.Need-returns
+returns c =
+    let p = c .before .before .before .before .before .before .before .before .args .p .now in
+    let t = c .before .before .before .before .before .last-of in
+    let first = c .before .before .before .before .before .before .first in
+    let enum-told = c .before .before .before .enum-told in
+    let rows-form = c .before .before .rows-form in
+    rw (
+      form-rows p (t .result) (t .ensures ∙ ap lastOf (first .ensures)) (enum-told .given .1),
+      ← rows-form .ensures,
+      c .before .if1 .taken,
+      ← c .row-width .ensures .0,
+    )
+
+enum-told-2 : tie.Need-enum-told-2
+enum-told-2 c = search needs
+
+sub-rest : tie.Need-sub-rest
+sub-rest c =
+    let p = c .before .before .before .before .before .args .p .now in
+    let t = c .before .before .last-of in
+    let first = c .before .before .before .first in
+    omega (
+      arith,
+      some-word p (t .result) (t .ensures ∙ ap lastOf (first .ensures))
+          (λ e. let z : _≡_ {A = ℕ} 0 1 = cc (c .enum-told2 .given .1) in omega arith),
+    )
+
+part-rest-start : tie.Need-part-rest-start
+part-rest-start c =
+    let p = c .before .before .before .before .before .args .p .now in
+    let t = c .before .before .last-of in
+    let first = c .before .before .before .first in
+    omega (
+      arith,
+      some-word p (t .result) (t .ensures ∙ ap lastOf (first .ensures))
+          (λ e. let z : _≡_ {A = ℕ} 0 1 = cc (c .enum-told2 .given .1) in omega arith),
+    )
+
+part-rest-end : tie.Need-part-rest-end
+part-rest-end c = omega arith
+
+rows-form-requires-2 : tie.Need-rows-form-requires-2
+rows-form-requires-2 c κs = search needs
+
+row-width-requires-2 : tie.Need-row-width-requires-2
+row-width-requires-2 c κs = search needs
+
+add-at : tie.Need-add-at
+add-at c = omega arith
+
+mul-keys-form : tie.Need-mul-keys-form
+mul-keys-form c = omega arith
+
+sub-keys-form : tie.Need-sub-keys-form
+sub-keys-form c =
+    let p = c .before .before .before .before .before .before .before .before .before .args .p .now in
+    let n = c .row-width2 in
+    let rows-form2 = c .before .before .rows-form2 in
+    omega (arith, rows-room (take (length p - 1) (drop 1 p)) (n .result) (n .ensures .0) (sym (rows-form2 .ensures) ∙ c .before .if2 .taken))
+
+part-keys-form-start : tie.Need-part-keys-form-start
+part-keys-form-start c =
+    let p = c .before .before .before .before .before .before .before .before .before .args .p .now in
+    let n = c .row-width2 in
+    let rows-form2 = c .before .before .rows-form2 in
+    omega (arith, rows-room (take (length p - 1) (drop 1 p)) (n .result) (n .ensures .0) (sym (rows-form2 .ensures) ∙ c .before .if2 .taken))
+
+part-keys-form-end : tie.Need-part-keys-form-end
+part-keys-form-end c = omega arith
+
+keys-form-requires : tie.Need-keys-form-requires
+keys-form-requires c κs = search needs
+
+returns-2 : tie.Need-returns-2
+returns-2 c =
+    let p = c .before .before .before .before .before .before .before .before .before .before .before .args .p .now in
+    let t = c .before .before .before .before .before .before .before .before .last-of in
+    let n = c .before .before .row-width2 in
+    let first = c .before .before .before .before .before .before .before .before .before .first in
+    let enum-told2 = c .before .before .before .before .before .before .enum-told2 in
+    let rows-form2 = c .before .before .before .before .rows-form2 in
+    let if2 = c .before .before .before .if2 in
+    rw (
+      form-top p (t .result) (t .ensures ∙ ap lastOf (first .ensures)) (enum-told2 .given .1),
+      ← rows-form2 .ensures,
+      if2 .taken,
+      ← rows-after (take (length p - 1) (drop 1 p)) (n .result) (n .ensures .0),
+    ) (c .keys-form .ensures)
+
+enum-told-3 : tie.Need-enum-told-3
+enum-told-3 c = search needs
+
+first-requires-2 : tie.Need-first-requires-2
+first-requires-2 c κs = search needs
+
+low-requires : tie.Need-low-requires
+low-requires c κs = search needs
+
+wide-requires : tie.Need-wide-requires
+wide-requires c κs = search needs
+
+add-if3 : tie.Need-add-if3
+add-if3 c = omega arith
+
+sub-all-wanted : tie.Need-sub-all-wanted
+sub-all-wanted c = omega arith
+
+part-all-wanted-start : tie.Need-part-all-wanted-start
+part-all-wanted-start c = omega arith
+
+part-all-wanted-end : tie.Need-part-all-wanted-end
+part-all-wanted-end c = omega arith
+
+all-wanted-requires : tie.Need-all-wanted-requires
+all-wanted-requires c κs = search needs
+
+returns-3 : tie.Need-returns-3
+returns-3 c =
+    let p = c .before .before .before .before .before .before .before .before .before .before .before .args .p .now in
+    let t = c .before .before .before .before .before .before .before .before .last-of in
+    let first = c .before .before .before .before .before .before .before .before .before .first in
+    let enum-told3 = c .before .before .before .before .before .before .enum-told3 in
+    let first2 = c .before .before .before .before .before .first2 in
+    let low = c .before .before .before .before .low in
+    let wide = c .before .before .before .wide in
+    let if3 = c .before .before .if3 in
+    rw (
+      form-group p (t .result) (t .ensures ∙ ap lastOf (first .ensures)) (enum-told3 .given .1),
+      ← first2 .ensures,
+      ← low .ensures,
+      ← wide .ensures,
+      eq-eqb _ _ (if3 .taken),
+    ) (c .all-wanted .ensures)
+
+enum-told-4 : tie.Need-enum-told-4
+enum-told-4 c = search needs
+
+returns-4 : tie.Need-returns-4
+returns-4 c =
+    let p = c .before .before .before .before .before .before .before .args .p .now in
+    let t = c .before .before .before .before .last-of in
+    let first = c .before .before .before .before .before .first in
+    let enum-told = c .before .before .enum-told in
+    rw (form-rows p (t .result) (t .ensures ∙ ap lastOf (first .ensures)) (enum-told .given .1), ← c .before .rows-form .ensures, c .if1 .left)
+
+returns-5 : tie.Need-returns-5
+returns-5 c =
+    let p = c .before .before .before .before .before .before .before .before .args .p .now in
+    let t = c .before .before .before .before .before .last-of in
+    let first = c .before .before .before .before .before .before .first in
+    let enum-told2 = c .before .before .before .enum-told2 in
+    rw (form-top p (t .result) (t .ensures ∙ ap lastOf (first .ensures)) (enum-told2 .given .1), ← c .before .rows-form2 .ensures, c .if2 .left)
+
+returns-6 : tie.Need-returns-6
+returns-6 c =
+    let p = c .before .before .before .before .before .before .before .before .before .args .p .now in
+    let t = c .before .before .before .before .before .before .last-of in
+    let first = c .before .before .before .before .before .before .before .first in
+    let enum-told3 = c .before .before .before .before .enum-told3 in
+    let first2 = c .before .before .before .first2 in
+    let low = c .before .before .low in
+    rw (
+      form-group p (t .result) (t .ensures ∙ ap lastOf (first .ensures)) (enum-told3 .given .1),
+      ← first2 .ensures,
+      ← low .ensures,
+      ← c .before .wide .ensures,
+      ne-eqb _ _ (c .if3 .left),
+    )
+
+returns-7 : tie.Need-returns-7
+returns-7 c =
+    let t = c .before .before .last-of in
+    let args = c .before .before .before .before .before .args in
+    let first = c .before .before .before .first in
+    sym (form-neither (args .p .now) (t .result) (t .ensures ∙ ap lastOf (first .ensures)) (c .enum-told4 .given .1))
+
+pub ending-form-spec : {M : Type 1} → statement M
+ending-form-spec =
+    tie.close
+    (tie.spec
+    first-requires
+    last-of-requires
+    enum-told
+    rows-form-requires
+    row-width-requires
+    add-result
+    returns
+    enum-told-2
+    sub-rest
+    part-rest-start
+    part-rest-end
+    rows-form-requires-2
+    row-width-requires-2
+    add-at
+    mul-keys-form
+    sub-keys-form
+    part-keys-form-start
+    part-keys-form-end
+    keys-form-requires
+    returns-2
+    enum-told-3
+    first-requires-2
+    low-requires
+    wide-requires
+    add-if3
+    sub-all-wanted
+    part-all-wanted-start
+    part-all-wanted-end
+    all-wanted-requires
+    returns-3
+    enum-told-4
+    returns-4
+    returns-5
+    returns-6
+    returns-7)

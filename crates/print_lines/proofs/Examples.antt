@@ -1,0 +1,33 @@
+-- Lines of the rules (docs/RULES.md, 12), byte by byte.
+use mathlib.Core.Path.{_≡_, refl}
+use mathlib.Core.List.{[], _∷_, flatten}
+use Rattle.words.specs.Words.{name, number, text, unbound}
+use Rattle.turns.specs.declared.TurnEnding.the-variants.{Spent}
+use Rattle.print_lines.specs.Lines.{rowLine, groupLine, turnLine, listLine}
+use Rattle.print_lines.specs.Computing.{computing}
+
+-- row n2 i310 t0 -
+row-example : rowLine (name 2 ∷ number 310 ∷ text 0 ∷ unbound ∷ [])
+    ≡ 114 ∷ 111 ∷ 119 ∷ 32 ∷ 110 ∷ 50 ∷ 32 ∷ 105 ∷ 51 ∷ 49 ∷ 48 ∷ 32 ∷ 116 ∷ 48 ∷ 32 ∷ 45 ∷ 10 ∷ []
+unfolding computing flatten
+row-example = refl
+
+-- group 3 3 665 i45 i310
+group-example : groupLine (record { keys = []; rows = 3; numbers = 3; sum = 665; least = number 45; greatest = number 310 })
+    ≡ 103 ∷ 114 ∷ 111 ∷ 117 ∷ 112 ∷ 32 ∷ 51 ∷ 32 ∷ 51 ∷ 32 ∷ 54 ∷ 54 ∷ 53 ∷ 32 ∷ 105 ∷ 52 ∷ 53 ∷ 32 ∷ 105 ∷ 51 ∷ 49
+    ∷ 48 ∷ 10 ∷ []
+unfolding computing flatten
+group-example = refl
+
+-- turn 1 steps 4 spent
+turn-example : turnLine 1 4 Spent
+    ≡ 116 ∷ 117 ∷ 114 ∷ 110 ∷ 32 ∷ 49 ∷ 32 ∷ 115 ∷ 116 ∷ 101 ∷ 112 ∷ 115 ∷ 32 ∷ 52 ∷ 32 ∷ 115 ∷ 112 ∷ 101 ∷ 110 ∷
+    116 ∷ 10 ∷ []
+unfolding computing flatten
+turn-example = refl
+
+-- list 0 4294967295
+list-example : listLine (0 ∷ 4294967295 ∷ [])
+    ≡ 108 ∷ 105 ∷ 115 ∷ 116 ∷ 32 ∷ 48 ∷ 32 ∷ 52 ∷ 50 ∷ 57 ∷ 52 ∷ 57 ∷ 54 ∷ 55 ∷ 50 ∷ 57 ∷ 53 ∷ 10 ∷ []
+unfolding computing flatten
+list-example = refl

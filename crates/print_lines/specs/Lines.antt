@@ -1,0 +1,53 @@
+-- The lines of the turn printer: a row, a group, any other list, a turn, a refusal; and how long a line is at most. Assumes nothing:
+-- these are definitions.
+use Prim.Native.Nat.{ℕ, _+_}
+use mathlib.Core.List.{List, [], _∷_, _++_}
+use Rattle.lists.specs.Groups.{Group, pairAt}
+use Rattle.turns.specs.declared.TurnEnding.{TurnEnding}
+use Rattle.turns.specs.declared.TurnEnding.the-variants.{Done, Spent, Full, Refused}
+use Rattle.print_texts.specs.Texts.{Text, newline, numberField, termFields, numberFields, rowWord, groupWord, listWord, turnWord, stepsWord}
+use Rattle.print_texts.specs.Texts.{doneWord, spentWord, fullWord, refusedWord}
+
+-- a row: its terms
+unfoldable pub rowLine : List ℕ → Text
+rowLine ws = rowWord ++ (termFields ws ++ (newline ∷ []))
+
+-- rows, numbers and sum as the words of a record with n keys have them
+abbrev pub totalsIn : ℕ → List ℕ → List ℕ
+totalsIn n ws = pairAt ws n ∷ pairAt ws (n + 2) ∷ pairAt ws (n + 4) ∷ []
+
+-- the fields of a record: keys, rows, numbers, sum, least, greatest
+unfoldable pub groupFields : Group → Text
+groupFields g =
+    termFields (g .keys) ++ numberFields (g .rows ∷ g .numbers ∷ g .sum ∷ []) ++ termFields (g .least ∷ g .greatest ∷ [])
+
+unfoldable pub groupLine : Group → Text
+groupLine g = groupWord ++ (groupFields g ++ (newline ∷ []))
+
+-- any other list: its words in decimal
+unfoldable pub listLine : List ℕ → Text
+listLine ws = listWord ++ (numberFields ws ++ (newline ∷ []))
+
+-- a refusal: its number
+unfoldable pub refusedLine : ℕ → Text
+refusedLine x = refusedWord ++ (numberField x ++ (newline ∷ []))
+
+-- a turn: its number, its steps, its ending
+abbrev pub servedLine : ℕ → ℕ → Text → Text
+servedLine n steps ending = (turnWord ++ numberField n) ++ (stepsWord ++ numberField steps) ++ ending
+
+unfoldable pub turnLine : ℕ → ℕ → TurnEnding → Text
+turnLine n steps Done = servedLine n steps doneWord
+turnLine n steps Spent = servedLine n steps spentWord
+turnLine n steps Full = servedLine n steps fullWord
+turnLine n steps (Refused x) = refusedLine x
+
+-- ---- bytes that hold any line of a kind: a row of 16 terms, a record of 4 keys, a turn
+abbrev pub rowLineRoom : ℕ
+rowLineRoom = 256
+
+abbrev pub groupLineRoom : ℕ
+groupLineRoom = 192
+
+abbrev pub turnLineRoom : ℕ
+turnLineRoom = 64

@@ -1,0 +1,17 @@
+-- The plan of an opening that is served has the form, and its query opens.
+use Prim.Native.Nat.{ℕ}
+use mathlib.Core.Path.{_≡_, ap}
+use mathlib.Core.Bool.{true}
+use mathlib.Core.List.{List}
+use Rattle.tables.specs.Tables.{Tables}
+use Rattle.plans.specs.Plans.{readPlan, hasForm}
+use Rattle.queries.specs.Playing.{Started}
+use Rattle.queries.proofs.Starting.{start-accepts}
+use Rattle.print_rounds.specs.Shown.{CanOpen}
+
+module _ (t : Tables) (plan state : List ℕ) (saved : ℕ) (s : Started t plan state saved) where
+  pub started-form : hasForm (readPlan plan) ≡ true
+  started-form = ap hasForm (start-accepts t plan state saved s .read)
+
+  pub started-opens : CanOpen t plan
+  started-opens = (s .lent, s .opens)

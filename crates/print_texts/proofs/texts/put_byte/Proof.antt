@@ -1,0 +1,21 @@
+-- `put_byte` meets its contract.
+use borrow.Author.Needs.{needs}
+use mathlib.Core.Path.{refl}
+use Rattle.print_texts.proofs.Placements.{placed-byte}
+use Rattle.print_texts.proofs.texts.put_byte.Statement.{statement}
+use Rattle.print_texts.proofs.texts.put_byte.Tie as tie
+
+slice-write-line : tie.Need-slice-write-line
+slice-write-line c = search needs
+
+add-result : tie.Need-add-result
+add-result c = search needs
+
+same-length : tie.Need-same-length
+same-length c = search needs
+
+returns : tie.Need-returns
+returns c = (refl, placed-byte (c .args .byte) (c .args .at) (c .args .line .now) (c .pre))
+
+pub put-byte-spec : {M : Type 1} → statement M
+put-byte-spec = tie.close (tie.spec slice-write-line add-result same-length returns)

@@ -1,0 +1,14 @@
+-- A text put over a line that is lent, from a place on. Assumes nothing: these are definitions.
+use Prim.Native.Nat.{ℕ, _+_}
+use mathlib.Core.Path.{_≡_}
+use mathlib.Core.List.{List, _++_}
+use lib.ListN.{length, take, drop}
+use Rattle.print_texts.specs.Texts.{Text}
+
+-- the line with a text over its bytes from a place on
+abbrev pub placed : Text → ℕ → List ℕ → List ℕ
+placed text at line = take at line ++ text ++ drop (at + length text) line
+
+-- of a line before and after, and the place answered: the text stands there, and the place is the one after it
+abbrev pub Placed : Text → ℕ → List ℕ → List ℕ → ℕ → Type 0
+Placed text at before after end = (end ≡ at + length text) × (after ≡ placed text at before)

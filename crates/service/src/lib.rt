@@ -1,6 +1,0 @@
-// What the service runs: opening a query, and one turn of it.
-mod opening;
-mod turning;
-
-pub use opening::open;
-pub use turning::turn;

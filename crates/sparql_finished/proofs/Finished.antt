@@ -1,0 +1,58 @@
+-- Demands 2 and 3 together: a query that is finished, done answered and every list taken, has SPARQL's rows, best-of list or groups
+-- of its tables and its plan, whatever the turns, merges and joins were.
+use Prim.Native.Nat.{ℕ}
+use mathlib.Core.Path.{_≡_, sym, _∙_, ap, subst}
+use mathlib.Core.Bool.{true}
+use mathlib.Core.List.{List, [], _++_, map, append-nil}
+use Rattle.words.specs.Sequences.{all}
+use Rattle.tables.specs.Tables.{Tables}
+use Rattle.plans.specs.Endings.{Ending, group}
+use Rattle.plans.specs.Plans.{planOf}
+use Rattle.steps.specs.Steps.{after}
+use Rattle.turns.specs.Opening.{openOf, Opens}
+use Rattle.cuts.specs.Histories.{Event, Phone, servedIn, stepsIn, doneIn, history, fresh}
+use Rattle.cuts.specs.Premises.{Premises}
+use Rattle.cuts.specs.TurnRows.{deliveredIn}
+use Rattle.cuts.specs.Uncut.{EndsAt, runFits, runList}
+use Rattle.cuts.specs.Accepting.{Accepted}
+use Rattle.cuts.proofs.Accepting.{opening-accepts}
+use Rattle.cuts.proofs.AnyCut.{any-cut}
+use Rattle.cuts.proofs.TurnRows.{rows-are-uncut}
+use Rattle.cuts.proofs.KeptFits.{kept-fits}
+use Rattle.sparql.specs.Algebra.{ToList}
+use Rattle.sparql.specs.Reading.{mappingOf, solutionsOf, isWord}
+use Rattle.sparql.specs.Answers.{Answer}
+use Rattle.sparql.proofs.Solutions.{solutions}
+use Rattle.sparql.proofs.Answered.{answered, answered-words}
+use Rattle.sparql_finished.specs.Finished.{SparqlAnswer, FinishedBy}
+
+-- the list of the whole uncut run, with totals that fit
+pub run-answers : (t : Tables) (plan : List ℕ) → Accepted t plan → (steps : ℕ) → EndsAt t (planOf plan) steps
+    → runFits (planOf plan .ending) (after t (planOf plan) steps) ≡ true
+    → (list : List ℕ) → list ≡ runList (planOf plan .ending) (after t (planOf plan) steps) → SparqlAnswer t plan steps list
+run-answers t plan a steps ends fits list e =
+    record {
+      ends = ends;
+      run = solutions t plan (planOf plan) (a .tables) (a .read) (a .variables) steps (ends .over);
+      answer =
+          subst (Answer t (planOf plan) (after t (planOf plan) steps .delivered) (planOf plan .ending)) (sym e)
+          (answered t plan (planOf plan) (a .tables) (a .read) (a .variables) steps (ends .over));
+      words =
+          ap (all isWord) e
+          ∙ answered-words t plan (planOf plan) (a .tables) (a .read) (a .variables) steps (ends .over)
+          (λ vs m p. subst (λ d. runFits d (after t (planOf plan) steps) ≡ true) p fits);
+    }
+
+-- for every opening that is served and every list of events, refused ones included, under demand 3's premises
+pub finished : (t : Tables) (plan state : List ℕ) → Opens t plan state → (es : List Event)
+    → Premises t plan (fresh (openOf t plan state)) es
+    → doneIn (servedIn (history t plan (fresh (openOf t plan state)) es)) ≡ true
+    → history t plan (fresh (openOf t plan state)) es .waiting ≡ []
+    → FinishedBy t plan (deliveredIn t plan (fresh (openOf t plan state)) es) (history t plan (fresh (openOf t plan state)) es)
+finished t plan state o es p done taken =
+    let h = history t plan (fresh (openOf t plan state)) es in
+    let f = any-cut t plan state o es p .finished done taken in
+    let all-taken : servedIn h ≡ h .taken = ap (λ l. h .taken ++ l) taken ∙ append-nil (h .taken) in
+    let rows = rows-are-uncut t plan state o es p ∙ ap (λ l. after t (planOf plan) (stepsIn l) .delivered) all-taken in
+    let k = run-answers t plan (opening-accepts t plan state o) (stepsIn (h .taken)) (f .0) (kept-fits t plan state o es p) (h .kept) (f .1) in
+    record { delivered = subst (λ bs. ToList (solutionsOf t (planOf plan)) (map mappingOf bs)) (sym rows) (k .run); kept = k }

@@ -1,0 +1,39 @@
+-- Demands 2 and 3 of the calls themselves: a play that answers finished leaves SPARQL's rows, best-of list or groups of its tables and
+-- its plan in the kept buffer, whatever the quantum, the output and the number of turns.
+use Prim.Native.Nat.{ℕ}
+use mathlib.Core.Path.{_≡_, sym, _∙_, ap, ap₂, subst}
+use mathlib.Core.List.{List}
+use lib.ListN.{take, drop}
+use Rattle.words.proofs.Buffers.{take-over, drop-over}
+use Rattle.tables.specs.Tables.{Tables}
+use Rattle.cuts.proofs.Accepting.{opening-accepts}
+use Rattle.queries.specs.declared.Keeping.the-variants.{All}
+use Rattle.queries.specs.declared.Played.the-variants as played
+use Rattle.queries.specs.Rounds.{Lent, playOf}
+use Rattle.queries.specs.Playing.{listAfter, Plays}
+use Rattle.queries.proofs.Plays.{plays}
+use Rattle.sparql_finished.specs.Finished.{PlayedOut}
+use Rattle.sparql_finished.proofs.Finished.{run-answers}
+
+by-plays : (t : Tables) (plan : List ℕ) (quantum most : ℕ) (before left : Lent) (words : ℕ)
+    → Plays All t plan quantum most before left (played.Finished words) → PlayedOut t plan (before .kept) (left .kept) words
+by-plays t plan quantum most before left words p =
+    let n = p .1 .steps in
+    let l = p .1 .list in
+    record {
+      steps = n;
+      front =
+          run-answers t plan (opening-accepts t plan (before .state) (p .0)) n (p .1 .ends) (l .fits) (take words (left .kept))
+          (ap₂ take (l .counted) (l .whole) ∙ take-over (listAfter t plan n) (before .kept));
+      rest =
+          ap₂ drop (l .counted) (l .whole)
+          ∙ drop-over (listAfter t plan n) (before .kept)
+          ∙ ap (λ d. drop d (before .kept)) (sym (l .counted));
+    }
+
+pub played-out : (t : Tables) (plan : List ℕ) (quantum most : ℕ) (before : Lent) (words : ℕ)
+    → playOf All t plan quantum most before .answer ≡ played.Finished words
+    → PlayedOut t plan (before .kept) (playOf All t plan quantum most before .held .kept) words
+played-out t plan quantum most before words e =
+    let left = playOf All t plan quantum most before .held in
+    by-plays t plan quantum most before left words (subst (Plays All t plan quantum most before left) e (plays All t plan quantum most before))

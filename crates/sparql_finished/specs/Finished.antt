@@ -1,0 +1,35 @@
+-- What a finished query has, however it was cut, and what a play that answers finished leaves. Assumes nothing: these are definitions.
+use Prim.Native.Nat.{ℕ}
+use mathlib.Core.Path.{_≡_}
+use mathlib.Core.Bool.{true}
+use mathlib.Core.List.{List, map}
+use lib.ListN.{take, drop}
+use Rattle.words.specs.Bindings.{Bindings}
+use Rattle.words.specs.Sequences.{all}
+use Rattle.tables.specs.Tables.{Tables}
+use Rattle.plans.specs.Plans.{planOf}
+use Rattle.steps.specs.Steps.{after}
+use Rattle.cuts.specs.Histories.{Phone, stepsIn}
+use Rattle.cuts.specs.Uncut.{EndsAt}
+use Rattle.sparql.specs.Algebra.{ToList}
+use Rattle.sparql.specs.Reading.{mappingOf, solutionsOf, isWord}
+use Rattle.sparql.specs.Answers.{Answer}
+
+-- the uncut run of so many steps is whole, it has delivered SPARQL's solutions, each as often, and a list is SPARQL's answer, in words of 32 bits
+pub record SparqlAnswer (t : Tables) (plan : List ℕ) (steps : ℕ) (list : List ℕ) : Type 0 where
+  pub ends : EndsAt t (planOf plan) steps
+  pub run : ToList (solutionsOf t (planOf plan)) (map mappingOf (after t (planOf plan) steps .delivered))
+  pub answer : Answer t (planOf plan) (after t (planOf plan) steps .delivered) (planOf plan .ending) list
+  pub words : all isWord list ≡ true
+
+-- a query whose turns delivered some rows, joined in order: these too are SPARQL's solutions, each as often. The turns' steps are the whole run's,
+-- and the kept list is the answer
+pub record FinishedBy (t : Tables) (plan : List ℕ) (rows : List Bindings) (h : Phone) : Type 0 where
+  pub delivered : ToList (solutionsOf t (planOf plan)) (map mappingOf rows)
+  pub kept : SparqlAnswer t plan (stepsIn (h .taken)) (h .kept)
+
+-- the first words of the kept buffer, so many as answered, are the answer, and those past them are as they were
+pub record PlayedOut (t : Tables) (plan before kept : List ℕ) (words : ℕ) : Type 0 where
+  pub steps : ℕ
+  pub front : SparqlAnswer t plan steps (take words kept)
+  pub rest : drop words kept ≡ drop words before

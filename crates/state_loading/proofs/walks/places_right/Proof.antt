@@ -1,0 +1,35 @@
+-- `state_saving::places_right` meets its contract.
+use borrow.Author.Needs.{needs}
+use mathlib.Core.Path.{refl, sym, _∙_}
+use Rattle.words.proofs.Booleans.{absurd-true}
+use Rattle.tables.specs.Tables.{Tables, tablesOf}
+use Rattle.state_saving.proofs.WalkedLevels.{upper-fails, upper-passes}
+use Rattle.state_loading.proofs.walks.places_right.Statement.{statement}
+use Rattle.state_loading.proofs.walks.places_right.Tie as tie
+
+abbrev lent : tie.Start → Tables
+lent s = tablesOf (s .args .rows .now) (s .args .pos .now) (s .args .osp .now)
+
+upper-right-requires : tie.Need-upper-right-requires
+upper-right-requires c κs = search needs
+
+last-right-requires : tie.Need-last-right-requires
+last-right-requires c κs = search needs
+
+returns : tie.Need-returns
+returns c =
+    let u = c .before .before .before .before in
+    let s = u .before .before .before .before .before .before in
+    let passes = c .before .before .before .if1 .taken in
+    let b = u .upper-right .ensures .1 passes in
+    let right = sym (u .upper-right .ensures .0) ∙ passes in
+    (c .last-right .ensures ∙ sym (upper-passes (lent s) (s .args .terms .now) (s .args .c) _ (record { right = right; bound = b })), λ e. b)
+
+returns-2 : tie.Need-returns-2
+returns-2 c =
+    let u = c .before in
+    let s = u .before .before .before .before .before .before in
+    (sym (upper-fails (lent s) (s .args .terms .now) (s .args .c) (sym (u .upper-right .ensures .0) ∙ c .if1 .left)), λ e. absurd-true e refl)
+
+pub places-right-spec : {M : Type 1} → statement M
+places-right-spec = tie.close (tie.spec upper-right-requires last-right-requires returns returns-2)

@@ -1,0 +1,13 @@
+// Saved states read in code: the cursor that a state's words stand for, if they pass tests 9 and 10.
+mod loading;
+mod walks;
+
+pub use loading::load;
+pub use loading::refused;
+use step_cursors::Cursor;
+
+// A state's cursor. `refused` is 0, or the number of the test that the state's words fail.
+pub struct Loaded {
+    pub refused: u32,
+    pub from: Cursor,
+}

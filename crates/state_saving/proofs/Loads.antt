@@ -1,0 +1,144 @@
+-- Loading: what words that pass test 9 have, what the number of the first failing test is, and that the cursor read from
+-- words that pass both tests can go on.
+use Prim.Native.Nat.{ℕ, _+_, _-_, _≤_, _<_}
+use native.Mathlib.Omega.{arith}
+use native.Mathlib.Decide.{decLt}
+use mathlib.Core.Path.{_≡_, sym, _∙_, ap, subst}
+use mathlib.Core.Bool.{Bool, true, false}
+use mathlib.Core.List.{List}
+use lib.Dec.{eqb, ltb, leb}
+use lib.ListN.{length, getD, drop, length-drop, drop-of-length-le}
+use borrow.Author.Tests.{eqb-true, ltb-true, leb-true}
+use Rattle.words.specs.Words.{kind, positionKind, branchOf, depthOf}
+use Rattle.words.specs.Bindings.{Bindings}
+use Rattle.words.specs.Tests.{firstFailing}
+use Rattle.words.proofs.Booleans.{and-left, and-right}
+use Rattle.tables.specs.Tables.{Tables}
+use Rattle.plans.specs.Branches.{mostPatterns, readBranch}
+use Rattle.plans.specs.Plans.{Plan, readPlan, hasForm, planOf, branchAt}
+use Rattle.plans.specs.Reading.{Gives}
+use Rattle.steps.specs.declared.Fields.{Fields}
+use Rattle.steps.specs.Levels.{hasLevel, fieldsFixed, bindings, Inside}
+use Rattle.steps.specs.Steps.{State, stateRight}
+use Rattle.steps.specs.Saved.{positionRight, shapeRight, stateIn, placesRight}
+use Rattle.step_cursors.specs.declared.Cursor.{Cursor}
+use Rattle.step_cursors.specs.Held.{upperOf, stateOf, currentBranch, BeginsAt, Held}
+use Rattle.step_cursors.proofs.Agreement.{agrees-refl}
+use Rattle.step_cursors.proofs.Cursors.{bound-length, level-inside, level-few}
+use Rattle.state_saving.specs.Loading.{Whole, stateRefusal}
+
+-- ---- the number of the first test that fails
+module _ (t : Tables) (q : Plan) (ws : List ℕ) where
+  pub refused-shape : shapeRight q ws ≡ false → stateRefusal t q ws ≡ 9
+  unfolding firstFailing
+  refused-shape h = rw h
+
+  module _ (shape : shapeRight q ws ≡ true) where
+    refused-places : placesRight t q ws ≡ false → stateRefusal t q ws ≡ 10
+    unfolding firstFailing
+    refused-places h = rw (shape, h)
+
+    refused-none : placesRight t q ws ≡ true → stateRefusal t q ws ≡ 0
+    unfolding firstFailing
+    refused-none h = rw (shape, h)
+
+-- ---- words that pass test 9
+-- the branch and the level are in the plan, and there is a place for each level to the last
+pub record Placed (q : Plan) (ws : List ℕ) : Type 0 where
+  pub branch : branchOf (getD ws 0 0) < length (q .branches)
+  pub level : hasLevel (branchAt q (branchOf (getD ws 0 0)) .terms) (depthOf (getD ws 0 0) - 1) ≡ true
+  pub deep : 1 ≤ depthOf (getD ws 0 0)
+  pub long : length ws ≡ 1 + depthOf (getD ws 0 0)
+
+pub placed : (q : Plan) (ws : List ℕ) → shapeRight q ws ≡ true → Placed q ws
+unfolding shapeRight
+placed q ws e =
+    let w = getD ws 0 0 in
+    let f = and-right (eqb (kind w) positionKind) _ (and-left (positionRight q w) _ e) in
+    let g = and-right (ltb (branchOf w) (length (q .branches))) _ f in
+    record {
+      branch = ltb-true (branchOf w) (length (q .branches)) (and-left (ltb (branchOf w) (length (q .branches))) _ f);
+      level = and-right (leb 1 (depthOf w)) _ g;
+      deep = leb-true 1 (depthOf w) (and-left (leb 1 (depthOf w)) _ g);
+      long = eqb-true (length ws) (1 + depthOf w) (and-left (eqb (length ws) (1 + depthOf w)) _ (and-right (positionRight q w) _ e));
+    }
+
+-- ---- where a branch's part begins
+-- a part to the end of a list starts where what is before it ends
+drop-back : (ws : List ℕ) (n : ℕ) → drop (length ws - length (drop n ws)) ws ≡ drop n ws
+drop-back ws n =
+    let l = length-drop n ws in
+    elim (decLt n (length ws)) [
+      | yes h ↦ ap (λ k. drop k ws) (let e : length ws - length (drop n ws) ≡ n = omega arith in e)
+      | no h ↦
+          drop-of-length-le ws {i = length ws - length (drop n ws)} (omega arith)
+          ∙ sym (drop-of-length-le ws {i = n} (omega arith))
+    ]
+
+pub begins : (plan part : List ℕ) (i j n at : ℕ) → part ≡ drop n plan → Gives (readBranch part) (branchAt (planOf plan) i)
+    → i ≡ j → at ≡ length plan - length part → BeginsAt plan j at
+begins plan part i j n at e g p a = rw (a, e, drop-back plan n, ← e, ← p) g
+
+-- ---- the cursor read from words that pass test 9
+module _ (plan ws : List ℕ) (planned : hasForm (readPlan plan) ≡ true) (shape : shapeRight (planOf plan) ws ≡ true) where
+  abbrev q : Plan
+  q = planOf plan
+
+  pub whole : Whole ws
+  whole =
+      let p = placed q ws shape in
+      let f = level-few plan planned (branchOf (getD ws 0 0)) (depthOf (getD ws 0 0) - 1) (p .branch) (p .level) in
+      record { deep = p .deep; whole = p .long; few = omega arith }
+
+  module _ (c : Cursor) (e : stateOf c ≡ stateIn ws) (d : c .level + 1 ≡ depthOf (getD ws 0 0)) (terms : List ℕ)
+      (et : terms ≡ branchAt q (branchOf (getD ws 0 0)) .terms) where
+    branch-is : c .branch ≡ branchOf (getD ws 0 0)
+    unfolding stateIn
+    branch-is = ap (λ (s : State). s .branch) e
+
+    terms-are : terms ≡ currentBranch plan c .terms
+    terms-are = et ∙ ap (λ i. branchAt q i .terms) (sym branch-is)
+
+    in-plan : c .branch < length (q .branches)
+    in-plan = let p = placed q ws shape in let b = branch-is in omega (arith, p .branch)
+
+    has-level : hasLevel (currentBranch plan c .terms) (c .level) ≡ true
+    has-level =
+        let l : depthOf (getD ws 0 0) - 1 ≡ c .level = omega arith in
+        subst (λ n. hasLevel (currentBranch plan c .terms) n ≡ true) l
+        (subst (λ i. hasLevel (branchAt q i .terms) (depthOf (getD ws 0 0) - 1) ≡ true) (sym branch-is) (placed q ws shape .level))
+
+    pub level-there : Inside terms (c .level) × (c .level < mostPatterns)
+    level-there = (
+      rw terms-are (level-inside plan planned (c .branch) (c .level) in-plan has-level),
+      level-few plan planned (c .branch) (c .level) in-plan has-level,
+    )
+
+    module _ (t : Tables) (r : Bool) (er : r ≡ stateRight t terms (stateOf c)) where
+      places-are : placesRight t q ws ≡ r
+      places-are =
+          ap (λ (s : State). stateRight t (branchAt q (s .branch) .terms) s) (sym e)
+          ∙ ap (λ (us : List ℕ). stateRight t us (stateOf c)) (sym terms-are)
+          ∙ sym er
+
+      pub loads-not : r ≡ false → stateRefusal t q ws ≡ 10
+      loads-not h = refused-places t q ws shape (places-are ∙ h)
+
+      pub loads : r ≡ true → stateRefusal t q ws ≡ 0
+      loads h = refused-none t q ws shape (places-are ∙ h)
+
+      pub loads-held : r ≡ true → BeginsAt plan (branchOf (getD ws 0 0)) (c .at) → length (c .upper) ≡ mostPatterns
+          → (b : Bindings) → b ≡ bindings t terms (upperOf (c .upper) (c .level))
+          → (f : Fields) → f ≡ fieldsFixed terms (c .level) b
+          → Held t plan (record { branch = c .branch; at = c .at; level = c .level; place = c .place; upper = c .upper; fields = f }) b
+      loads-held h a l b eb f ef =
+          record {
+            planned = planned;
+            branch = in-plan;
+            begins = rw branch-is a;
+            level = has-level;
+            places = l;
+            right = rw (← terms-are) (sym er ∙ h);
+            agrees = rw (← terms-are, ← eb) (agrees-refl b (rw eb (bound-length t terms (upperOf (c .upper) (c .level)))));
+            fields = rw (← terms-are) ef;
+          }

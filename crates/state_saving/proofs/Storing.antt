@@ -1,0 +1,107 @@
+-- The words of a cursor's state, written one after the other, the outermost place first; what a run holds can be saved.
+use Prim.Native.Nat.{ℕ, zero, suc, _+_, _<_}
+use native.Mathlib.Omega.{arith}
+use native.Mathlib.Numerals.{add-one}
+use mathlib.Core.Path.{_≡_, refl, sym, _∙_, ap, ap₂}
+use mathlib.Core.Bool.{Bool, true, false}
+use mathlib.Core.List.{List, [], _∷_, _++_}
+use lib.Dec.{eqb}
+use lib.ListN.{length, getD, set, length-append}
+use lib.Seq.{drop-cons, drop-set-lt, getD-set-same}
+use borrow.Author.Tests.{ltb-true, eqb-true, eqb-false}
+use Rattle.words.specs.Words.{lowNumbers, positionWord, placeWord}
+use Rattle.words.specs.Bindings.{Bindings}
+use Rattle.words.specs.Sequences.{all, over}
+use Rattle.words.proofs.Buffers.{over-next}
+use Rattle.words.proofs.Elements.{all-head, all-tail}
+use Rattle.tables.specs.declared.Place.{Place}
+use Rattle.tables.specs.Tables.{Tables}
+use Rattle.tables.specs.Right.{Right}
+use Rattle.plans.specs.Plans.{planOf}
+use Rattle.steps.specs.Saved.{upperWords, positionWords, stateWords}
+use Rattle.steps.proofs.SavedWords.{fitsLow, upper-length}
+use Rattle.steps.proofs.AcceptedStates.{right-fits}
+use Rattle.step_cursors.specs.declared.Cursor.{Cursor}
+use Rattle.step_cursors.specs.Carried.{placeAt}
+use Rattle.step_cursors.specs.Held.{upperOf, stateOf, Held}
+use Rattle.step_cursors.proofs.Cursors.{upper-length as places-length, form-of, level-few, held-right}
+use Rattle.state_saving.specs.Loading.{Storable}
+
+-- the first word, and the places of the levels above one
+abbrev pub wordsAbove : ℕ → List Place → ℕ → List ℕ
+wordsAbove w places level = w ∷ upperWords (upperOf places level)
+
+above-length : (w : ℕ) (places : List Place) (level : ℕ) → length (wordsAbove w places level) ≡ level + 1
+above-length w places level = let e = upper-length (upperOf places level) in let f = places-length places level in omega arith
+
+-- the place of one level more
+above-next : (w : ℕ) (places : List Place) (level : ℕ)
+    → wordsAbove w places (level + 1) ≡ wordsAbove w places level ++ (placeWord (placeAt places level) ∷ [])
+unfolding upperOf upperWords
+above-next w places level = rw add-one
+
+-- before the first place is written, only the first word stands
+pub above-none : (places : List Place) (buffer : List ℕ) → 0 < length buffer
+    → buffer ≡ over (wordsAbove (getD buffer 0 0) places 0) buffer
+unfolding upperOf upperWords
+above-none places buffer h = drop-cons buffer 0 0 h
+
+pub above-write : (w : ℕ) (places : List Place) (level : ℕ) (state buffer : List ℕ) → level + 1 < length buffer
+    → state ≡ over (wordsAbove w places level) buffer
+    → set state (level + 1) (placeWord (placeAt places level)) ≡ over (wordsAbove w places (level + 1)) buffer
+above-write w places level state buffer h e =
+    let ws = wordsAbove w places level in
+    let a = placeWord (placeAt places level) in
+    let n = above-length w places level in
+    ap (λ (s : List ℕ). set s (level + 1) a) e
+    ∙ ap (λ k. set (over ws buffer) k a) (sym n)
+    ∙ over-next ws buffer a (omega arith)
+    ∙ ap (λ (vs : List ℕ). over vs buffer) (sym (above-next w places level))
+
+-- the upper places are written: with the last they are the words of the state
+module _ (c : Cursor) (w : ℕ) (position : w ≡ positionWord (c .branch) (c .level + 1)) where
+  abbrev last : ℕ
+  last = placeWord (c .place .0)
+
+  above-all : wordsAbove w (c .upper) (c .level) ++ (last ∷ []) ≡ stateWords (stateOf c)
+  unfolding positionWords
+  above-all = rw (position, places-length (c .upper) (c .level), add-one)
+
+  pub saved : (level : ℕ) (state buffer : List ℕ) → c .level + 1 < length buffer → level ≡ c .level
+      → state ≡ over (wordsAbove (getD (set buffer 0 w) 0 0) (c .upper) level) (set buffer 0 w)
+      → (c .level + 2 ≡ length (stateWords (stateOf c))) × (set state (c .level + 1) last ≡ over (stateWords (stateOf c)) buffer)
+  saved level state buffer h l e =
+      let ws = wordsAbove w (c .upper) (c .level) in
+      let n = above-length w (c .upper) (c .level) in
+      let s : state ≡ over ws buffer =
+      e
+      ∙ ap₂ (λ v k. over (wordsAbove v (c .upper) k) (set buffer 0 w)) (getD-set-same buffer 0 w 0 (omega arith)) l
+      ∙ ap (λ (ds : List ℕ). ws ++ ds) (drop-set-lt (length ws) buffer 0 w (omega arith)) in (
+        omega (arith, length-append ws (last ∷ []), ap length above-all),
+        ap (λ (x : List ℕ). set x (c .level + 1) last) s
+            ∙ ap (λ k. set (over ws buffer) k last) (sym n)
+            ∙ over-next ws buffer last (omega arith)
+            ∙ ap (λ (vs : List ℕ). over vs buffer) above-all,
+      )
+
+-- ---- what a run holds can be saved
+places-fit : (ps : List Place) (level : ℕ) → all fitsLow (upperOf ps level) ≡ true → (i : ℕ) → i < level → placeAt ps i < lowNumbers
+unfolding upperOf
+places-fit ps zero e i h = absurd (omega arith)
+places-fit ps (suc level) e i h =
+    go (eqb i level) refl (places-fit ps level (all-tail fitsLow (placeAt ps level) (upperOf ps level) e) i)
+  where
+    go : (b : Bool) → eqb i level ≡ b → (i < level → placeAt ps i < lowNumbers) → placeAt ps i < lowNumbers
+    go true q above = rw (eqb-true i level q) (ltb-true (placeAt ps level) lowNumbers (all-head fitsLow _ _ e))
+    go false q above = let n = eqb-false i level q in above (omega arith)
+
+pub held-storable : (t : Tables) (ws : List ℕ) (c : Cursor) (b : Bindings) → Right t → Held t ws c b → Storable c
+held-storable t ws c b w k =
+    let form = form-of ws (k .planned) in
+    let f = right-fits t (planOf ws) (w .sized .few) form (stateOf c) (held-right t ws c b k) in
+    record {
+      branch = omega (arith, k .branch, form .most);
+      level = level-few ws (k .planned) (c .branch) (c .level) (k .branch) (k .level);
+      place = f .place;
+      upper = λ i h. places-fit (c .upper) (c .level) (f .upper) i h;
+    }

@@ -1,0 +1,41 @@
+-- What saving a cursor asks for, and what loading one answers. Assumes nothing: these are definitions.
+use Prim.Native.Nat.{ℕ, _+_, _≤_, _<_}
+use mathlib.Core.Path.{_≡_}
+use mathlib.Core.Bool.{Bool, _&&_}
+use mathlib.Core.List.{List, [], _∷_}
+use lib.Dec.{leb}
+use lib.ListN.{length, getD}
+use Rattle.words.specs.Words.{lowNumbers, depthOf}
+use Rattle.words.specs.Tests.{Test, firstFailing, numberOf}
+use Rattle.tables.specs.declared.Prefix.{Prefix}
+use Rattle.tables.specs.Tables.{Tables}
+use Rattle.tables.specs.Ranges.{rangeStart, rangeEnd}
+use Rattle.plans.specs.Branches.{mostPatterns}
+use Rattle.plans.specs.Plans.{Plan, mostBranches}
+use Rattle.steps.specs.Saved.{leastStateWords, shapeRight, placesRight}
+use Rattle.step_cursors.specs.declared.Cursor.{Cursor}
+use Rattle.step_cursors.specs.Carried.{placeAt}
+
+-- a cursor whose numbers the words of its state have room for
+pub record Storable (c : Cursor) : Type 0 where
+  pub branch : c .branch < mostBranches
+  pub level : c .level < mostPatterns
+  pub place : c .place .0 < lowNumbers
+  pub upper : (level : ℕ) → level < c .level → placeAt (c .upper) level < lowNumbers
+
+-- a first word, and as many words more as the depth that it names, from 1 to 8
+pub record Whole (ws : List ℕ) : Type 0 where
+  pub deep : 1 ≤ depthOf (getD ws 0 0)
+  pub whole : length ws ≡ 1 + depthOf (getD ws 0 0)
+  pub few : length ws ≤ leastStateWords
+
+-- a place is from a range's first place up to and including its end
+abbrev pub upToEnd : Tables → Prefix → ℕ → Bool
+upToEnd t x place = leb (rangeStart t x) place && leb place (rangeEnd t x)
+
+-- tests 9 and 10 of a state's words, and the number of the first that fails, 0 where both pass
+abbrev pub stateTests : Tables → Plan → List ℕ → List Test
+stateTests t q ws = (9, shapeRight q ws) ∷ (10, placesRight t q ws) ∷ []
+
+abbrev pub stateRefusal : Tables → Plan → List ℕ → ℕ
+stateRefusal t q ws = numberOf (firstFailing (stateTests t q ws))

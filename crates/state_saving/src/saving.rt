@@ -1,0 +1,29 @@
+// Saving: a state as words.
+use step_cursors::Cursor;
+use words::StateWord;
+ghost use mathlib.Core.Path.{_≡_};
+ghost use Prim.Native.Nat.{_≤_};
+ghost use lib.ListN.{length};
+ghost use Rattle.words.specs.Sequences.{over};
+ghost use Rattle.steps.specs.Saved.{stateWords, leastStateWords};
+ghost use Rattle.step_cursors.specs.Held.{stateOf};
+ghost use Rattle.state_saving.specs.Loading.{Storable};
+
+// Writes the words of the state that a cursor stands for, and answers how many.
+pub fn save(c: Cursor, state: &mut [u32]) -> usize
+    requires { ⌜ Storable c × (leastStateWords ≤ length (now state)) ⌝ }
+    ensures { λ r. ⌜ (r ≡ length (stateWords (stateOf c))) × (now (state .exit) ≡ over (stateWords (stateOf c)) (now (state .entry))) ⌝ }
+{
+    let level = c.level;
+    let upper = c.upper;
+    let last = c.place;
+    state[0] = StateWord::position(c.branch, level as u32 + 1).0;
+    let mut i: usize = 0;
+    while i < level {
+        let place = upper[i];
+        i += 1;
+        state[i] = StateWord::place(place.0).0;
+    }
+    state[level + 1] = StateWord::place(last.0).0;
+    level + 2
+}

@@ -1,6 +1,0 @@
-pub mod Wood
-pub mod Calls
-pub mod Starred
-pub mod Refusals
-pub mod Misreadings
-pub mod FinishedCut

@@ -1,0 +1,25 @@
+// Prints each file that its arguments name, one after the other: its name on a line, and then what the turn printer prints for it.
+use libc::STDOUT_FILENO;
+
+// The file that an argument names.
+fn print_argument(i: usize) {
+    let mut path = io::buffer();
+    let length = os::arg(i, &mut path);
+    if os::errno() != 0 {
+        os::fail(b"path");
+        return;
+    }
+    io::write_all(STDOUT_FILENO, b"file ");
+    io::write_all(STDOUT_FILENO, &path[..length]);
+    io::write_all(STDOUT_FILENO, b"\n");
+    print_rounds::print_path(&path[..length]);
+}
+
+fn main() {
+    let count = os::arg_count();
+    let mut i: usize = 1;
+    while i < count {
+        print_argument(i);
+        i += 1;
+    }
+}

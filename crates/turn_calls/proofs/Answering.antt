@@ -1,0 +1,69 @@
+-- What a turn answers and leaves: by the number of the first test that fails, or by its steps.
+use Prim.Native.Nat.{ℕ}
+use mathlib.Core.Path.{_≡_, sym, _∙_, ap, subst, subst⁻¹}
+use mathlib.Core.Option.{none, some}
+use mathlib.Core.List.{List, []}
+use lib.ListN.{length}
+use Rattle.words.specs.Sequences.{over}
+use Rattle.words.specs.Tests.{firstFailing}
+use Rattle.steps.specs.Steps.{State}
+use Rattle.steps.specs.Saved.{savedWords, stateIn}
+use Rattle.turns.specs.declared.TurnEnding.{TurnEnding}
+use Rattle.turns.specs.declared.TurnEnding.the-variants.{Refused}
+use Rattle.turns.specs.declared.Turned.{Turned}
+use Rattle.turn_runs.specs.declared.Ran.{Ran}
+use Rattle.turns.specs.Turns.{Progress, endingOf, stepsOf, leftOf, progress, fitsIn, TurnInput, TurnResult, givenPlan, givenState, finished, served}
+use Rattle.turns.specs.Turns.{turnTests, turnedAs, turnOf}
+use Rattle.turns.specs.Refusals.{TurnAnswers}
+use Rattle.turns.proofs.Refusals.{turn-refusals}
+use Rattle.turn_runs.specs.Running.{Runnable, Runs, leftAt, answerOf}
+use Rattle.turns.proofs.Follows.{by-parts}
+use Rattle.turn_tests.proofs.Numbering.{AcceptedTurn}
+
+-- the answer, the state buffer and the output are those of the definition
+abbrev pub Answers : TurnInput → Turned → List ℕ → List ℕ → Type 0
+Answers i answer state output = record { answer = answer; state = state; output = output } ≡ turnOf i
+
+same-answer : (a b : ℕ) (x y : TurnEnding) (c d e f : ℕ) → a ≡ b → x ≡ y → c ≡ d → e ≡ f
+    → _≡_ {A = Turned} (record { steps = a; ending = x; saved = c; listed = e }) (record { steps = b; ending = y; saved = d; listed = f })
+same-answer a b x y c d e f p q r s = rw (p, q, r, s)
+
+same-result : (a b : Turned) (s t o u : List ℕ) → a ≡ b → s ≡ t → o ≡ u
+    → _≡_ {A = TurnResult} (record { answer = a; state = s; output = o }) (record { answer = b; state = t; output = u })
+same-result a b s t o u p q r = rw (p, q, r)
+
+module _ (i : TurnInput) where
+  pub refuses : (n : ℕ) → firstFailing (turnTests i) ≡ some n
+      → Answers i (record { steps = 0; ending = Refused n; saved = 0; listed = 0 }) (i .state) (i .output)
+  unfolding turnOf
+  refuses n e = sym (ap (turnedAs i) e)
+
+  -- by the steps of some progress
+  by-steps : (p : Progress) → turnOf i ≡ finished i p → (r : Ran) (after : List ℕ) → Runs (givenPlan i .ending) (i .threshold) p (i .output) after r
+      → Answers i (answerOf r) (over (savedWords (leftAt (r .ending) (r .next))) (i .state)) after
+  by-steps p e r after k =
+      let w = ap savedWords (sym (k .left)) in
+      let a = same-answer (r .steps) (stepsOf p) (r .ending) (endingOf p) _ _ (r .used) _ (k .steps) (k .ending) (ap length w) (k .listed .0) in
+      same-result (answerOf r) _ _ _ after _ a (ap (λ ws. over ws (i .state)) w) (k .listed .1) ∙ sym (e ∙ by-parts i p)
+
+  -- those of a turn start at the given state
+  abbrev runFor : State → Progress
+  runFor s = progress (i .tables) (givenPlan i) (fitsIn (givenPlan i .ending) (i .threshold) (length (i .output))) (i .quantum) s
+
+  served-by : firstFailing (turnTests i) ≡ none → turnOf i ≡ finished i (served i)
+  unfolding turnOf
+  served-by e = ap (turnedAs i) e
+
+  pub serves : firstFailing (turnTests i) ≡ none → (s : State) → s ≡ stateIn (givenState i) → (r : Ran) (after : List ℕ)
+      → Runs (givenPlan i .ending) (i .threshold) (runFor s) (i .output) after r
+      → Answers i (answerOf r) (over (savedWords (leftAt (r .ending) (r .next))) (i .state)) after
+  serves e s h r after u =
+      by-steps (served i) (served-by e) r after
+      (subst (λ (x : State). Runs (givenPlan i .ending) (i .threshold) (runFor x) (i .output) after r) h u)
+
+  -- what equals the definition's result has its number and its values
+  pub turn-told : {r : Turned} {state output : List ℕ} → Answers i r state output → Answers i r state output × TurnAnswers i r
+  turn-told e = (e, subst⁻¹ (TurnAnswers i) (ap (λ (o : TurnResult). o .answer) e) (turn-refusals i .number))
+
+  pub runnable : AcceptedTurn i → Runnable (i .plan) (i .threshold) (i .output) (i .quantum)
+  runnable a = record { variables = a .variables; sent = a .sent; room = a .room; few = a .few }

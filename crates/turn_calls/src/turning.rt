@@ -1,0 +1,107 @@
+// A turn: its tests, its steps, and the words that it writes.
+use step_cursors::Cursor;
+use turn_runs::Ran;
+use turn_runs::run;
+use turn_tests::ACCEPTED;
+use turn_tests::prepare;
+use turns::TurnEnding;
+use turns::Turned;
+use words::Term;
+ghost use mathlib.Core.Path.{_≡_};
+ghost use Prim.Native.Nat.{_≤_};
+ghost use lib.ListN.{length};
+ghost use Rattle.words.specs.Sequences.{over};
+ghost use Rattle.steps.specs.Saved.{savedWords, leastStateWords};
+ghost use Rattle.state_saving.specs.Loading.{Storable};
+ghost use Rattle.turns.specs.declared.TurnEnding.{TurnEnding};
+ghost use Rattle.turns.specs.Turns.{turnOf, turnInput};
+ghost use Rattle.turns.specs.Refusals.{TurnAnswers};
+ghost use Rattle.turn_runs.specs.Running.{leftAt, answerOf};
+
+// Writes the state that a turn's steps leave, and answers its words: none when done.
+fn save_left(ending: TurnEnding, next: Cursor, state: &mut [u32]) -> usize
+    requires { ⌜ (leastStateWords ≤ length (now state)) × ((ending ≡ TurnEnding.Done → ⊥) → Storable next) ⌝ }
+    ensures { λ r. ⌜ (r ≡ length (savedWords (leftAt ending next)))
+        × (now (state .exit) ≡ over (savedWords (leftAt ending next)) (now (state .entry))) ⌝ }
+{
+    match ending {
+        TurnEnding::Done => 0,
+        TurnEnding::Spent => state_saving::save(next, state),
+        TurnEnding::Full => state_saving::save(next, state),
+        TurnEnding::Refused(_) => 0,
+    }
+}
+
+// The answer of a turn whose steps are made.
+fn finish(ran: Ran, state: &mut [u32]) -> Turned
+    requires { ⌜ (leastStateWords ≤ length (now state)) × ((ran .ending ≡ TurnEnding.Done → ⊥) → Storable (ran .next)) ⌝ }
+    ensures { λ r. ⌜ (r ≡ answerOf ran) × (now (state .exit) ≡ over (savedWords (leftAt (ran .ending) (ran .next))) (now (state .entry))) ⌝ }
+{
+    let ending = ran.ending;
+    let next = ran.next;
+    let saved = save_left(ending, next, state);
+    Turned {
+        steps: ran.steps,
+        ending: ending,
+        saved: saved,
+        listed: ran.used,
+    }
+}
+
+// Runs one turn of a query: at most so many steps from its state, which is the first words of its buffer, as many as are given.
+pub fn turn(
+    rows: &[u32],
+    pos: &[u32],
+    osp: &[u32],
+    plan: &[u32],
+    state: &mut [u32],
+    given: usize,
+    quantum: u32,
+    threshold: &[u32],
+    output: &mut [u32],
+) -> Turned
+    ensures { λ r. ⌜ record { answer = r; state = now (state .exit); output = now (output .exit) }
+        ≡ turnOf (turnInput (now (rows .entry)) (now (pos .entry)) (now (osp .entry)) (now (plan .entry)) (now (state .entry)) given quantum
+        (now (threshold .entry)) (now (output .entry))) ⌝ }
+    ensures number { λ r. ⌜ TurnAnswers
+        (turnInput (now (rows .entry)) (now (pos .entry)) (now (osp .entry)) (now (plan .entry)) (now (state .entry)) given quantum
+        (now (threshold .entry)) (now (output .entry))) r ⌝ }
+{
+    let mut bound = [Term::UNBOUND; 16];
+    let loaded = prepare(
+        rows,
+        pos,
+        osp,
+        plan,
+        state,
+        given,
+        quantum,
+        threshold,
+        output,
+        &mut bound,
+    );
+    let number = loaded.refused;
+    if number != ACCEPTED {
+        return Turned {
+            steps: 0,
+            ending: TurnEnding::Refused(number),
+            saved: 0,
+            listed: 0,
+        };
+    }
+    let from = loaded.from;
+    finish(
+        run(
+            rows,
+            pos,
+            osp,
+            plan,
+            threshold,
+            from,
+            quantum,
+            &mut bound,
+            output,
+        ),
+        state,
+    )
+}

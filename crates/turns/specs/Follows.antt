@@ -1,0 +1,42 @@
+-- A served turn is steps of the uncut run, from the state that it was given: its state is that many steps on, and its list is
+-- made of the rows of those steps alone. A served opening writes where the run starts. Assumes nothing: these are definitions.
+use Prim.Native.Nat.{ℕ, _≤_}
+use mathlib.Core.List.{List}
+use lib.ListN.{length}
+use Rattle.words.specs.Bindings.{Bindings}
+use Rattle.words.specs.Answers.{wordsIn}
+use Rattle.words.specs.Buffers.{Overwritten}
+use Rattle.tables.specs.Tables.{Tables}
+use Rattle.plans.specs.Plans.{planOf}
+use Rattle.steps.specs.Steps.{Run, runFrom, after}
+use Rattle.steps.specs.Saved.{savedWords, stateIn}
+use Rattle.lists.specs.Gathering.{gathered}
+use Rattle.turns.specs.Opening.{openOf}
+use Rattle.turns.specs.Turns.{TurnInput, givenState, givenPlan, turnOf}
+
+-- the run from the state that a turn was given
+abbrev pub givenRun : TurnInput → ℕ → Run
+givenRun i n = runFrom (i .tables) (givenPlan i) (stateIn (givenState i)) n
+
+-- that run after the steps that the turn answers
+abbrev pub turnRun : TurnInput → Run
+turnRun i = givenRun i (turnOf i .answer .steps)
+
+-- the list that a turn's ending makes of some rows
+abbrev pub listOf : TurnInput → List Bindings → List ℕ
+listOf i bs = gathered (givenPlan i .ending) (i .threshold) bs
+
+pub record Follows (i : TurnInput) : Type 0 where
+  -- the state buffer: the words of the state that many steps on, none at the run's end, over what it held
+  pub state : Overwritten (savedWords (turnRun i .state)) (i .state) (turnOf i .state) (turnOf i .answer .saved)
+  -- the output: the list of the rows of those steps, over what it held
+  pub output : Overwritten (listOf i (turnRun i .delivered)) (i .output) (turnOf i .output) (turnOf i .answer .listed)
+  -- which has room for it
+  pub room : turnOf i .answer .listed ≤ length (i .output)
+
+-- ---- opening
+-- the words that a served opening writes: the uncut run's state after no step
+pub record StartsRun (t : Tables) (plan state : List ℕ) : Type 0 where
+  pub buffer : Overwritten (savedWords (after t (planOf plan) 0 .state)) state
+      (openOf t plan state .state) (wordsIn (openOf t plan state .answer))
+  pub room : wordsIn (openOf t plan state .answer) ≤ length state

@@ -1,0 +1,72 @@
+-- Demand 1 of opening and of a turn: which number refuses, that a refusal changes nothing, and when a call is served. Assumes nothing:
+-- these are definitions.
+use Prim.Native.Nat.{ℕ}
+use mathlib.Core.Path.{_≡_}
+use mathlib.Core.Logic.{_↔_}
+use mathlib.Core.List.{List, [], _∷_, map}
+use Rattle.words.specs.declared.Written.{Written}
+use Rattle.words.specs.declared.Written.the-variants as written
+use Rattle.words.specs.Answers.{wordsIn, AnswersBy}
+use Rattle.words.specs.Tests.{Test, firstFailing, numberOf, AllPass, FirstFails}
+use Rattle.tables.specs.Tables.{Tables}
+use Rattle.plans.specs.Plans.{planOf}
+use Rattle.steps.specs.Steps.{startOf}
+use Rattle.steps.specs.Saved.{stateWords}
+use Rattle.turns.specs.declared.Turned.{Turned}
+use Rattle.turns.specs.declared.TurnEnding.the-variants.{Refused}
+use Rattle.turns.specs.Opening.{openTests, openOf, Opens}
+use Rattle.turns.specs.Turns.{refusalOf, valuesOf, TurnInput, turnTests, turnOf}
+
+-- ---- opening
+-- the answer of an opening by the rules' number and words (docs/RULES.md, 10)
+abbrev pub OpenAnswers : Tables → List ℕ → List ℕ → Written → Type 0
+OpenAnswers t plan state w = AnswersBy (openTests t plan state) (stateWords (startOf t (planOf plan) 0)) w
+
+-- a refused opening leaves the state buffer as it was, and has written no words
+pub record NotOpened (t : Tables) (plan state : List ℕ) : Type 0 where
+  pub buffer : openOf t plan state .state ≡ state
+  pub words : wordsIn (openOf t plan state .answer) ≡ 0
+
+pub record OpenRefusals (t : Tables) (plan state : List ℕ) : Type 0 where
+  -- the table's numbers, in the table's order
+  pub order : map (λ (x : Test). x .0) (openTests t plan state) ≡ 1 ∷ 2 ∷ 3 ∷ 4 ∷ 5 ∷ 6 ∷ 7 ∷ []
+  -- its answer has the number of the first test that fails, 0 where all pass, and the words of the start state where all pass
+  pub number : OpenAnswers t plan state (openOf t plan state .answer)
+  -- it is refused with x exactly where x is the number of the first test that fails
+  pub refused : (x : ℕ) → (openOf t plan state .answer ≡ written.Refused x) ↔ FirstFails x (openTests t plan state)
+  -- a refusal changes no buffer
+  pub unchanged : (x : ℕ) → openOf t plan state .answer ≡ written.Refused x → NotOpened t plan state
+  -- it is served, answering no such number, exactly where every test passes
+  pub serves : Opens t plan state ↔ AllPass (openTests t plan state)
+
+-- ---- a turn
+-- the answer of a turn by the rules' number and values
+pub record TurnAnswers (i : TurnInput) (a : Turned) : Type 0 where
+  -- the number of the first test that fails, 0 where all pass
+  pub number : refusalOf (a .ending) ≡ numberOf (firstFailing (turnTests i))
+  -- its steps and its words are those that its ending has
+  pub values : valuesOf a ≡ record { steps = a .steps; saved = a .saved; listed = a .listed }
+
+-- a refused turn leaves the state buffer and the output as they were, has made no step and has written no words
+pub record NotTurned (i : TurnInput) : Type 0 where
+  pub state : turnOf i .state ≡ i .state
+  pub output : turnOf i .output ≡ i .output
+  pub steps : turnOf i .answer .steps ≡ 0
+  pub saved : turnOf i .answer .saved ≡ 0
+  pub listed : turnOf i .answer .listed ≡ 0
+
+-- a served turn is one that is not refused
+abbrev pub Served : TurnInput → Type 0
+Served i = (x : ℕ) → ¬ (turnOf i .answer .ending ≡ Refused x)
+
+pub record TurnRefusals (i : TurnInput) : Type 0 where
+  -- the table's numbers, in the table's order
+  pub order : map (λ (x : Test). x .0) (turnTests i) ≡ 1 ∷ 2 ∷ 3 ∷ 4 ∷ 5 ∷ 6 ∷ 7 ∷ 8 ∷ 9 ∷ 10 ∷ 11 ∷ []
+  -- its answer has the number of the first test that fails, 0 where all pass, and the values that its ending has
+  pub number : TurnAnswers i (turnOf i .answer)
+  -- it is refused with x exactly where x is the number of the first test that fails
+  pub refused : (x : ℕ) → (turnOf i .answer .ending ≡ Refused x) ↔ FirstFails x (turnTests i)
+  -- a refusal changes no buffer
+  pub unchanged : (x : ℕ) → turnOf i .answer .ending ≡ Refused x → NotTurned i
+  -- it is served, answering no such number, exactly where every test passes
+  pub serves : Served i ↔ AllPass (turnTests i)

@@ -1,0 +1,52 @@
+-- Every case of the tables holds, by computation.
+use mathlib.Core.Path.{refl}
+use mathlib.Core.List.{flatten, _++_}
+use Rattle.words.specs.Computing as words
+use Rattle.tables.specs.Computing as tables
+use Rattle.plans.specs.Computing as plans
+use Rattle.conditions.specs.Computing as conditions
+use Rattle.steps.specs.Computing as steps
+use Rattle.lists.specs.Computing as lists
+use Rattle.turns.specs.Computing as turns
+use Rattle.merges.specs.Computing as merges
+use Rattle.worked_cases.specs.Calls.{Hold, all, _&_}
+use Rattle.worked_cases.specs.Starred.{starred}
+use Rattle.worked_cases.specs.Refusals.{ofTables, ofPlans, ofTurns, ofMerges}
+use Rattle.worked_cases.specs.Misreadings.{Told, readings, same}
+
+-- one name for all that the calls' definitions are made of
+unfoldable pub computing : Unit {0}
+unfolding words.computing tables.computing plans.computing conditions.computing steps.computing lists.computing turns.computing merges.computing flatten
+computing = tt
+
+-- the starred cases of the rules (docs/RULES.md, 11), and those of k = 0
+pub starred-hold : Hold starred
+unfolding computing
+starred-hold =
+    refl & refl & refl & refl & refl & refl & refl & refl & refl & refl & refl & refl & refl & refl & refl & refl & refl & refl
+    & (refl & refl & refl & refl & refl & refl & refl & refl & all)
+
+-- cases for each refusal
+pub tables-hold : Hold ofTables
+unfolding computing
+tables-hold = refl & refl & refl & refl & refl & refl & refl & refl & refl & refl & all
+
+pub plans-hold : Hold ofPlans
+unfolding computing
+plans-hold =
+    refl & refl & refl & refl & refl & refl & refl & refl & refl & refl & refl & refl & refl & refl & refl & refl & refl & refl & all
+
+pub turns-hold : Hold ofTurns
+unfolding computing
+turns-hold =
+    refl & refl & refl & refl & refl & refl & refl & refl & refl & refl & refl & refl & refl & refl & refl & refl & refl & refl & refl & refl & all
+
+pub merges-hold : Hold ofMerges
+unfolding computing
+merges-hold =
+    refl & refl & refl & refl & refl & refl & refl & refl & refl & refl & refl & refl & refl & refl & refl & refl & refl & refl & refl & all
+
+-- the misreadings are told from the right reading
+pub readings-told : Told readings
+unfolding computing same
+readings-told = (refl, (refl, (refl, (refl, (refl, (refl, (refl, (refl, (refl, (refl, (refl, (refl, tt))))))))))))

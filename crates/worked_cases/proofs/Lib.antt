@@ -1,0 +1,9 @@
+pub mod Holds
+pub mod Finished
+pub mod ByOutcomes
+pub mod ConditionsHold
+pub mod FormatsHold
+pub mod LimitsHold
+pub mod FaultsHold
+pub mod SizesHold
+pub mod StepsHold

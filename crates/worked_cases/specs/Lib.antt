@@ -1,0 +1,14 @@
+pub mod Wood
+pub mod Calls
+pub mod Starred
+pub mod Refusals
+pub mod Misreadings
+pub mod FinishedCut
+pub mod Literals
+pub mod Comparing
+pub mod Kinds
+pub mod Orders
+pub mod States
+pub mod Limits
+pub mod Faults
+pub mod Sizes

@@ -1,0 +1,72 @@
+-- The misreadings that the rules (docs/RULES.md, 11) name: for each what a call gives, the right words, and those of the misreading.
+use Prim.Native.Nat.{ℕ, suc}
+use mathlib.Core.Path.{_≡_}
+use mathlib.Core.List.{List, [], _∷_, _++_}
+use mathlib.Core.Bool.{Bool, true, false, _&&_}
+use lib.Dec.{eqb}
+use lib.ListN.{take}
+use Rattle.words.specs.Words.{name, number, unbound}
+use Rattle.words.specs.Answers.{wordsIn}
+use Rattle.turns.specs.Turns.{TurnInput, TurnResult, turnOf}
+use Rattle.merges.specs.Merging.{MergeResult, mergeOf}
+use Rattle.worked_cases.specs.Wood.{wood, notError, rows01, planWith, planA, planTwice, planTop, planUnbound, start, stem}
+use Rattle.worked_cases.specs.Calls.{turnCall, mergeCall}
+
+abbrev pub listIn : TurnResult → List ℕ
+listIn r = take (r .answer .listed) (r .output)
+
+abbrev pub stateAfter : TurnResult → List ℕ
+stateAfter r = take (r .answer .saved) (r .state)
+
+abbrev pub keptIn : MergeResult → List ℕ
+keptIn r = take (wordsIn (r .answer)) (r .kept)
+
+pub record Reading : Type 0 where
+  pub given : List ℕ
+  pub right : List ℕ
+  pub wrong : List ℕ
+
+unfoldable pub same : List ℕ → List ℕ → Bool
+same [] [] = true
+same [] (y ∷ ys) = false
+same (x ∷ xs) [] = false
+same (x ∷ xs) (y ∷ ys) = eqb x y && same xs ys
+
+-- what is given is right, and the wrong reading differs
+abbrev pub Told : List Reading → Type 0
+Told [] = Unit {0}
+Told (r ∷ rs) = (r .given ≡ r .right) × ((same (r .right) (r .wrong) ≡ false) × Told rs)
+
+-- a turn with all the steps that it needs, and one whose output holds one row
+abbrev pub wholeTurn : List ℕ → TurnInput
+wholeTurn plan = turnCall wood plan start 100 [] 128
+
+abbrev pub oneRow : List ℕ → TurnInput
+oneRow state = turnCall wood planA state 10 [] 2
+
+abbrev pub readings : List Reading
+readings =
+    -- unbound sorts first
+    record { given = listIn (turnOf (wholeTurn planUnbound)); right = name 1 ∷ unbound ∷ []; wrong = stem 1 45 }
+    -- not(error) is error, and keeps nothing
+    ∷ record {
+      given = listIn (turnOf (wholeTurn (planWith notError rows01)));
+      right = [];
+      wrong = stem 1 45 ++ (stem 2 310 ++ stem 3 310);
+    }
+    -- a later equal row does not push out the kept one: in a turn, and in a merge
+    ∷ record { given = listIn (turnOf (wholeTurn planTop)); right = stem 2 310; wrong = stem 3 310 }
+    ∷ record { given = keptIn (mergeOf (mergeCall planTop (stem 2 310) 4 (stem 3 310))); right = stem 2 310; wrong = stem 3 310 }
+    -- a full output uses up no step: the next turn delivers the row
+    ∷ record {
+      given = listIn (turnOf (oneRow (stateAfter (turnOf (oneRow start)))));
+      right = stem 3 310;
+      wrong = [];
+    }
+    -- duplicates between branches stay
+    ∷ record {
+      given = listIn (turnOf (wholeTurn planTwice));
+      right = stem 2 310 ++ (stem 3 310 ++ (stem 2 310 ++ stem 3 310));
+      wrong = stem 2 310 ++ stem 3 310;
+    }
+    ∷ []

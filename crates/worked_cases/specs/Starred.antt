@@ -1,0 +1,78 @@
+-- The starred cases of "The three-stem wood", and those of a best-of list of no given number, as one table.
+use Prim.Native.Nat.{ℕ}
+use mathlib.Core.List.{List, [], _∷_, _++_, map}
+use mathlib.Core.Option.{none, some}
+use lib.ListN.{length, take, replicate}
+use Rattle.words.specs.declared.Written.the-variants.{Words}
+use Rattle.words.specs.Words.{number}
+use Rattle.words.specs.Sequences.{over}
+use Rattle.turns.specs.declared.TurnEnding.the-variants.{Done, Spent, Full}
+use Rattle.worked_cases.specs.Wood.{wood, noRows, withOsp, notError, orError, rows01, planWith, planA, planTwice, planTop, planGroup}
+use Rattle.worked_cases.specs.Wood.{always, topFalling, topDiameters, stateAt, start, stem}
+use Rattle.worked_cases.specs.Calls.{opening, opened, merging, merged, running, ran, Case, turnCall, turnCase, notTurned}
+use Rattle.worked_cases.specs.Calls.{mergeCall, keptBuffer, notMerged}
+
+-- a turn that has all the steps and the room that it needs
+abbrev pub whole : List ℕ → ℕ → List ℕ → Case
+whole plan steps list = turnCase (turnCall wood plan start 100 [] 128) Done steps [] list
+
+-- the best rows of two words, and of one, k being 0
+abbrev pub unnumbered : List ℕ
+unnumbered = planWith always (topFalling 0)
+
+abbrev pub unnumberedDiameters : List ℕ
+unnumberedDiameters = planWith always (topDiameters 0)
+
+-- i20, i19 and on to i11, ten rows of one word
+abbrev pub tenDiameters : List ℕ
+tenDiameters = map number (20 ∷ 19 ∷ 18 ∷ 17 ∷ 16 ∷ 15 ∷ 14 ∷ 13 ∷ 12 ∷ 11 ∷ [])
+
+-- a list merged into another, and what is then kept
+abbrev pub merges : List ℕ → List ℕ → List ℕ → Case
+merges kept list result = (
+  merging (mergeCall unnumberedDiameters kept 16 list),
+  merged (record { answer = Words (length result); kept = over result (keptBuffer 16 kept) }),
+)
+
+abbrev pub starred : List Case
+starred =
+    -- opening writes the start: branch 0, depth 1, its range's first place
+    (opening wood planA (replicate 10 5), opened (record { answer = Words 2; state = over start (replicate 10 5) }))
+    -- A in full: rows n2 i310 and n3 i310, 10 steps
+    ∷ whole planA 10 (stem 2 310 ++ stem 3 310)
+    ∷ (running wood planA 10, ran none (stem 2 310 ++ stem 3 310))
+    -- quantum 10 is done; 9 is spent at depth 1, place 3
+    ∷ turnCase (turnCall wood planA start 10 [] 128) Done 10 [] (stem 2 310 ++ stem 3 310)
+    ∷ turnCase (turnCall wood planA start 9 [] 128) Spent 9 (stateAt (3 ∷ [])) (stem 2 310 ++ stem 3 310)
+    ∷ (running wood planA 9, ran (some (record { branch = 0; upper = []; place = 3 })) (stem 2 310 ++ stem 3 310))
+    -- output of one row, quantum 10: full after 7 steps
+    ∷ turnCase (turnCall wood planA start 10 [] 2) Full 7 (stateAt (2 ∷ 5 ∷ [])) (stem 2 310)
+    -- states with places 0,2 and 3 alone are accepted; 0,3 and 4 alone are refused by 10
+    ∷ turnCase (turnCall wood planA (stateAt (0 ∷ 2 ∷ [])) 1 [] 128) Spent 1 (stateAt (1 ∷ [])) []
+    ∷ turnCase (turnCall wood planA (stateAt (3 ∷ [])) 1 [] 128) Done 1 [] []
+    ∷ notTurned (turnCall wood planA (stateAt (0 ∷ 3 ∷ [])) 1 [] 128) 10
+    ∷ notTurned (turnCall wood planA (stateAt (4 ∷ [])) 1 [] 128) 10
+    -- A as two equal branches: four rows, 20 steps
+    ∷ whole planTwice 20 (stem 2 310 ++ (stem 3 310 ++ (stem 2 310 ++ stem 3 310)))
+    -- ending top 1, ?1 falling: n2 i310
+    ∷ whole planTop 10 (stem 2 310)
+    -- condition "true", group of no variable measuring ?1: rows 3, numbers 3, sum 665, least i45, greatest i310
+    ∷ whole planGroup 10 (3 ∷ 0 ∷ 3 ∷ 0 ∷ 665 ∷ 0 ∷ number 45 ∷ number 310 ∷ [])
+    -- no rows in the tables: done after 1 step
+    ∷ turnCase (turnCall noRows planA start 100 [] 128) Done 1 [] []
+    -- not(n1 < i5) keeps nothing; or(i1 = i1, n1 < i5) keeps all
+    ∷ whole (planWith notError rows01) 10 []
+    ∷ whole (planWith orError rows01) 10 (stem 1 45 ++ (stem 2 310 ++ stem 3 310))
+    -- a list ending 3 3 is refused by 4
+    ∷ notTurned (turnCall (withOsp (0 ∷ 2 ∷ 4 ∷ 1 ∷ 3 ∷ 3 ∷ [])) planA start 10 [] 128) 4
+    -- k = 0: an output of nine rows is refused by 7; ten are enough
+    ∷ notTurned (turnCall wood unnumbered start 100 [] 18) 7
+    ∷ turnCase (turnCall wood unnumbered start 100 [] 20) Done 10 [] (stem 2 310 ++ (stem 3 310 ++ stem 1 45))
+    -- merging with k = 0: eleven kept rows are refused by 12, as are eleven of a turn; ten are merged; ten kept and one more leave ten
+    ∷ notMerged (mergeCall unnumberedDiameters (tenDiameters ++ (number 10 ∷ [])) 16 []) 12
+    ∷ notMerged (mergeCall unnumberedDiameters [] 16 (tenDiameters ++ (number 10 ∷ []))) 12
+    ∷ merges tenDiameters [] tenDiameters
+    ∷ merges [] tenDiameters tenDiameters
+    ∷ merges tenDiameters (number 30 ∷ []) (number 30 ∷ take 9 tenDiameters)
+    ∷ merges tenDiameters (number 10 ∷ []) tenDiameters
+    ∷ []

@@ -1,0 +1,104 @@
+-- The three-stem wood of the rules (docs/RULES.md, 11), plan A and its variants.
+use Prim.Native.Nat.{ℕ}
+use mathlib.Core.List.{List, [], _∷_, _++_, map}
+use lib.ListN.{length}
+use Rattle.words.specs.Words.{name, number, variable, word, positionWord, placeWord, headKind, branchKind, trueKind, orKind, notKind, comparisonKind}
+use Rattle.words.specs.Words.{equalTo, lessThan, atLeast, rowsKind, topKind, risingKind, fallingKind, groupKind}
+use Rattle.tables.specs.Tables.{Tables}
+
+-- ---- tables
+abbrev pub wood : Tables
+wood =
+    record {
+      rows =
+          name 1 ∷ name 10 ∷ name 100 ∷ name 1 ∷ name 12 ∷ number 45 ∷ name 2 ∷ name 10 ∷ name 100 ∷ name 2 ∷ name 12 ∷ number 310
+          ∷ name 3 ∷ name 10 ∷ name 100 ∷ name 3 ∷ name 12 ∷ number 310 ∷ [];
+      pos = 0 ∷ 2 ∷ 4 ∷ 1 ∷ 3 ∷ 5 ∷ [];
+      osp = 0 ∷ 2 ∷ 4 ∷ 1 ∷ 3 ∷ 5 ∷ [];
+    }
+
+abbrev pub noRows : Tables
+noRows = record { rows = []; pos = []; osp = [] }
+
+-- the wood with other rows, or with another list
+abbrev pub withRows : List ℕ → Tables
+withRows rows = record { rows = rows; pos = wood .pos; osp = wood .osp }
+
+abbrev pub withOsp : List ℕ → Tables
+withOsp osp = record { rows = wood .rows; pos = wood .pos; osp = osp }
+
+-- ---- plans
+-- the branch ?0 n10 n100, ?0 n12 ?1 with a condition
+abbrev pub branchA : List ℕ → List ℕ
+branchA condition =
+    word branchKind 2 ∷ variable 0 ∷ name 10 ∷ name 100 ∷ variable 0 ∷ name 12 ∷ variable 1 ∷ condition
+
+-- the branch ?0 n10 n100 alone
+abbrev pub branchB : List ℕ
+branchB = word branchKind 1 ∷ variable 0 ∷ name 10 ∷ name 100 ∷ word trueKind 0 ∷ []
+
+abbrev pub always : List ℕ
+always = word trueKind 0 ∷ []
+
+-- ?1 ≥ i70
+abbrev pub atLeast70 : List ℕ
+atLeast70 = word comparisonKind atLeast ∷ variable 1 ∷ number 70 ∷ []
+
+-- n1 < i5, an error
+abbrev pub wrongKinds : List ℕ
+wrongKinds = word comparisonKind lessThan ∷ name 1 ∷ number 5 ∷ []
+
+abbrev pub notError : List ℕ
+notError = word notKind 0 ∷ wrongKinds
+
+abbrev pub orError : List ℕ
+orError = word orKind 0 ∷ word comparisonKind equalTo ∷ number 1 ∷ number 1 ∷ wrongKinds
+
+abbrev pub rows01 : List ℕ
+rows01 = word rowsKind 2 ∷ variable 0 ∷ variable 1 ∷ []
+
+-- the best k rows ?0 ?1 by ?1
+abbrev pub topFalling : ℕ → List ℕ
+topFalling k = word topKind k ∷ (rows01 ++ (word fallingKind 1 ∷ []))
+
+abbrev pub topRising : ℕ → List ℕ
+topRising k = word topKind k ∷ (rows01 ++ (word risingKind 1 ∷ []))
+
+-- the best k rows ?1 by ?1
+abbrev pub topDiameters : ℕ → List ℕ
+topDiameters k = word topKind k ∷ word rowsKind 1 ∷ variable 1 ∷ word fallingKind 1 ∷ []
+
+-- one group, measuring ?1
+abbrev pub group1 : List ℕ
+group1 = word groupKind 0 ∷ variable 1 ∷ []
+
+abbrev pub planWith : List ℕ → List ℕ → List ℕ
+planWith condition ending = word headKind 1 ∷ (branchA condition ++ ending)
+
+abbrev pub planA : List ℕ
+planA = planWith atLeast70 rows01
+
+abbrev pub planTwice : List ℕ
+planTwice = word headKind 2 ∷ (branchA atLeast70 ++ (branchA atLeast70 ++ rows01))
+
+abbrev pub planTop : List ℕ
+planTop = planWith atLeast70 (topFalling 1)
+
+abbrev pub planGroup : List ℕ
+planGroup = planWith always group1
+
+-- rows of branch A, then rows in which ?1 is unbound
+abbrev pub planUnbound : List ℕ
+planUnbound = word headKind 2 ∷ (branchA always ++ (branchB ++ topRising 1))
+
+-- ---- states and rows
+-- a state of branch 0 at some places
+abbrev pub stateAt : List ℕ → List ℕ
+stateAt places = positionWord 0 (length places) ∷ map placeWord places
+
+abbrev pub start : List ℕ
+start = stateAt (0 ∷ [])
+
+-- a row of a stem and its diameter
+abbrev pub stem : ℕ → ℕ → List ℕ
+stem n i = name n ∷ number i ∷ []

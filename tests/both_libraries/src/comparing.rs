@@ -1,0 +1,217 @@
+//! Calls made of both libraries, and compared.
+
+use std::collections::BTreeMap;
+use std::ops::Range;
+use std::process::exit;
+
+use crate::evaluation::calls::{Merge, Open, Query, Turn};
+use crate::evaluation::tables::Tables;
+use crate::evaluation::words::*;
+use crate::histories::{self, Calls};
+use crate::inputs::random::Random;
+use crate::inputs::{calls, damage, plans, woods};
+use crate::lending::{self, Made};
+use crate::libraries::{Library, Turned, Written};
+
+/// Both libraries, and how often each answer came.
+struct Both {
+    proved: Library,
+    portable: Library,
+    came: BTreeMap<String, u64>,
+    calls: u64,
+    seed: u64,
+}
+
+/// What a refused call, or a served one by its number, is counted as.
+fn named(refused: u32, served: &str) -> String {
+    match refused {
+        0 => served.to_string(),
+        number => format!("refused by {number:02}"),
+    }
+}
+
+impl Both {
+    /// The same call of both; a difference ends the program.
+    fn made<C: std::fmt::Debug, T: PartialEq + std::fmt::Debug>(&mut self, call: &C, make: fn(&Library, &C) -> Made<T>) -> Made<T> {
+        let (right, other) = (make(&self.proved, call), make(&self.portable, call));
+        if right != other {
+            println!(
+                "the libraries differ at seed {}\ncall: {call:x?}\nproved: {right:x?}\nportable: {other:x?}",
+                self.seed
+            );
+            exit(1);
+        }
+        self.calls += 1;
+        right
+    }
+
+    fn note(&mut self, what: String) {
+        *self.came.entry(what).or_default() += 1;
+    }
+}
+
+impl Calls for Both {
+    fn open(&mut self, call: &Open) -> (Written, Vec<u32>) {
+        let asked = self.made(&call.plan, lending::least_output);
+        self.note(named(asked.answer.refused, "output asked for"));
+        let made = self.made(call, lending::open);
+        self.note(named(made.answer.refused, "opened"));
+        (made.answer, made.at_exit(0).to_vec())
+    }
+
+    fn turn(&mut self, call: &Turn) -> (Turned, Vec<u32>, Vec<u32>) {
+        let made = self.made(call, lending::turn);
+        let served = ["done", "spent", "full", ""][made.answer.ending as usize];
+        self.note(named(made.answer.refused, served));
+        (made.answer, made.at_exit(0).to_vec(), made.at_exit(1).to_vec())
+    }
+
+    fn merge(&mut self, call: &Merge) -> (Written, Vec<u32>) {
+        let made = self.made(call, lending::merge);
+        self.note(named(made.answer.refused, "merged"));
+        (made.answer, made.at_exit(0).to_vec())
+    }
+}
+
+/// Calls with up to three things changed in each; some of them are still right.
+pub fn damaged(to: &mut impl Calls, random: &mut Random, query: &Query, each: usize) {
+    for _ in 0..each {
+        let mut call = calls::open(random, query);
+        (0..random.below(4)).for_each(|_| damage::open(random, query, &mut call));
+        to.open(&call);
+    }
+    for _ in 0..2 * each {
+        let mut call = calls::turn(random, query);
+        (0..random.below(4)).for_each(|_| damage::turn(random, query, &mut call));
+        to.turn(&call);
+    }
+    for _ in 0..each {
+        let mut call = calls::merge(random, query);
+        (0..random.below(4)).for_each(|_| damage::merge(random, query, &mut call));
+        to.merge(&call);
+    }
+}
+
+/// Up to so many words of any kind, often small ones.
+fn any_words(random: &mut Random, most: usize) -> Vec<u32> {
+    let any = |random: &mut Random| match random.small(4) {
+        0 => random.word(),
+        1 => marked(random.small(16), random.small(20)),
+        2 => term(random.small(4), random.small(4)),
+        _ => random.small(8),
+    };
+    (0..random.below(most + 1)).map(|_| any(random)).collect()
+}
+
+/// Calls whose buffers have nothing to do with each other.
+pub fn made_up(to: &mut impl Calls, random: &mut Random, query: &Query) {
+    let tables = match random.chance(70) {
+        true => query.tables.clone(),
+        false => Tables {
+            rows: any_words(random, 12),
+            pos: any_words(random, 4),
+            osp: any_words(random, 4),
+        },
+    };
+    let plan = if random.chance(50) {
+        query.words.clone()
+    } else {
+        any_words(random, 14)
+    };
+    let (state, given) = (any_words(random, 12), random.below(12));
+    to.open(&Open {
+        tables: tables.clone(),
+        plan: plan.clone(),
+        state: state.clone(),
+    });
+    let (threshold, output, quantum) = (any_words(random, 4), any_words(random, 70), random.word() % 2_000_000);
+    to.turn(&Turn {
+        tables,
+        plan: plan.clone(),
+        state,
+        given,
+        quantum,
+        threshold,
+        output,
+    });
+    let (kept, list) = (any_words(random, 40), any_words(random, 30));
+    to.merge(&Merge {
+        plan,
+        kept,
+        given: random.below(42),
+        list,
+    });
+}
+
+/// The largest woods, and one row more than there may be.
+fn largest(to: &mut impl Calls) {
+    let random = &mut Random::new(65_536);
+    for stems in [32_767, 32_768, 32_769] {
+        let tables = woods::stems(random, stems);
+        let words = plans::plan(random, &tables).words();
+        let mut call = Open {
+            tables,
+            plan: words,
+            state: vec![0; 9],
+        };
+        let (opened, state) = to.open(&call);
+        let (tables, plan) = (call.tables.clone(), call.plan.clone());
+        let output = vec![0; 4096];
+        to.turn(&Turn {
+            tables,
+            plan,
+            state,
+            given: opened.words,
+            quantum: 1_000_000,
+            threshold: vec![],
+            output,
+        });
+        let last = call.tables.pos.len() - 1;
+        call.tables.osp.swap(0, last);
+        to.open(&call);
+    }
+}
+
+/// Every number of a refusal and every ending must come so often in a run of the usual size.
+const OFTEN: u64 = 100;
+
+pub fn compare(file: &str, seeds: Range<u64>) {
+    let (proved, portable) = (Library::proved(), Library::loaded(file));
+    let mut both = Both {
+        proved,
+        portable,
+        came: BTreeMap::new(),
+        calls: 0,
+        seed: 0,
+    };
+    let usual = seeds.end - seeds.start >= 1_000;
+    for seed in seeds.clone() {
+        both.seed = seed;
+        let random = &mut Random::new(seed);
+        let query = plans::short_query(random);
+        damaged(&mut both, random, &query, 4);
+        made_up(&mut both, random, &query);
+    }
+    let (apart, histories) = (both.calls, seeds.end - seeds.start);
+    for seed in seeds {
+        both.seed = seed;
+        let random = &mut Random::new(seed ^ 0x5EED_0000);
+        let query = plans::short_query(random);
+        let quantum = query.run.steps().div_ceil(random.pick(&[1, 2, 4, 16]));
+        histories::play(&mut both, random, &query, quantum, 60);
+    }
+    largest(&mut both);
+    println!("{:?}", both.came);
+    let whats = (1..=14)
+        .map(|number| named(number, ""))
+        .chain(["opened", "done", "spent", "full", "merged"].map(String::from));
+    let rare: Vec<String> = whats
+        .filter(|what| both.came.get(what).copied().unwrap_or(0) < OFTEN)
+        .collect();
+    if usual && !rare.is_empty() {
+        println!("these came less than {OFTEN} times: {}", rare.join(", "));
+        exit(1);
+    }
+    let more = both.calls - apart;
+    println!("{apart} calls, {histories} histories of {more} more: both libraries answer alike, word for word");
+}

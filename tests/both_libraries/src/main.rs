@@ -1,0 +1,66 @@
+//! Makes the same calls of the proved library, which is linked, and of the portable one, which is loaded, and compares all that they
+//! answer and write, word for word. tests/portable builds and runs it.
+//!
+//!     both_libraries PORTABLE.so [--seeds N] [--seed FIRST]      compare
+//!     both_libraries --vectors FILE                              write the test vectors, with the proved library's answers
+//!
+//! Woods, plans, calls and damage come from the generators of bindings/rust's property tests.
+
+#[path = "../../../bindings/rust/tests/properties/evaluation/mod.rs"]
+#[allow(dead_code)]
+mod evaluation;
+#[path = "../../../bindings/rust/tests/properties/inputs/mod.rs"]
+#[allow(dead_code)]
+mod inputs;
+
+mod comparing;
+mod histories;
+mod lending;
+mod libraries;
+mod vectors;
+
+use std::env;
+use std::process::exit;
+
+/// What the command line asks for.
+struct Options {
+    portable: Option<String>,
+    vectors: Option<String>,
+    seeds: u64,
+    first: u64,
+}
+
+fn options() -> Option<Options> {
+    let mut found = Options {
+        portable: None,
+        vectors: None,
+        seeds: 10_000,
+        first: 0,
+    };
+    let mut words = env::args().skip(1);
+    while let Some(word) = words.next() {
+        match &word[..] {
+            "--seeds" => found.seeds = words.next()?.parse().ok()?,
+            "--seed" => found.first = words.next()?.parse().ok()?,
+            "--vectors" => found.vectors = Some(words.next()?),
+            _ => found.portable = Some(word),
+        }
+    }
+    Some(found)
+}
+
+fn main() {
+    match options() {
+        Some(Options { vectors: Some(file), .. }) => vectors::write(&file),
+        Some(Options {
+            portable: Some(file),
+            seeds,
+            first,
+            ..
+        }) => comparing::compare(&file, first..first + seeds),
+        _ => {
+            eprintln!("usage: both_libraries PORTABLE.so [--seeds N] [--seed FIRST] | both_libraries --vectors FILE");
+            exit(2);
+        }
+    }
+}

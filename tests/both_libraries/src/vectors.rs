@@ -1,0 +1,225 @@
+//! Writes the test vectors: calls and histories with the proved library's answers, in the form that tests/vectors/README.md describes.
+
+use std::fs;
+
+use crate::comparing::{damaged, made_up};
+use crate::evaluation::calls::{Merge, Open, Query, Turn};
+use crate::evaluation::plan::{Branch, Condition, Ending, Plan};
+use crate::evaluation::tables::Tables;
+use crate::evaluation::words::*;
+use crate::histories::{self, Calls};
+use crate::inputs::plans;
+use crate::inputs::random::Random;
+use crate::lending;
+use crate::libraries::{Library, Turned, Written};
+
+/// How many queries there are, each with damaged calls, made-up ones and a history.
+const QUERIES: u64 = 80;
+/// The most rows of a query's tables, steps of its run, and turns of its history.
+const ROWS: usize = 12;
+const STEPS: usize = 300;
+const TURNS: usize = 8;
+
+// The instructions.
+const SET: u32 = 1;
+const FILL: u32 = 2;
+const STEMS: u32 = 3;
+const OPEN: u32 = 4;
+const TURN: u32 = 5;
+const MERGE: u32 = 6;
+
+/// The buffers, by their numbers in the file.
+#[derive(Clone, Copy)]
+enum Name {
+    Rows,
+    Pos,
+    Osp,
+    Plan,
+    State,
+    Threshold,
+    Output,
+    Kept,
+    List,
+}
+
+/// The words of a filled buffer.
+fn filled(many: usize) -> Vec<u32> {
+    (1..=many as u32).map(|at| at.wrapping_mul(0x9E37_79B9)).collect()
+}
+
+/// Tables by a rule: so many stems of one stand.
+fn stems(many: u32) -> Tables {
+    let numbers: Vec<u32> = (0..many).collect();
+    let rows = numbers.iter().flat_map(|&stem| [name(stem), name(10), name(100)]).collect();
+    Tables {
+        rows,
+        pos: numbers.clone(),
+        osp: numbers,
+    }
+}
+
+/// The vectors that are being written: what the buffers hold by now, and the words of the file.
+struct Vectors {
+    proved: Library,
+    held: [Vec<u32>; 9],
+    words: Vec<u32>,
+    calls: u32,
+}
+
+impl Vectors {
+    /// Has a buffer hold these words.
+    fn lend(&mut self, buffer: Name, words: &[u32]) {
+        if self.held[buffer as usize] == words {
+            return;
+        }
+        let (number, many) = (buffer as u32, words.len() as u32);
+        if many > 0 && words == filled(words.len()) {
+            self.words.extend([FILL, number, many]);
+        } else {
+            self.words.extend([SET, number, many]);
+            self.words.extend(words);
+        }
+        self.held[buffer as usize] = words.to_vec();
+    }
+
+    fn lend_tables(&mut self, tables: &Tables) {
+        self.lend(Name::Rows, &tables.rows);
+        self.lend(Name::Pos, &tables.pos);
+        self.lend(Name::Osp, &tables.osp);
+    }
+
+    /// Has the tables hold so many stems.
+    fn lend_stems(&mut self, many: u32) -> Tables {
+        let tables = stems(many);
+        self.words.extend([STEMS, many]);
+        self.held[Name::Rows as usize] = tables.rows.clone();
+        self.held[Name::Pos as usize] = tables.pos.clone();
+        self.held[Name::Osp as usize] = tables.osp.clone();
+        tables
+    }
+
+    /// A buffer after a call that wrote so many words to its front.
+    fn written(&mut self, buffer: Name, words: &[u32], many: usize) {
+        self.words.extend(&words[..many]);
+        self.held[buffer as usize] = words.to_vec();
+    }
+}
+
+/// A number of words as the file has it: the largest of a machine is that of 32 bits.
+fn given_word(given: usize) -> u32 {
+    u32::try_from(given).unwrap_or(u32::MAX)
+}
+
+impl Calls for Vectors {
+    fn open(&mut self, call: &Open) -> (Written, Vec<u32>) {
+        let made = lending::open(&self.proved, call);
+        let Written { refused, words } = made.answer;
+        self.lend_tables(&call.tables);
+        self.lend(Name::Plan, &call.plan);
+        self.lend(Name::State, &call.state);
+        self.words.extend([OPEN, refused, words as u32]);
+        self.written(Name::State, made.at_exit(0), words);
+        self.calls += 1;
+        (made.answer, made.at_exit(0).to_vec())
+    }
+
+    fn turn(&mut self, call: &Turn) -> (Turned, Vec<u32>, Vec<u32>) {
+        let call = Turn {
+            output: filled(call.output.len()),
+            ..call.clone()
+        };
+        let made = lending::turn(&self.proved, &call);
+        let Turned {
+            ending,
+            refused,
+            steps,
+            state_words,
+            list_words,
+        } = made.answer;
+        self.lend_tables(&call.tables);
+        self.lend(Name::Plan, &call.plan);
+        self.lend(Name::State, &call.state);
+        self.lend(Name::Threshold, &call.threshold);
+        self.lend(Name::Output, &call.output);
+        self.words
+            .extend([TURN, given_word(call.given), call.quantum, ending, refused, steps]);
+        self.words.extend([state_words as u32, list_words as u32]);
+        self.written(Name::State, made.at_exit(0), state_words);
+        self.written(Name::Output, made.at_exit(1), list_words);
+        self.calls += 1;
+        (made.answer, made.at_exit(0).to_vec(), made.at_exit(1).to_vec())
+    }
+
+    fn merge(&mut self, call: &Merge) -> (Written, Vec<u32>) {
+        let made = lending::merge(&self.proved, call);
+        let Written { refused, words } = made.answer;
+        self.lend(Name::Plan, &call.plan);
+        self.lend(Name::Kept, &call.kept);
+        self.lend(Name::List, &call.list);
+        self.words.extend([MERGE, given_word(call.given), refused, words as u32]);
+        self.written(Name::Kept, made.at_exit(0), words);
+        self.calls += 1;
+        (made.answer, made.at_exit(0).to_vec())
+    }
+}
+
+/// Short queries: damaged and made-up calls, and a history.
+fn short(to: &mut Vectors) {
+    for seed in 0..QUERIES {
+        let random = &mut Random::new(seed);
+        let query: Query = plans::query(random, &[0, ROWS / 2, ROWS], STEPS, 2);
+        let quantum = query.run.steps().div_ceil(random.pick(&[1, 2, 4]));
+        histories::play(to, random, &query, quantum, TURNS);
+        damaged(to, random, &query, 2);
+        made_up(to, random, &query);
+    }
+}
+
+/// The pairs of stems of one stand, counted.
+fn pairs() -> Plan {
+    let patterns = vec![[variable(0), name(10), variable(1)], [variable(2), name(10), variable(1)]];
+    let branches = vec![Branch {
+        patterns,
+        condition: Condition::True,
+    }];
+    Plan {
+        branches,
+        ending: Ending::Group(vec![1], 0),
+    }
+}
+
+/// The most rows and one more, and the most steps of a turn.
+fn long(to: &mut Vectors) {
+    for many in [1_050, 65_535, 65_536, 65_537] {
+        let (tables, plan) = (to.lend_stems(many), pairs().words());
+        let (opened, state) = to.open(&Open {
+            tables: tables.clone(),
+            plan: plan.clone(),
+            state: filled(9),
+        });
+        to.turn(&Turn {
+            tables,
+            plan,
+            state,
+            given: opened.words,
+            quantum: 1_000_000,
+            threshold: vec![],
+            output: filled(9),
+        });
+    }
+}
+
+pub fn write(file: &str) {
+    let proved = Library::proved();
+    let mut made = Vectors {
+        proved,
+        held: Default::default(),
+        words: Vec::new(),
+        calls: 0,
+    };
+    short(&mut made);
+    long(&mut made);
+    let bytes: Vec<u8> = made.words.iter().flat_map(|word| word.to_le_bytes()).collect();
+    fs::write(file, &bytes).expect("the file is written");
+    println!("{} calls in {} bytes", made.calls, bytes.len());
+}

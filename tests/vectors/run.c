@@ -1,0 +1,218 @@
+/* Runs the test vectors of calls.words, whose form README.md has:  run FILE
+ * Prints how many calls were made, and exits with 1 at the first one that answers or writes anything else. */
+#include "sotjarn.h"
+
+#include <inttypes.h>
+#include <stdio.h>
+#include <stdlib.h>
+#include <string.h>
+
+enum { SET = 1, FILL, STEMS, OPEN, TURN, MERGE };
+enum { ROWS, POS, OSP, PLAN, STATE, THRESHOLD, OUTPUT, KEPT, LIST, BUFFERS };
+enum { GUARDS = 8, NUMBERS = 15 };
+
+#define GUARD UINT32_C(0xA5A5C3C3)
+
+/* A buffer: its words as they are lent, between guard words, and as they must be. */
+struct buffer {
+    uint32_t *lent, *right;
+    size_t len;
+};
+
+static struct buffer buffers[BUFFERS];
+static const uint32_t *next, *end;
+static uint32_t calls, refusals[NUMBERS];
+
+static void fail(const char *what)
+{
+    fprintf(stderr, "call %" PRIu32 ": %s\n", calls, what);
+    exit(1);
+}
+
+static uint32_t word(void)
+{
+    if (next == end)
+        fail("the file ends within an instruction");
+    return *next++;
+}
+
+static uint32_t *words_of(int number)
+{
+    return buffers[number].lent + GUARDS;
+}
+
+/* A buffer of so many words, with guard words; the caller sets `right` from the first guard word on. */
+static uint32_t *resize(int number, size_t len)
+{
+    struct buffer *b = &buffers[number];
+    size_t all = len + 2 * GUARDS;
+    b->lent = (uint32_t *)realloc(b->lent, all * sizeof(uint32_t));
+    b->right = (uint32_t *)realloc(b->right, all * sizeof(uint32_t));
+    if (b->lent == NULL || b->right == NULL)
+        fail("there is no memory");
+    b->len = len;
+    for (size_t i = 0; i < all; i++)
+        b->right[i] = GUARD;
+    return b->right + GUARDS;
+}
+
+/* Lends the words that a buffer must have. */
+static void lend(int number)
+{
+    struct buffer *b = &buffers[number];
+    memcpy(b->lent, b->right, (b->len + 2 * GUARDS) * sizeof(uint32_t));
+}
+
+static int buffer_number(void)
+{
+    uint32_t number = word();
+    if (number >= BUFFERS)
+        fail("there is no such buffer");
+    return (int)number;
+}
+
+static void set(int filled)
+{
+    int number = buffer_number();
+    uint32_t len = word();
+    uint32_t *right = resize(number, len);
+    for (uint32_t i = 0; i < len; i++)
+        right[i] = filled ? (i + 1) * UINT32_C(0x9E3779B9) : word();
+    lend(number);
+}
+
+static void stems(void)
+{
+    uint32_t count = word();
+    uint32_t *rows = resize(ROWS, (size_t)3 * count), *pos = resize(POS, count), *osp = resize(OSP, count);
+    for (uint32_t i = 0; i < count; i++) {
+        rows[3 * i] = pos[i] = osp[i] = i;
+        rows[3 * i + 1] = 10;
+        rows[3 * i + 2] = 100;
+    }
+    lend(ROWS);
+    lend(POS);
+    lend(OSP);
+}
+
+/* The words that a call must have written over the front of a buffer. */
+static void must_write(int number, uint32_t count)
+{
+    for (uint32_t i = 0; i < count; i++) {
+        if (i == buffers[number].len)
+            fail("the file has more words than the buffer");
+        buffers[number].right[GUARDS + i] = word();
+    }
+}
+
+/* Every word of every buffer, and beside it, must be right. */
+static void compare(void)
+{
+    for (int i = 0; i < BUFFERS; i++)
+        if (memcmp(buffers[i].lent, buffers[i].right, (buffers[i].len + 2 * GUARDS) * sizeof(uint32_t)))
+            fail("a word in or beside a buffer is not as it must be");
+}
+
+static void count(uint32_t refused)
+{
+    if (refused >= NUMBERS)
+        fail("there is no such refusal");
+    refusals[refused]++;
+}
+
+static void written(struct sotjarn_written made, int number)
+{
+    uint32_t refused = word(), words = word();
+    if (made.refused != refused || made.words != words)
+        fail("the answer is another");
+    count(refused);
+    must_write(number, words);
+}
+
+static void run_open(void)
+{
+    written(sotjarn_open(words_of(ROWS), buffers[ROWS].len, words_of(POS), buffers[POS].len, words_of(OSP), buffers[OSP].len,
+                         words_of(PLAN), buffers[PLAN].len, words_of(STATE), buffers[STATE].len), STATE);
+}
+
+static void run_turn(void)
+{
+    uint32_t given = word(), quantum = word();
+    struct sotjarn_turned made = sotjarn_turn(
+        words_of(ROWS), buffers[ROWS].len, words_of(POS), buffers[POS].len, words_of(OSP), buffers[OSP].len, words_of(PLAN),
+        buffers[PLAN].len, words_of(STATE), buffers[STATE].len, given, quantum, words_of(THRESHOLD), buffers[THRESHOLD].len,
+        words_of(OUTPUT), buffers[OUTPUT].len);
+    uint32_t ending = word(), refused = word(), steps = word(), state_words = word(), list_words = word();
+    if (made.ending != ending || made.refused != refused || made.steps != steps || made.state_words != state_words ||
+        made.list_words != list_words)
+        fail("the answer is another");
+    count(refused);
+    must_write(STATE, state_words);
+    must_write(OUTPUT, list_words);
+}
+
+static void run_merge(void)
+{
+    uint32_t given = word();
+    written(sotjarn_merge(words_of(PLAN), buffers[PLAN].len, words_of(KEPT), buffers[KEPT].len, given, words_of(LIST),
+                          buffers[LIST].len), KEPT);
+}
+
+static void run(void)
+{
+    uint32_t instruction = word();
+    switch (instruction) {
+    case SET: set(0); return;
+    case FILL: set(1); return;
+    case STEMS: stems(); return;
+    case OPEN: run_open(); break;
+    case TURN: run_turn(); break;
+    case MERGE: run_merge(); break;
+    default: fail("there is no such instruction");
+    }
+    compare();
+    calls++;
+}
+
+/* The words of a file. */
+static void read_words(const char *path)
+{
+    FILE *file = fopen(path, "rb");
+    uint32_t *words = NULL;
+    size_t len = 0, room = 0;
+    unsigned char b[4];
+    if (file == NULL)
+        fail("the file cannot be read");
+    while (fread(b, 1, 4, file) == 4) {
+        if (len == room) {
+            room = 2 * room + 1024;
+            words = (uint32_t *)realloc(words, room * sizeof(uint32_t));
+            if (words == NULL)
+                fail("there is no memory");
+        }
+        words[len++] = (uint32_t)b[0] | (uint32_t)b[1] << 8 | (uint32_t)b[2] << 16 | (uint32_t)b[3] << 24;
+    }
+    fclose(file);
+    next = words;
+    end = words + len;
+}
+
+int main(int arguments, char **argument)
+{
+    if (arguments != 2) {
+        fprintf(stderr, "usage: run FILE\n");
+        return 2;
+    }
+    for (int i = 0; i < BUFFERS; i++) {
+        resize(i, 0);
+        lend(i);
+    }
+    read_words(argument[1]);
+    while (next != end)
+        run();
+    for (int i = 1; i < NUMBERS; i++)
+        if (refusals[i] == 0)
+            fail("some refusal never came");
+    printf("%" PRIu32 " calls, %" PRIu32 " served, as by the proved library\n", calls, refusals[0]);
+    return 0;
+}
