@@ -16,8 +16,8 @@ use Rattle.plans.proofs.Bounds.{PlanForm, plan-form, was-read}
 use Rattle.steps.specs.Steps.{after}
 use Rattle.steps.specs.Saved.{leastStateWords}
 use Rattle.steps.proofs.Values.{after-valued}
-use Rattle.lists.proofs.Each.{all-each}
-use Rattle.lists.proofs.EachMore.{each-weaken}
+use Rattle.words.proofs.Each.{all-each}
+use Rattle.words.proofs.EachMore.{each-weaken}
 use Rattle.lists.proofs.Values.{AllValues}
 use Rattle.lists.proofs.Gatherings.{Gathering, gathering}
 use Rattle.turns.specs.Opening.{Opens}

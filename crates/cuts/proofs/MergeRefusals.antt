@@ -23,7 +23,7 @@ use Rattle.plans.specs.Plans.{Plan, planOf, hasForm, readPlan, variablesRight}
 use Rattle.steps.specs.Steps.{Run, after}
 use Rattle.lists.specs.Groups.{addGroups, groupsOf}
 use Rattle.lists.specs.Gathering.{gathered, merged, takenInto, listRight, groupFits, totalsFit}
-use Rattle.lists.proofs.Each.{Each}
+use Rattle.words.proofs.Each.{Each}
 use Rattle.lists.proofs.Values.{AllValues}
 use Rattle.lists.proofs.GroupLists.{groups-in-gathered, groups-append}
 use Rattle.lists.proofs.Gatherings.{Valid}

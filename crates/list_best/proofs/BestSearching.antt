@@ -11,7 +11,7 @@ use Rattle.lists.specs.Rows.{rowBefore}
 use Rattle.lists.specs.Gathering.{recordsIn}
 use Rattle.list_best.specs.BestLists.{Searchable, placeIn}
 use Rattle.lists.proofs.Records.{length-records, records-nil}
-use Rattle.lists.proofs.Best.{Sorted, sorted-take}
+use Rattle.words.proofs.Sorting.{Sorted, sorted-take}
 use Rattle.list_best.proofs.Placing.{place-le, place-back, place-front, sorted-neighbours}
 use Rattle.lists.proofs.RowOrder.{rows-ordered}
 use Rattle.list_best.proofs.RowWords.{records-snoc, records-take, whole-room, whole-less, last-row}

@@ -8,14 +8,15 @@ use mathlib.Core.List.{List, _∷_, _++_, flatten}
 use lib.ListN.{length, take, drop, length-take}
 use lib.Seq.{take-all, take-append-le, take-append-add, length-take-le}
 use Rattle.words.specs.Sequences.{neighbours}
-use Rattle.lists.specs.Rows.{rowBefore, insertBy}
+use Rattle.words.specs.Sorting.{insertBy}
+use Rattle.lists.specs.Rows.{rowBefore}
 use Rattle.lists.specs.Gathering.{recordsIn}
 use Rattle.lists.specs.Delivering.{withBest}
 use Rattle.list_best.specs.BestLists.{BestList, placeIn}
-use Rattle.lists.proofs.Each.{each-take, each-drop}
+use Rattle.words.proofs.Each.{each-take, each-drop}
 use Rattle.lists.proofs.Records.{Wide, wide-insert, wide-records, length-records, count-flatten, records-flatten, flatten-records, whole-flatten}
 use Rattle.lists.proofs.Records.{flatten-append}
-use Rattle.lists.proofs.Best.{Sorted, sorted-take, sorted-insert}
+use Rattle.words.proofs.Sorting.{Sorted, sorted-take, sorted-insert}
 use Rattle.list_best.proofs.Placing.{place-le, insert-place, sorted-neighbours}
 use Rattle.lists.proofs.RowOrder.{rows-ordered}
 use Rattle.list_best.proofs.RowWords.{flatten-take, flatten-drop}

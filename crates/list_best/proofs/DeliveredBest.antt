@@ -11,15 +11,16 @@ use Rattle.words.specs.Sequences.{all, keep, distinct}
 use Rattle.words.proofs.Booleans.{absurd-true, and-right, Decided, yes, no, decided}
 use Rattle.plans.specs.Endings.{top, keyAmong, endingRight}
 use Rattle.plans.proofs.Bounds.{TopForm}
-use Rattle.lists.specs.Rows.{project, rowBefore, insertBy, insertAllBy, sortBy, bestBy, ahead}
+use Rattle.words.specs.Sorting.{insertBy, insertAllBy, sortBy, bestBy}
+use Rattle.lists.specs.Rows.{project, rowBefore, ahead}
 use Rattle.lists.specs.Gathering.{gathered, leastOutput, thresholdRight}
 use Rattle.lists.specs.Delivering.{isAhead, withRow}
 use Rattle.lists.specs.declared.Put.the-variants.{Words}
 use Rattle.lists.specs.Putting.{Taken, Listed}
 use Rattle.list_best.specs.BestLists.{TopParts, BestList, Deliverable}
-use Rattle.lists.proofs.Inserting.{ahead-all, ahead-row}
+use Rattle.lists.proofs.Leaving.{ahead-all, ahead-row}
 use Rattle.lists.proofs.Counts.{keep-append}
-use Rattle.lists.proofs.Best.{take-insert, sort-append, sorted-best, length-best}
+use Rattle.words.proofs.Sorting.{take-insert, sort-append, sorted-best, length-best}
 use Rattle.lists.proofs.RowOrder.{rows-ordered}
 use Rattle.lists.proofs.TopLists.{bestRows, wide-rows, records-gathered}
 use Rattle.list_best.proofs.BestWords.{best-rows}

@@ -9,11 +9,11 @@ use borrow.Author.Tests.{not-true}
 use Rattle.words.specs.Sequences.{neighbours}
 use Rattle.words.proofs.Booleans.{absurd-true, and-left, and-right, Decided, yes, no, decided}
 use Rattle.words.proofs.Orders.{Ordered}
-use Rattle.lists.specs.Rows.{insertBy}
+use Rattle.words.specs.Sorting.{insertBy}
 use Rattle.list_best.specs.BestLists.{placeIn}
-use Rattle.lists.proofs.Inserting.{insert-nil, insert-here, insert-later}
-use Rattle.lists.proofs.Each.{Each}
-use Rattle.lists.proofs.Best.{Sorted}
+use Rattle.words.proofs.Inserting.{insert-nil, insert-here, insert-later}
+use Rattle.words.proofs.Each.{Each}
+use Rattle.words.proofs.Sorting.{Sorted}
 
 module _ {A : Type 0} (before : A → A → Bool) (x : A) where
   place-nil : placeIn before x [] ≡ 0

@@ -10,7 +10,7 @@ use lib.ListN.{length, take, drop, length-append, length-drop, take-append-drop}
 use lib.Seq.{take-nil, drop-nil, take-append-add, drop-append-add, take-at, drop-at, take-add, drop-drop, length-take-le}
 use Rattle.words.specs.Sequences.{parts}
 use Rattle.lists.specs.Gathering.{recordsIn}
-use Rattle.lists.proofs.Each.{each-take}
+use Rattle.words.proofs.Each.{each-take}
 use Rattle.lists.proofs.Records.{Wide, wide-append, wide-records, flatten-records, records-flatten, flatten-append}
 
 module _ (w : ℕ) where

@@ -3,8 +3,8 @@ use mathlib.Core.Path.{_≡_, refl, _∙_, ap}
 use mathlib.Core.Bool.{Bool, true, false, cond}
 use mathlib.Core.List.{List, [], _∷_, _++_}
 use Rattle.lists.specs.Groups.{addBy, addAllBy}
-use Rattle.lists.proofs.Each.{Each}
-use Rattle.lists.proofs.Ascending.{Ahead, Ascending}
+use Rattle.words.proofs.Each.{Each}
+use Rattle.words.proofs.Ascending.{Ahead, Ascending}
 use Rattle.lists.proofs.Adding.{addAll-last}
 
 -- each of the list comes before z

@@ -23,7 +23,7 @@ use Rattle.list_groups.specs.Keys.{keysFirst}
 use Rattle.lists.specs.Sides.{sideBy}
 use Rattle.list_group_merges.specs.Weaving.{walked, recordAt, sides, wordWalk, woven, moreBy, countWalk, unionOf}
 use Rattle.lists.proofs.Keys.{ranks}
-use Rattle.lists.proofs.Ascending.{Ascending}
+use Rattle.words.proofs.Ascending.{Ascending}
 use Rattle.list_group_totals.proofs.RecordAt as at-words
 use Rattle.lists.proofs.GroupWords.{Words, have-keys-in}
 use Rattle.lists.proofs.GroupValid.{right-ascending}

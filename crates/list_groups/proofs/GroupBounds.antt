@@ -13,8 +13,8 @@ use Rattle.words.specs.Bindings.{Bindings, valueOf}
 use Rattle.words.specs.Sequences.{all}
 use Rattle.lists.specs.Groups.{Group, ofRow, together, keysBefore, addBy, addAllBy, addGroups, groupsOf}
 use Rattle.lists.specs.Gathering.{groupFits, longValues}
-use Rattle.lists.proofs.Each.{Each, each-all}
-use Rattle.lists.proofs.EachMore.{each-weaken, each-both}
+use Rattle.words.proofs.Each.{Each, each-all}
+use Rattle.words.proofs.EachMore.{each-weaken, each-both}
 
 -- a total of all groups
 abbrev sumUp : (Group → ℕ) → List Group → ℕ

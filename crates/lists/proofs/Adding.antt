@@ -6,8 +6,8 @@ use mathlib.Core.List.{List, [], _∷_, _++_}
 use Rattle.words.proofs.Booleans.{absurd-true}
 use Rattle.words.proofs.Orders.{Ordered}
 use Rattle.lists.specs.Groups.{addBy, addAllBy}
-use Rattle.lists.proofs.EachMore.{each-weaken}
-use Rattle.lists.proofs.Ascending.{Ahead, Ascending, ahead-less}
+use Rattle.words.proofs.EachMore.{each-weaken}
+use Rattle.words.proofs.Ascending.{Ahead, Ascending, ahead-less}
 
 -- an associative join whose result stands where its first part stands
 pub record Joins {A : Type 0} (before : A → A → Bool) (join : A → A → A) : Type 0 where

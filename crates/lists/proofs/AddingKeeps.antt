@@ -4,8 +4,8 @@ use mathlib.Core.Bool.{Bool, true, false, cond, _&&_}
 use mathlib.Core.List.{List, [], _∷_, map}
 use Rattle.words.specs.Sequences.{neighbours}
 use Rattle.lists.specs.Groups.{addBy, addAllBy}
-use Rattle.lists.proofs.Each.{Each}
-use Rattle.lists.proofs.Ascending.{Ahead, Ascending}
+use Rattle.words.proofs.Each.{Each}
+use Rattle.words.proofs.Ascending.{Ahead, Ascending}
 
 -- ---- a property of each element
 module _ {A : Type 0} (P : A → Type 0) (before : A → A → Bool) (join : A → A → A)

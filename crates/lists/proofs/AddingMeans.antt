@@ -10,9 +10,9 @@ use Rattle.lists.proofs.Counts.{keep-append}
 use Rattle.lists.proofs.Stable.{alike}
 use Rattle.lists.proofs.Alike.{Among, here, there, neither-like, less-unlike, more-unlike, like-self, like-join, unlike}
 use Rattle.lists.proofs.Keeping.{keep-agree, keep-none}
-use Rattle.lists.proofs.Each.{Each, each-append}
-use Rattle.lists.proofs.EachMore.{each-weaken, each-always}
-use Rattle.lists.proofs.Ascending.{ahead-less, Ascending}
+use Rattle.words.proofs.Each.{Each, each-append}
+use Rattle.words.proofs.EachMore.{each-weaken, each-always}
+use Rattle.words.proofs.Ascending.{ahead-less, Ascending}
 use Rattle.lists.proofs.Adding.{Joins, Places, less, same, more, places, add-nil, add-less, add-more, add-same, same-less, ascending-add}
 
 -- elements joined from the first on

@@ -5,7 +5,7 @@ use mathlib.Core.List.{List, _∷_}
 use borrow.Author.Tests.{not-true}
 use Rattle.words.proofs.Booleans.{absurd-true, and-left, and-right}
 use Rattle.lists.proofs.Stable.{alike}
-use Rattle.lists.proofs.Each.{Each}
+use Rattle.words.proofs.Each.{Each}
 use Rattle.lists.proofs.Adding.{Joins, same-left}
 
 -- an element of the place of y

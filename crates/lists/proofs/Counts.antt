@@ -7,8 +7,10 @@ use mathlib.Core.List.{List, [], _∷_, _++_}
 use lib.ListN.{length, take, length-append}
 use Rattle.words.specs.Sequences.{keep}
 use Rattle.words.proofs.Booleans.{Decided, yes, no, decided}
-use Rattle.lists.specs.Rows.{insertBy, insertAllBy, sortBy, bestBy, ahead}
-use Rattle.lists.proofs.Inserting.{insert-nil, insert-here, insert-later, ahead-all, ahead-row}
+use Rattle.words.specs.Sorting.{insertBy, insertAllBy, sortBy, bestBy}
+use Rattle.lists.specs.Rows.{ahead}
+use Rattle.words.proofs.Inserting.{insert-nil, insert-here, insert-later}
+use Rattle.lists.proofs.Leaving.{ahead-all, ahead-row}
 
 abbrev pub count : {A : Type 0} → (A → Bool) → List A → ℕ
 count f xs = length (keep f xs)

@@ -8,8 +8,8 @@ use Rattle.words.specs.Bindings.{Bindings, valueOf}
 use Rattle.plans.specs.Endings.{group}
 use Rattle.lists.specs.Groups.{Group, ofRow, together, keysBefore, addBy, addAllBy, addGroups, groupsOf, groupWords}
 use Rattle.lists.specs.Gathering.{groupsIn, gathered, merged}
-use Rattle.lists.proofs.Each.{each-map}
-use Rattle.lists.proofs.Ascending.{Ascending}
+use Rattle.words.proofs.Each.{each-map}
+use Rattle.words.proofs.Ascending.{Ascending}
 use Rattle.lists.proofs.Adding.{addAll-last}
 use Rattle.lists.proofs.GroupWords.{HaveKeys, groups-in-words}
 use Rattle.lists.proofs.GroupsAdded.{have-addAll, groups-ascending, groups-parts}

@@ -10,8 +10,8 @@ use Rattle.words.specs.Sequences.{all}
 use Rattle.lists.specs.Rows.{project}
 use Rattle.lists.specs.Groups.{Group, ofRow, keysBefore, addAllBy, addGroups, groupsOf}
 use Rattle.lists.specs.Gathering.{groupRight}
-use Rattle.lists.proofs.Each.{Each}
-use Rattle.lists.proofs.EachMore.{each-weaken, each-mapped}
+use Rattle.words.proofs.Each.{Each}
+use Rattle.words.proofs.EachMore.{each-weaken, each-mapped}
 use Rattle.lists.proofs.Stable.{alike}
 use Rattle.lists.proofs.Keys.{sameWords, place-keys}
 use Rattle.lists.proofs.AddingKeeps.{each-addAll}

@@ -13,10 +13,10 @@ use Rattle.words.proofs.Booleans.{and-left, and-right}
 use Rattle.plans.specs.Endings.{group}
 use Rattle.lists.specs.Groups.{Group, totalsWidth, ofRow, together, keysBefore, addBy, addAllBy, addGroups, groupsOf, groupWords}
 use Rattle.lists.specs.Gathering.{groupsIn, gathered, merged, groupRight, listRight, leastOutput}
-use Rattle.lists.proofs.Each.{Each, all-each, each-all}
-use Rattle.lists.proofs.EachMore.{each-mapped}
+use Rattle.words.proofs.Each.{Each, all-each, each-all}
+use Rattle.words.proofs.EachMore.{each-mapped}
 use Rattle.lists.proofs.Records.{whole-flatten, length-flatten}
-use Rattle.lists.proofs.Ascending.{Ascending, ascending-neighbours}
+use Rattle.words.proofs.Ascending.{Ascending, ascending-neighbours}
 use Rattle.lists.proofs.AddingKeeps.{each-addAll}
 use Rattle.lists.proofs.GroupWords.{HaveKeys, wide-words, groups-in-words, have-keys-in}
 use Rattle.lists.proofs.GroupsAdded.{have-addAll, groups-ascending, neighbours-keyed}

@@ -10,7 +10,7 @@ use lib.Seq.{take-at, drop-cons, getD-append-add, getD-take, getD-drop, length-t
 use Rattle.words.specs.Sequences.{parts}
 use Rattle.lists.specs.Groups.{Group, totalsWidth, wordValues, twoWords, pairAt, groupWords, groupIn}
 use Rattle.lists.specs.Gathering.{recordsIn, groupsIn}
-use Rattle.lists.proofs.Each.{Each}
+use Rattle.words.proofs.Each.{Each}
 use Rattle.lists.proofs.Records.{Wide, records-flatten, flatten-records, wide-records}
 
 -- the words after the keys

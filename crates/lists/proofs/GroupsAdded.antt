@@ -9,7 +9,7 @@ use Rattle.words.specs.Words.{keyRank}
 use Rattle.words.specs.Sequences.{neighbours}
 use Rattle.words.proofs.Orders.{lex-ordered}
 use Rattle.lists.specs.Groups.{Group, together, keysBefore, addBy, addAllBy, addGroups}
-use Rattle.lists.proofs.Ascending.{Ascending, neighbours-ascending}
+use Rattle.words.proofs.Ascending.{Ascending, neighbours-ascending}
 use Rattle.lists.proofs.Adding.{Joins, ascending-addAll, add-twice, addAll-append}
 use Rattle.lists.proofs.AddingKeeps.{each-addAll, ascending-map, ascending-unmap, neighbours-map, add-map, addAll-map}
 use Rattle.lists.proofs.Keys.{ranks}

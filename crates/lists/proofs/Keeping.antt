@@ -4,7 +4,7 @@ use mathlib.Core.Bool.{Bool, true, false, cond}
 use mathlib.Core.List.{List, [], _∷_, map, List·Memᴰ, List·Memᴰ·head, List·Memᴰ·tail, List·Memᴰ·cases-cons}
 use mathlib.Core.Logic.{inl, inr}
 use Rattle.words.specs.Sequences.{keep}
-use Rattle.lists.proofs.Each.{Each}
+use Rattle.words.proofs.Each.{Each}
 
 -- by tests that agree at each element
 pub keep-agree : {A : Type 0} (f g : A → Bool) (xs : List A) → Each (λ x. f x ≡ g x) xs → keep f xs ≡ keep g xs

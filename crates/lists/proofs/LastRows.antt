@@ -9,9 +9,9 @@ use lib.ListN.{length, drop, length-append}
 use lib.Seq.{drop-append-add}
 use Rattle.words.proofs.Booleans.{yes, no, decided}
 use Rattle.words.proofs.Orders.{Ordered}
-use Rattle.lists.proofs.Each.{Each}
+use Rattle.words.proofs.Each.{Each}
 use Rattle.lists.proofs.Records.{Wide, length-flatten}
-use Rattle.lists.proofs.Best.{Sorted}
+use Rattle.words.proofs.Sorting.{Sorted}
 use Rattle.lists.proofs.Counts.{count, count-nil, count-yes}
 use Rattle.lists.proofs.Thresholds.{upTo}
 

@@ -1,14 +1,11 @@
 pub mod Moving
 pub mod Writing
-pub mod Inserting
-pub mod Each
+pub mod Leaving
 pub mod Records
-pub mod Best
 pub mod Counts
 pub mod Thresholds
 pub mod RowOrder
 pub mod TopLists
-pub mod Ascending
 pub mod Adding
 pub mod GroupWords
 pub mod Extremes
@@ -22,7 +19,6 @@ pub mod FullLists
 pub mod Values
 pub mod TopValid
 pub mod Stable
-pub mod EachMore
 pub mod Keeping
 pub mod Alike
 pub mod AddingMeans

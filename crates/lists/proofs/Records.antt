@@ -10,9 +10,11 @@ use lib.ListN.{length, take, drop, length-append, length-map, length-drop, take-
 use lib.Seq.{take-at, drop-at, length-take-le}
 use Rattle.words.specs.Bindings.{Bindings, valueOf}
 use Rattle.words.specs.Sequences.{parts}
-use Rattle.lists.specs.Rows.{project, insertBy, bestBy, ahead}
+use Rattle.words.specs.Sorting.{insertBy, bestBy}
+use Rattle.lists.specs.Rows.{project, ahead}
 use Rattle.lists.specs.Gathering.{recordsIn}
-use Rattle.lists.proofs.Each.{Each, each-map, each-append, each-insert, each-best, each-ahead}
+use Rattle.words.proofs.Each.{Each, each-map, each-append, each-insert, each-best}
+use Rattle.lists.proofs.Leaving.{each-ahead}
 
 -- each list has w words
 abbrev pub Wide : ℕ → List (List ℕ) → Type 0

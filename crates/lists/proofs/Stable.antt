@@ -6,12 +6,12 @@ use Rattle.words.specs.Sequences.{keep}
 use Rattle.words.proofs.Booleans.{absurd-true, and-left, Decided, yes, no, decided}
 use Rattle.words.proofs.Orders.{Ordered}
 use borrow.Author.Tests.{not-true}
-use Rattle.lists.specs.Rows.{insertBy, insertAllBy, sortBy}
-use Rattle.lists.proofs.Inserting.{insert-nil, insert-here, insert-later}
-use Rattle.lists.proofs.Each.{Each}
+use Rattle.words.specs.Sorting.{insertBy, insertAllBy, sortBy}
+use Rattle.words.proofs.Inserting.{insert-nil, insert-here, insert-later}
+use Rattle.words.proofs.Each.{Each}
 use Rattle.lists.proofs.Keeping.{keep-none}
 use Rattle.lists.proofs.Counts.{keep-nil, keep-yes, keep-no, keep-append}
-use Rattle.lists.proofs.Best.{Sorted, sorted-insert}
+use Rattle.words.proofs.Sorting.{Sorted, sorted-insert}
 
 -- neither comes before the other
 abbrev pub alike : {A : Type 0} → (A → A → Bool) → A → A → Bool

@@ -8,11 +8,11 @@ use lib.ListN.{take}
 use Rattle.words.specs.Sequences.{keep}
 use Rattle.words.proofs.Booleans.{absurd-true, Decided, yes, no, decided}
 use Rattle.words.proofs.Orders.{Ordered}
-use Rattle.lists.specs.Rows.{insertBy, insertAllBy, sortBy, bestBy}
-use Rattle.lists.proofs.Inserting.{insert-later}
-use Rattle.lists.proofs.Each.{Each}
+use Rattle.words.specs.Sorting.{insertBy, insertAllBy, sortBy, bestBy}
+use Rattle.words.proofs.Inserting.{insert-later}
+use Rattle.words.proofs.Each.{Each}
 use Rattle.lists.proofs.Counts.{count, count-nil, count-no, count-more, count-insert, count-sort}
-use Rattle.lists.proofs.Best.{Sorted, sorted-insert, sorted-sort, take-insertAll, sort-append}
+use Rattle.words.proofs.Sorting.{Sorted, sorted-insert, sorted-sort, take-insertAll, sort-append}
 
 -- up to a limit: not after it
 abbrev pub upTo : {A : Type 0} → (A → A → Bool) → A → A → Bool

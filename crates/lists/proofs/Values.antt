@@ -11,7 +11,7 @@ use Rattle.words.proofs.Booleans.{yes, no, decided}
 use Rattle.words.proofs.Elements.{all-getD, all-take, all-append}
 use Rattle.lists.specs.Rows.{project}
 use Rattle.lists.specs.Gathering.{recordsIn}
-use Rattle.lists.proofs.Each.{Each, each-map, each-all, all-drop}
+use Rattle.words.proofs.Each.{Each, each-map, each-all, all-drop}
 
 -- each word of each list is one that a delivered row may have
 abbrev pub AllValues : List (List ℕ) → Type 0

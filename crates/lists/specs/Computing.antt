@@ -2,7 +2,8 @@
 use Rattle.lists.specs.Delivering.{withRow}
 use Rattle.lists.specs.Gathering.{recordsIn, gathered, thresholdRight, merged, groupRight, listRight, totalsFit}
 use Rattle.lists.specs.Groups.{lesser, greater, keysBefore, addBy, addAllBy, groupWords, groupIn}
-use Rattle.lists.specs.Rows.{indexOf, rowRanks, rowBefore, insertBy, insertAllBy, sortBy, bestBy, ahead}
+use Rattle.words.specs.Sorting.{insertBy, insertAllBy, sortBy, bestBy}
+use Rattle.lists.specs.Rows.{indexOf, rowRanks, rowBefore, ahead}
 
 unfoldable pub computing : Unit {0}
 unfolding withRow recordsIn gathered thresholdRight merged groupRight listRight totalsFit lesser greater keysBefore addBy addAllBy groupWords groupIn

@@ -5,7 +5,8 @@ use mathlib.Core.Bool.{Bool, true, cond}
 use lib.ListN.{length, take}
 use Rattle.words.specs.Bindings.{Bindings}
 use Rattle.plans.specs.Endings.{Ending, rows, top, group}
-use Rattle.lists.specs.Rows.{project, rowBefore, insertBy}
+use Rattle.words.specs.Sorting.{insertBy}
+use Rattle.lists.specs.Rows.{project, rowBefore}
 use Rattle.lists.specs.Groups.{ofRow, addBy, keysBefore, together, groupWords}
 use Rattle.lists.specs.Gathering.{recordsIn, groupsIn}
 

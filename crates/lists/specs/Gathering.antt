@@ -9,7 +9,8 @@ use Rattle.words.specs.Words.{isNumber, isValue, valueRank, unbound}
 use Rattle.words.specs.Bindings.{Bindings}
 use Rattle.words.specs.Sequences.{all, neighbours, parts}
 use Rattle.plans.specs.Endings.{Ending, rows, top, group}
-use Rattle.lists.specs.Rows.{project, rowBefore, bestBy, ahead}
+use Rattle.words.specs.Sorting.{bestBy}
+use Rattle.lists.specs.Rows.{project, rowBefore, ahead}
 use Rattle.lists.specs.Groups.{Group, totalsWidth, groupsOf, addGroups, keysBefore, groupWords, groupIn}
 
 -- ---- records

@@ -1,8 +1,8 @@
--- Delivered rows, their order by keys, and the best of them. Assumes nothing: these are definitions.
+-- Delivered rows, their order by keys, and what a threshold leaves of them. Assumes nothing: these are definitions.
 use Prim.Native.Nat.{ℕ, suc, _-_}
 use mathlib.Core.List.{List, [], _∷_, map}
 use mathlib.Core.Bool.{Bool, cond}
-use lib.ListN.{getD, take}
+use lib.ListN.{getD}
 use lib.Dec.{eqb}
 use Rattle.words.specs.Words.{variable, low, kind, fallingKind, unbound, keyRank, lastRank}
 use Rattle.words.specs.Bindings.{Bindings, valueOf}
@@ -33,24 +33,7 @@ rowRanks vs keys row = map (λ key. rankBy key (keyValue vs row key)) keys
 unfoldable pub rowBefore : List ℕ → List ℕ → List ℕ → List ℕ → Bool
 rowBefore vs keys x y = lexBefore (rowRanks vs keys x) (rowRanks vs keys y)
 
--- ---- the best of some rows, in any such order
--- x after all that it does not come before: equal rows keep their order
-unfoldable pub insertBy {ℓ} : {A : Type ℓ} → (A → A → Bool) → A → List A → List A
-insertBy before x [] = x ∷ []
-insertBy before x (y ∷ ys) = cond (before x y) (x ∷ y ∷ ys) (y ∷ insertBy before x ys)
-
--- the rows of ys, one after the other, put in among the sorted xs
-unfoldable pub insertAllBy {ℓ} : {A : Type ℓ} → (A → A → Bool) → List A → List A → List A
-insertAllBy before xs [] = xs
-insertAllBy before xs (y ∷ ys) = insertAllBy before (insertBy before y xs) ys
-
-unfoldable pub sortBy {ℓ} : {A : Type ℓ} → (A → A → Bool) → List A → List A
-sortBy before xs = insertAllBy before [] xs
-
--- the first k of the sorted rows
-unfoldable pub bestBy {ℓ} : {A : Type ℓ} → (A → A → Bool) → ℕ → List A → List A
-bestBy before k xs = take k (sortBy before xs)
-
+-- ---- what a threshold leaves
 -- the rows strictly before a threshold row, and all where it is empty
 unfoldable pub ahead : (List ℕ → List ℕ → Bool) → List ℕ → List (List ℕ) → List (List ℕ)
 ahead before [] xs = xs

@@ -2,7 +2,7 @@
 use mathlib.Core.Path.{sym, subst}
 use mathlib.Core.List.{List, [], _∷_, _++_, map, List·Memᴰ, List·Memᴰ·head, List·Memᴰ·tail, List·Permᴰ, List·Permᴰ·nil}
 use mathlib.Core.List.{List·Permᴰ·cons, List·Permᴰ·swap, List·Permᴰ·trans}
-use Rattle.lists.proofs.Each.{Each}
+use Rattle.words.proofs.Each.{Each}
 
 pub each-weaken : {A : Type 0} {P Q : A → Type 0} → ((x : A) → P x → Q x) → (xs : List A) → Each P xs → Each Q xs
 each-weaken f [] p = tt

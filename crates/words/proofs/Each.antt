@@ -4,10 +4,10 @@ use mathlib.Core.Path.{_≡_, refl}
 use mathlib.Core.Bool.{Bool, true}
 use mathlib.Core.List.{List, [], _∷_, _++_, map}
 use lib.ListN.{take, drop}
 use Rattle.words.specs.Sequences.{all, keep}
 use Rattle.words.proofs.Booleans.{and-left, and-right, and-both, yes, no, decided}
-use Rattle.lists.specs.Rows.{insertBy, insertAllBy, sortBy, bestBy, ahead}
-use Rattle.lists.proofs.Inserting.{insert-nil, insert-here, insert-later, ahead-all, ahead-row}
+use Rattle.words.specs.Sorting.{insertBy, insertAllBy, sortBy, bestBy}
+use Rattle.words.proofs.Inserting.{insert-nil, insert-here, insert-later}
 
 abbrev pub Each : {A : Type 0} → (A → Type 0) → List A → Type 0
 Each P [] = Unit {0}
@@ -58,11 +58,6 @@ module _ {A : Type 0} (P : A → Type 0) where
     unfolding bestBy sortBy
     each-best k xs p = each-take k (insertAllBy before [] xs) (each-insertAll xs [] p tt)
 
-pub each-ahead : (P : List ℕ → Type 0) (before : List ℕ → List ℕ → Bool) (threshold : List ℕ) (xs : List (List ℕ))
-    → Each P xs → Each P (ahead before threshold xs)
-each-ahead P before [] xs p = rw (ahead-all before xs) p
-each-ahead P before (w ∷ ws) xs p = rw (ahead-row before w ws xs) (each-keep P (λ x. before x (w ∷ ws)) xs p)
-
 -- ---- a test that passes at each element
 module _ {A : Type 0} (f : A → Bool) where
   pub each-kept : (xs : List A) → Each (λ x. f x ≡ true) (keep f xs)
@@ -82,8 +77,3 @@ module _ {A : Type 0} (f : A → Bool) where
 
   pub all-drop : (k : ℕ) (xs : List A) → all f xs ≡ true → all f (drop k xs) ≡ true
   all-drop k xs p = each-all (drop k xs) (each-drop (λ x. f x ≡ true) k xs (all-each xs p))
-
--- each row that a threshold leaves comes strictly before it
-pub each-strict : (before : List ℕ → List ℕ → Bool) (w : ℕ) (ws : List ℕ) (xs : List (List ℕ))
-    → Each (λ (x : List ℕ). before x (w ∷ ws) ≡ true) (ahead before (w ∷ ws) xs)
-each-strict before w ws xs = rw (ahead-row before w ws xs) (each-kept (λ x. before x (w ∷ ws)) xs)

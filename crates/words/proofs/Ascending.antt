@@ -2,11 +2,11 @@
 use mathlib.Core.Path.{_≡_, refl}
 use mathlib.Core.Bool.{Bool, true}
 use mathlib.Core.List.{List, [], _∷_}
 use Rattle.words.specs.Sequences.{neighbours}
 use Rattle.words.proofs.Booleans.{and-left, and-right, and-both}
 use Rattle.words.proofs.Orders.{Ordered}
-use Rattle.lists.proofs.Each.{Each}
-use Rattle.lists.proofs.EachMore.{each-weaken}
+use Rattle.words.proofs.Each.{Each}
+use Rattle.words.proofs.EachMore.{each-weaken}
 
 -- x comes before each of the list; each comes before all later ones
 abbrev pub Ahead : {A : Type 0} → (A → A → Bool) → A → List A → Type 0
