@@ -10,10 +10,10 @@ use Rattle.turns.specs.Opening.{openOf}
 use Rattle.queries.specs.declared.Keeping.the-variants.{Merged}
 use Rattle.queries.specs.declared.Played.{Played}
 use Rattle.queries.specs.Playing.{Leaves, Shows}
-use Rattle.print_rounds.specs.declared.Listing.{Listing}
-use Rattle.print_rounds.specs.Listings.{ListsOf}
-use Rattle.print_rounds.specs.FileQueries.{fileTables, filePlan, fileQuantum, Asks, stateRoom, outputRoom, keptRoom}
-use Rattle.print_rounds.specs.Shown.{mostTurns, CanOpen, TurnShown, RefusedBy, by-opening, LeftToShow}
+use Rattle.print_writing.specs.declared.Listing.{Listing}
+use Rattle.print_writing.specs.Listings.{ListsOf}
+use Rattle.print_writing.specs.FileQueries.{fileTables, filePlan, fileQuantum, Asks, stateRoom, outputRoom, keptRoom}
+use Rattle.print_writing.specs.Shown.{mostTurns, CanOpen, TurnShown, RefusedBy, by-opening, LeftToShow}
 use Rattle.print_rounds.proofs.KeptLists.{left-to-show}
 
 module _ (bytes rows pos osp plan : List ℕ) (quantum : ℕ) (a : Asks bytes rows pos osp plan quantum) where

@@ -10,7 +10,7 @@ use Rattle.print_lines.specs.declared.FileParts.{FileParts}
 use Rattle.print_lines.specs.declared.Layout.the-variants.{Parts}
 use Rattle.print_lines.specs.Files.{fileWords, rowCountIn, posAt, ospAt, planAt, partsOf, layoutOf}
 use Rattle.print_lines.proofs.LaidOut.{file-counted}
-use Rattle.print_rounds.specs.FileQueries.{rowsIn, posIn, ospIn, planIn, fileTables, filePlan, fileQuantum, Asks}
+use Rattle.print_writing.specs.FileQueries.{rowsIn, posIn, ospIn, planIn, fileTables, filePlan, fileQuantum, Asks}
 
 -- a part that lies within the first words
 part-of : (k a w : ℕ) (xs : List ℕ) → a + k ≤ w → take k (drop a (take w xs)) ≡ take k (drop a xs)

@@ -23,8 +23,8 @@ use Rattle.queries.specs.declared.Played.the-variants.{Finished, Unfinished, St
 use Rattle.queries.specs.Stepping.{keptOf}
 use Rattle.queries.specs.Playing.{keptAfter, Leaves, IsWhole}
 use Rattle.queries.proofs.Showing.{kept-at-end}
-use Rattle.print_rounds.specs.FileQueries.{fileTables, filePlan, fileQuantum, IsAccepted, outputRoom, keptRoom}
-use Rattle.print_rounds.specs.Shown.{mostTurns, CanOpen, by-turns, LeftToShow}
+use Rattle.print_writing.specs.FileQueries.{fileTables, filePlan, fileQuantum, IsAccepted, outputRoom, keptRoom}
+use Rattle.print_writing.specs.Shown.{mostTurns, CanOpen, by-turns, LeftToShow}
 
 -- nothing is kept of a row query; any other list that test 12 passes is whole rows or records
 valid-whole : (e : Ending) (ws : List ℕ) → Valid e ws → length (keptOf Merged e ws) % width e ≡ 0

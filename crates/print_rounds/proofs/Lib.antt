@@ -1,8 +1,6 @@
-pub mod Widths
 pub mod TurnLists
 pub mod KeptLists
 pub mod Asking
 pub mod FileParts
-pub mod LineBytes
 pub mod Steps
 pub mod Openings

@@ -7,7 +7,7 @@ use Rattle.tables.specs.Tables.{Tables}
 use Rattle.plans.specs.Plans.{readPlan, hasForm}
 use Rattle.queries.specs.Playing.{Started}
 use Rattle.queries.proofs.Starting.{start-accepts}
-use Rattle.print_rounds.specs.Shown.{CanOpen}
+use Rattle.print_writing.specs.Shown.{CanOpen}
 
 module _ (t : Tables) (plan state : List ℕ) (saved : ℕ) (s : Started t plan state saved) where
   pub started-form : hasForm (readPlan plan) ≡ true

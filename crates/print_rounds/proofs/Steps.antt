@@ -14,7 +14,7 @@ use Rattle.queries.specs.Stepping.{isServed, takeTurnOf}
 use Rattle.queries.specs.Playing.{StandsAfter, Shows}
 use Rattle.queries.proofs.Taking.{step-turned, step-output}
 use Rattle.queries.proofs.Showing.{shows}
-use Rattle.print_rounds.specs.Shown.{CanOpen}
+use Rattle.print_writing.specs.Shown.{CanOpen}
 use Rattle.print_rounds.proofs.TurnLists.{listed-room}
 
 module _ (i : TurnInput) (kept : List ℕ) (used : ℕ) (r : Step) (state out left : List ℕ)

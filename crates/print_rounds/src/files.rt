@@ -1,8 +1,8 @@
 // A file of the printer: opened, read, and its query opened.
-use crate::lines::print_refused;
 use crate::running::run;
 use print_lines::FileParts;
 use print_lines::Layout;
+use print_writing::print_refused;
 use turn_calls::STATE_WORDS;
 use words::Written;
 ghost use mathlib.Core.Path.{_≡_};

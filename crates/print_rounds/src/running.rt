@@ -1,8 +1,8 @@
 // An opened query: its turns until it is done, each printed, and then its merged list.
-use crate::Listing;
-use crate::plan_lists::lists_of;
 use crate::showing::print_played;
 use crate::showing::print_shown;
+use print_writing::Listing;
+use print_writing::lists_of;
 use queries::Keeping;
 use queries::Played;
 use queries::Went;
@@ -17,9 +17,9 @@ ghost use Rattle.queries.specs.declared.Keeping.the-variants.{Merged};
 ghost use Rattle.queries.specs.Stepping.{takeTurnOf};
 ghost use Rattle.queries.specs.Rounds.{buffers, advanced, firstPosition, rounds, resultAt};
 ghost use Rattle.queries.specs.Playing.{StandsAfter, Started};
-ghost use Rattle.print_rounds.specs.Listings.{ListsOf};
-ghost use Rattle.print_rounds.specs.FileQueries.{Asks, outputRoom};
-ghost use Rattle.print_rounds.specs.Shown.{mostTurns, CanOpen};
+ghost use Rattle.print_writing.specs.Listings.{ListsOf};
+ghost use Rattle.print_writing.specs.FileQueries.{Asks, outputRoom};
+ghost use Rattle.print_writing.specs.Shown.{mostTurns, CanOpen};
 
 // The rows or records that the output holds.
 pub const OUTPUT_RECORDS: usize = 64;
@@ -52,7 +52,7 @@ fn print_step(
         ≡ advanced (takeTurnOf Merged (turnInput (now (rows .entry)) (now (pos .entry)) (now (osp .entry)) (now (plan .entry)) (now (state .entry))
         saved quantum [] (now (output .entry))) (now (kept .entry)) used) ⌝ }
 {
-    let step = queries::take_turn(
+    let step = query_plays::take_turn(
         rows,
         pos,
         osp,
@@ -69,10 +69,10 @@ fn print_step(
     let listed = turned.listed;
     let number = made + 1;
     print_shown(bytes, number, turned, &output[..listed], lists);
-    queries::outcome(step)
+    query_plays::outcome(step)
 }
 
-// The turns from an opening's state on, each printed: the loop of `queries::play`, with the rows of a turn printed where that keeps them.
+// The turns from an opening's state on, each printed: the loop of `query_plays::play`, with the rows of a turn printed where that keeps them.
 fn go_on(
     bytes: &[u8],
     rows: &[u32],

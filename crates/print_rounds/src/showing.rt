@@ -1,10 +1,10 @@
 // What is printed of a file's query: each turn with its rows, and at its end the merged list, or the number that stopped it. All of it is the
 // uncut run's.
-use crate::Listing;
-use crate::lines::print_list;
-use crate::lines::print_refused;
-use crate::lines::print_turn;
 use plans::Last;
+use print_writing::Listing;
+use print_writing::print_list;
+use print_writing::print_refused;
+use print_writing::print_turn;
 use queries::Played;
 use turns::Turned;
 ghost use mathlib.Core.Path.{_≡_};
@@ -13,9 +13,9 @@ ghost use Prim.Native.Nat.{_%_};
 ghost use lib.ListN.{length};
 ghost use Rattle.plans.specs.declared.Last.the-variants.{Rows};
 ghost use Rattle.queries.specs.Stepping.{isServed};
-ghost use Rattle.print_rounds.specs.Listings.{ListsOf, HasWidth};
-ghost use Rattle.print_rounds.specs.FileQueries.{fileTables, filePlan};
-ghost use Rattle.print_rounds.specs.Shown.{CanOpen, TurnShown, ListShown, LeftToShow};
+ghost use Rattle.print_writing.specs.Listings.{ListsOf, HasWidth};
+ghost use Rattle.print_writing.specs.FileQueries.{fileTables, filePlan};
+ghost use Rattle.print_writing.specs.Shown.{CanOpen, TurnShown, ListShown, LeftToShow};
 
 // The rows that a turn of a row query delivered; no other list is printed before it is merged.
 fn print_delivered(lists: Listing, list: &[u32])
@@ -37,7 +37,7 @@ pub fn print_shown(bytes: &[u8], number: u64, turned: Turned, list: &[u32], list
     requires { ⌜ (isServed (turned .ending) ≡ true → TurnShown (now bytes) number turned (now list)) ⌝ }
 {
     let ending = turned.ending;
-    if queries::is_served(ending) {
+    if query_plays::is_served(ending) {
         print_turn(bytes, number, turned, list);
         print_delivered(lists, list);
     }

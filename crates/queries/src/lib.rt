@@ -1,11 +1,4 @@
-// A whole query, played over lent buffers: opened, run turn by turn, and the list of each turn taken.
-mod playing;
-mod stepping;
-
-pub use playing::play;
-pub use stepping::is_served;
-pub use stepping::outcome;
-pub use stepping::take_turn;
+// How a query is played: what its player keeps, what one turn of it comes to, and how it goes on and ends.
 use turns::Turned;
 use words::Written;
 

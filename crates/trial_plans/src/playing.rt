@@ -33,7 +33,7 @@ fn play_cut(
     let mut state = [0u32; STATE_WORDS];
     let mut output = [0u32; 1024];
     let mut kept = [0u32; 1024];
-    let played = queries::play(
+    let played = query_plays::play(
         rows,
         pos,
         osp,

@@ -5,7 +5,7 @@ use mathlib.Core.Path.{sym, _∙_, ap}
 use lib.ListN.{take}
 use Rattle.print_lines.specs.Files.{FileRead}
 use Rattle.print_lines.proofs.LaidOut.{laid-out, words-read}
-use Rattle.print_rounds.specs.Shown.{for-size}
+use Rattle.print_writing.specs.Shown.{for-size}
 use Rattle.print_rounds.proofs.files.print_bytes.Statement.{statement}
 use Rattle.print_rounds.proofs.files.print_bytes.Tie as tie
 

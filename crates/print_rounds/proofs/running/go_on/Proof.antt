@@ -11,7 +11,7 @@ use Rattle.queries.specs.Rounds.{firstPosition, rounds, resultAt}
 use Rattle.queries.specs.Playing.{StandsAfter}
 use Rattle.queries.proofs.Rounds.{rounds-none, rounds-next, rounds-made, rounds-over, rounds-stopped}
 use Rattle.queries.proofs.Plays.{stands-at}
-use Rattle.print_rounds.specs.Shown.{mostTurns}
+use Rattle.print_writing.specs.Shown.{mostTurns}
 use Rattle.print_rounds.proofs.Openings.{started-opens}
 use Rattle.print_rounds.proofs.running.go_on.Statement.{statement}
 use Rattle.print_rounds.proofs.running.go_on.Tie as tie

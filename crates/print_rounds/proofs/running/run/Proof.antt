@@ -8,10 +8,10 @@ use Rattle.queries.specs.declared.Keeping.the-variants.{Merged}
 use Rattle.queries.proofs.Plays.{leaves-by}
 use Rattle.plans.specs.Plans.{planOf}
 use Rattle.lists.specs.Gathering.{width}
-use Rattle.print_rounds.specs.declared.Listing.{Listing}
-use Rattle.print_rounds.specs.Shown.{mostTurns}
+use Rattle.print_writing.specs.declared.Listing.{Listing}
+use Rattle.print_writing.specs.Shown.{mostTurns}
 use Rattle.print_rounds.proofs.Openings.{started-form, started-opens}
-use Rattle.print_rounds.proofs.Widths.{some-words, lists-width}
+use Rattle.print_writing.proofs.Widths.{some-words, lists-width}
 use Rattle.print_rounds.proofs.Asking.{file-lists, file-opens, file-left}
 use Rattle.print_rounds.proofs.running.run.Statement.{statement}
 use Rattle.print_rounds.proofs.running.run.Tie as tie

@@ -2,7 +2,7 @@
 use borrow.Author.Needs.{needs}
 use mathlib.Core.Path.{sym, subst}
 use lib.Seq.{length-take-le}
-use Rattle.print_rounds.specs.Shown.{LeftToShow}
+use Rattle.print_writing.specs.Shown.{LeftToShow}
 use Rattle.print_rounds.proofs.showing.print_played.Statement.{statement}
 use Rattle.print_rounds.proofs.showing.print_played.Tie as tie
 

@@ -1,0 +1,16 @@
+// Lines of a file's query handed to the writer: a refusal, a turn, each row or record of a list. Each is of the file's uncut run.
+mod lines;
+mod plan_lists;
+mod writing;
+
+pub use lines::print_list;
+pub use lines::print_refused;
+pub use lines::print_turn;
+pub use plan_lists::lists_of;
+use plans::Last;
+
+// What the lists of a plan hold, and the words of each row or record.
+pub struct Listing {
+    pub kind: Last,
+    pub width: usize,
+}

@@ -1,0 +1,37 @@
+// What the lists of a plan hold: rows or records, and of how many words.
+use crate::Listing;
+use crate::lines::TOTALS_WIDTH;
+use plans::Last;
+ghost use mathlib.Core.Path.{_≡_};
+ghost use mathlib.Core.Bool.{true};
+ghost use Prim.Native.Nat.{_≤_};
+ghost use Rattle.plans.specs.Endings.{mostRowVariables};
+ghost use Rattle.plans.specs.Plans.{readPlan, hasForm, planOf};
+ghost use Rattle.print_writing.specs.Listings.{listingOf, widthOf};
+
+// The words of a row or record whose plan names so many variables.
+fn record_width(kind: Last, variables: usize) -> usize
+    requires { ⌜ variables ≤ mostRowVariables ⌝ }
+    ensures { λ r. ⌜ r ≡ widthOf kind variables ⌝ }
+{
+    match kind {
+        Last::Rows => variables,
+        Last::Top => variables,
+        Last::Group => variables + TOTALS_WIDTH,
+        Last::Neither => 0,
+    }
+}
+
+// What the lists of a plan hold.
+pub fn lists_of(plan: &[u32]) -> Listing
+    requires { ⌜ hasForm (readPlan (now plan)) ≡ true ⌝ }
+    ensures { λ r. ⌜ r ≡ listingOf (planOf (now (plan .entry)) .ending) ⌝ }
+{
+    let ending = plans::ending_part(plan);
+    let kind = plans::ending_kind(ending);
+    let variables = plans::variables(ending).len();
+    Listing {
+        kind: kind,
+        width: record_width(kind, variables),
+    }
+}
