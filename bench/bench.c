@@ -1,9 +1,11 @@
 /* Times the proved engine, the same step machine in C, the portable engine and SQLite on one wood, in turns, and prints the best time of
  * each in nanoseconds, a line a measure: name, steps, engine, C, SQLite, portable ('-': it has nothing like it, or is not there). The
  * engines' and the C machine's steps and lists are compared word by word; SQLite's rows by their number, and but for ties in a best-of
- * list by the sum of their fields. Compiled with -DPORTABLE_THERE it takes the portable engine's calls by names of their own. */
+ * list by the sum of their fields. Where tables are made of an upload, C++ by std::stable_sort stands in the C machine's place (tables.cpp),
+ * and what is made is compared word by word. Compiled with -DPORTABLE_THERE it takes the portable engine's calls by names of their own. */
 #include "sotjarn.h"
 #include "step_machine.h"
+#include "tables.h"
 
 #include <sqlite3.h>
 #include <stdio.h>
@@ -169,11 +171,13 @@ enum { WITH_PORTABLE = 1 };
 __typeof__(sotjarn_open) portable_open;
 __typeof__(sotjarn_turn) portable_turn;
 __typeof__(sotjarn_merge) portable_merge;
+__typeof__(sotjarn_make) portable_make;
 #else
 enum { WITH_PORTABLE = 0 };
 #define portable_open 0
 #define portable_turn 0
 #define portable_merge 0
+#define portable_make 0
 #endif
 
 /* The calls of those that have them. */
@@ -181,8 +185,10 @@ static const struct {
     __typeof__(sotjarn_open) *open;
     __typeof__(sotjarn_turn) *turn;
     __typeof__(sotjarn_merge) *merge;
-} calls[SQLITE] = {
-    {sotjarn_open, sotjarn_turn, sotjarn_merge}, {c_open, c_turn, c_merge}, {portable_open, portable_turn, portable_merge}};
+    __typeof__(sotjarn_make) *make;
+} calls[SQLITE] = {{sotjarn_open, sotjarn_turn, sotjarn_merge, sotjarn_make},
+                   {c_open, c_turn, c_merge, cpp_make},
+                   {portable_open, portable_turn, portable_merge, portable_make}};
 
 #define TABLES rows, 3 * COUNT, pos, COUNT, osp, COUNT
 
@@ -372,6 +378,77 @@ static double time_merge_groups(enum who w, const struct query *q, uint32_t quan
     return t;
 }
 
+/* ---- making tables: of the wood's rows, shuffled or in their order, and of a walk with repeats and wrong kinds */
+
+static uint32_t upload[3 * COUNT];
+static struct made_tables {
+    struct sotjarn_made answer;
+    uint32_t rows[3 * COUNT], pos[COUNT], osp[COUNT], report[2 * COUNT];
+} made[SQLITE];
+
+static void swap_rows(uint32_t i, uint32_t j)
+{
+    for (int c = 0; c < 3; c++) {
+        uint32_t word = upload[3 * i + c];
+        upload[3 * i + c] = upload[3 * j + c];
+        upload[3 * j + c] = word;
+    }
+}
+
+static void shuffle(void)
+{
+    for (uint32_t i = COUNT - 1; i > 0; i--) /* two draws: one has 16 bits */
+        swap_rows(i, (draw() << 16 | draw()) % (i + 1));
+}
+
+static void upload_sorted(void)
+{
+    memcpy(upload, rows, sizeof rows);
+}
+
+static void upload_shuffled(void)
+{
+    upload_sorted();
+    shuffle();
+}
+
+/* one row in eight is an earlier one again, one in eight has a number as subject */
+static void upload_walk(void)
+{
+    upload_sorted();
+    for (uint32_t i = 0; i < COUNT; i += 8) {
+        memcpy(upload + 3 * i, upload + 3 * (i + 1), 3 * sizeof *upload);
+        upload[3 * (i + 4)] |= 1u << 30;
+    }
+    shuffle();
+}
+
+static double time_make(enum who w, const struct query *q, uint32_t quantum)
+{
+    struct made_tables *m = &made[w == SQLITE ? ENGINE : w];
+    double t;
+    (void)q, (void)quantum;
+    if (w == SQLITE)
+        return 1e18;
+    t = now();
+    m->answer = calls[w].make(upload, 3 * COUNT, m->rows, 3 * COUNT, m->pos, COUNT, m->osp, COUNT, m->report, 2 * COUNT);
+    t = now() - t;
+    if (m->answer.refused)
+        fail("an upload is refused");
+    return t;
+}
+
+static void same_made(enum who w, const char *what)
+{
+    const struct made_tables *a = &made[ENGINE], *b = &made[w];
+    if (a->answer.rows_words != b->answer.rows_words || a->answer.pos_words != b->answer.pos_words ||
+        a->answer.osp_words != b->answer.osp_words || a->answer.report_words != b->answer.report_words)
+        fail(what);
+    if (memcmp(a->rows, b->rows, sizeof a->rows) || memcmp(a->pos, b->pos, sizeof a->pos) || memcmp(a->osp, b->osp, sizeof a->osp) ||
+        memcmp(a->report, b->report, sizeof a->report))
+        fail(what);
+}
+
 /* ---- one measure, in turns; the best of each */
 
 typedef double (*timer)(enum who, const struct query *, uint32_t);
@@ -425,8 +502,11 @@ static void measure(const char *name, timer f, const struct query *q, uint32_t q
             if (t < best[w])
                 best[w] = t;
         }
-    printf("%s\t%u\t%.0f\t%.0f\t%.0f\t", name, f == time_turn || f == time_pairs ? results[0].turned.steps : 0, best[ENGINE], best[PEER],
-           best[SQLITE]);
+    printf("%s\t%u\t%.0f\t%.0f\t", name, f == time_turn || f == time_pairs ? results[0].turned.steps : 0, best[ENGINE], best[PEER]);
+    if (f != time_make)
+        printf("%.0f\t", best[SQLITE]);
+    else
+        printf("-\t");
     if (WITH_PORTABLE)
         printf("%.0f\n", best[PORTABLE]);
     else
@@ -443,6 +523,18 @@ static void measure_turn(const char *name, const struct query *q, uint32_t quant
         fail("SQLite finds another number of rows");
     if (q != &top && quantum != 1 && sum != fields(&results[0], q == &groups || q == &pairs ? 1 : 0))
         fail("SQLite finds other rows");
+}
+
+static void measure_make(const char *name, void (*put)(void), size_t kept_rows)
+{
+    memset(made, 0, sizeof made);
+    put();
+    measure(name, time_make, 0, 0);
+    same_made(PEER, "the engine and C++ make different tables");
+    if (WITH_PORTABLE)
+        same_made(PORTABLE, "the proved and the portable engine make different tables");
+    if (made[ENGINE].answer.pos_words != kept_rows || made[ENGINE].answer.report_words != 2 * (COUNT - kept_rows))
+        fail("another number of rows is kept");
 }
 
 /* SQLite's time where the index order lets it stop after ten rows; the others have nothing like it */
@@ -481,5 +573,8 @@ int main(int count, char **words)
     same_merged(3 * BEST);
     measure("merge of 10,000 groups into 10,000", time_merge_groups, &groups, 0);
     same_merged(9 * (GROUPS + GROUPS / 2));
+    measure_make("tables of 65,536 rows, shuffled", upload_shuffled, COUNT);
+    measure_make("tables of 65,536 rows, sorted before", upload_sorted, COUNT);
+    measure_make("tables of 65,536 rows, a fourth dropped", upload_walk, COUNT - COUNT / 4);
     return 0;
 }

@@ -2,7 +2,8 @@
 import math
 import sys
 
-TARGET = 1.5
+TARGET, MAKING_TARGET = 1.5, 1.3
+MAKING = 'tables of '               # measures that begin so are of making tables: C++ stands beside them
 ONE = 'turn of 1 step'
 BEGIN, END = '<!-- measured: begin -->\n', '<!-- measured: end -->\n'
 
@@ -37,7 +38,7 @@ def a_step(ns, one, steps):
 
 def table(found):
     one = next(m for m in found if m[0] == ONE)
-    lines = ['| measure | steps | Sotjarn | C -O2 | SQLite | Sotjarn / C | SQLite / Sotjarn | ns a step: Sotjarn, C | steps alone / C '
+    lines = ['| measure | steps | Sotjarn | C, C++ -O2 | SQLite | Sotjarn / C | SQLite / Sotjarn | ns a step: Sotjarn, C | steps alone / C '
              '| portable | portable / Sotjarn |',
              '|---|---|---|---|---|---|---|---|---|---|---|']
     for name, steps, e, c, s, p in found:
@@ -57,12 +58,12 @@ def machine():
 
 
 def plot(found):
-    """Times as multiples of the C step machine's, on a logarithmic scale."""
+    """Times as multiples of the C step machine's, or of C++'s, on a logarithmic scale."""
     found = [m for m in found if m[2] is not None and m[3] is not None]
     left, right, top, row = 250, 40, 40, 26
     width, height = 860, top + row * len(found) + 60
-    most = max(3, math.ceil(math.log10(max(m[4] / m[3] for m in found))))
-    least = min(-1, math.floor(math.log10(min(m[4] / m[3] for m in found))))
+    beside = [m[4] / m[3] for m in found if m[4] is not None]
+    most, least = max(3, math.ceil(math.log10(max(beside)))), min(-1, math.floor(math.log10(min(beside))))
 
     def x(value):
         return left + (math.log10(value) - least) / (most - least) * (width - left - right)
@@ -84,16 +85,20 @@ def plot(found):
         out.append(f'<circle cx="{x(e / c):.1f}" cy="{y:.1f}" r="5" fill="#275"/>')
     out.append(f'<circle cx="{left}" cy="18" r="5" fill="#275"/><text x="{left + 10}" y="22">Sotjarn</text>')
     out.append(f'<rect x="{left + 86}" y="14" width="8" height="8" fill="#c80"/><text x="{left + 100}" y="22">SQLite</text>')
-    out.append(f'<text x="{left + 170}" y="22" fill="#444">line: C -O2; dashed: {TARGET} times its time</text>')
+    out.append(f'<text x="{left + 170}" y="22" fill="#444">line: C (tables: C++) -O2; dashed: {TARGET} times its time</text>')
     out.append(f'<text x="{(left + width - right) / 2}" y="{bottom + 42}" text-anchor="middle">'
-               'time, as a multiple of the C step machine (less is faster)</text></svg>')
+               'time, as a multiple of that in C or C++ (less is faster)</text></svg>')
     return '\n'.join(out) + '\n'
+
+
+def target(name):
+    return MAKING_TARGET if name.startswith(MAKING) else TARGET
 
 
 def missed(found):
     """What does not meet a target, in words."""
     one = next(m for m in found if m[0] == ONE)
-    lines = [f'{name}: {e / c:.2f} times the C step machine' for name, _, e, c, _, _ in found if e and c and e > TARGET * c]
+    lines = [f'{name}: {e / c:.2f} times that in C or C++' for name, _, e, c, _, _ in found if e and c and e > target(name) * c]
     for name, steps, e, c, _, _ in found:
         if steps >= 1000 and a_step(e, one[2], steps) > TARGET * a_step(c, one[3], steps):
             lines.append(f'{name}: its steps alone are over {TARGET} times those of the C step machine')

@@ -1,4 +1,4 @@
-/* The same three calls in plain C, for comparison only: nothing of it is proved. */
+/* The same three calls of a query in plain C, for comparison only: nothing of it is proved. */
 #ifndef STEP_MACHINE_H
 #define STEP_MACHINE_H
 

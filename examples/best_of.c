@@ -1,19 +1,23 @@
-/* The best stem of the three-stem wood, in turns of four steps, with the threshold sent once the kept list is full.
+/* The best stem of the three-stem wood: its tables are made of an upload, in the order in which it was measured; then turns of four steps,
+ * with the threshold sent once the kept list is full.
  *
  *     rt staticlib sotjarn
  *     cc -Ibindings/c examples/best_of.c target/staticlib/libsotjarn.a -o best_of && ./best_of
  *
- * It prints 00000002 40000136: stem n2, 310.
+ * It prints the row that was dropped, "row 2 of the upload: repeat", and 00000002 40000136: stem n2, 310.
  */
 #include "sotjarn.h"
+#include "sotjarn_words.h"
 #include <stdio.h>
 
-enum { COUNT = 6, PLAN = 16, STATE = SOTJARN_STATE_WORDS, BEST = 1, WIDTH = 2, QUANTUM = 4 };
+enum { COUNT = 7, PLAN = 16, STATE = SOTJARN_STATE_WORDS, BEST = 1, WIDTH = 2, QUANTUM = 4 };
 
-static const uint32_t rows[3 * COUNT] = {
-    1, 10, 100, 1, 12, 0x4000002D, 2, 10, 100, 2, 12, 0x40000136, 3, 10, 100, 3, 12, 0x40000136};
-static const uint32_t pos[COUNT] = {0, 2, 4, 1, 3, 5};
-static const uint32_t osp[COUNT] = {0, 2, 4, 1, 3, 5};
+/* the third row is the second again */
+static const uint32_t upload[3 * COUNT] = {
+    3, 12, 0x40000136, 2, 12, 0x40000136, 2, 12, 0x40000136, 2, 10, 100, 3, 10, 100, 1, 10, 100, 1, 12, 0x4000002D};
+
+/* room for all that an upload of so many rows can make */
+static uint32_t rows[3 * COUNT], pos[COUNT], osp[COUNT], report[2 * COUNT];
 
 /* ?0 n10 n100, ?0 n12 ?1, condition ?1 >= i70; the best 1 of rows ?0 ?1 by ?1 falling */
 static const uint32_t plan[PLAN] = {
@@ -30,7 +34,13 @@ int main(void) {
     size_t state_words, kept_words = 0;
     uint32_t ending;
 
-    struct sotjarn_written opened = sotjarn_open(rows, 3 * COUNT, pos, COUNT, osp, COUNT, plan, PLAN, state, STATE);
+    struct sotjarn_made made = sotjarn_make(upload, 3 * COUNT, rows, 3 * COUNT, pos, COUNT, osp, COUNT, report, 2 * COUNT);
+    if (made.refused) return refused(made.refused);
+    for (size_t at = 0; at < made.report_words; at += 2)
+        printf("row %u of the upload: %s\n", (unsigned)report[at], sotjarn_dropped_text(report[at + 1]));
+
+    struct sotjarn_written opened =
+        sotjarn_open(rows, made.rows_words, pos, made.pos_words, osp, made.osp_words, plan, PLAN, state, STATE);
     if (opened.refused) return refused(opened.refused);
     state_words = opened.words;
 
@@ -40,8 +50,8 @@ int main(void) {
         size_t threshold_words = kept_words == BEST * WIDTH ? WIDTH : 0;
 
         struct sotjarn_turned turned =
-            sotjarn_turn(rows, 3 * COUNT, pos, COUNT, osp, COUNT, plan, PLAN, state, STATE, state_words, QUANTUM,
-                         threshold, threshold_words, output, BEST * WIDTH);
+            sotjarn_turn(rows, made.rows_words, pos, made.pos_words, osp, made.osp_words, plan, PLAN, state, STATE, state_words,
+                         QUANTUM, threshold, threshold_words, output, BEST * WIDTH);
         if (turned.ending == SOTJARN_REFUSED) return refused(turned.refused);
 
         struct sotjarn_written merged =

@@ -1,4 +1,5 @@
-"""What the engine says of a text's words, by the portable library: the number that refuses them, and the line that is at fault.
+"""What the engine makes of a text's rows, and says of its words, by the portable library: tables and what was dropped; the number that
+refuses them, and the line that is at fault.
 
 The line is found by asking the engine about parts: of the rows so many from the front, of the plan a branch or the ending alone. Nothing
 here knows the rules; what it needs of them is which number is about what.
@@ -15,7 +16,8 @@ PORTABLE = os.path.join(ROOT, 'portable')
 REASONS = os.path.join(ROOT, 'tools', 'refusals.txt')
 NAMES = {'darwin': 'libsotjarn_portable.dylib', 'win32': 'sotjarn_portable.dll'}
 FIELD_KIND, ROW_ORDER, ROW_NUMBERS, FORM, VARIABLES, QUANTUM = 2, 3, 4, 5, 6, 8
-STATE_WORDS = 9
+STATE_WORDS, ROW_WORDS = 9, 3
+WRONG_KIND, REPEAT = 1, 2           # why a row was dropped
 
 # Words of plans, for questions about parts.
 HEAD, BRANCH, ONE_PATTERN, TRUE, GROUP_OF_NONE, VARIABLE_0 = 0x10000000, 0x20000000, 0x20000001, [0x30000000], 0xC0000000, 0xC0000000
@@ -29,6 +31,14 @@ class Missing(Exception):
     """Why the library is not there."""
 
 
+class Refused(Exception):
+    """An upload that is refused, by a number."""
+
+    def __init__(self, number):
+        super().__init__(number)
+        self.number = number
+
+
 class Written(ctypes.Structure):
     _fields_ = [('refused', ctypes.c_uint32), ('words', ctypes.c_size_t)]
 
@@ -36,6 +46,11 @@ class Written(ctypes.Structure):
 class Turned(ctypes.Structure):
     _fields_ = [('ending', ctypes.c_uint32), ('refused', ctypes.c_uint32), ('steps', ctypes.c_uint32),
                 ('state_words', ctypes.c_size_t), ('list_words', ctypes.c_size_t)]
+
+
+class Made(ctypes.Structure):
+    _fields_ = [('refused', ctypes.c_uint32), ('rows_words', ctypes.c_size_t), ('pos_words', ctypes.c_size_t),
+                ('osp_words', ctypes.c_size_t), ('report_words', ctypes.c_size_t)]
 
 
 @functools.lru_cache
@@ -69,6 +84,20 @@ class Engine:
         library = ctypes.CDLL(built())
         self.open_call, self.turn_call, self.least_call = library.sotjarn_open, library.sotjarn_turn, library.sotjarn_least_output
         self.open_call.restype, self.turn_call.restype, self.least_call.restype = Written, Turned, Written
+        self.make_call = library.sotjarn_make
+        self.make_call.restype = Made
+
+    def make(self, upload):
+        """The rows that are kept of an upload, sorted, both lists of row numbers, and place and code of each row that is dropped."""
+        words, count = [w for row in upload for w in row], len(upload)
+        lent = list(buffers([0] * len(words), [0] * count, [0] * count, [0] * 2 * count))
+        answer = self.make_call(*buffers(words), *lent)
+        if answer.refused:
+            raise Refused(answer.refused)
+        lengths = (answer.rows_words, answer.pos_words, answer.osp_words, answer.report_words)
+        rows, pos, osp, report = (buffer[:length] for buffer, length in zip(lent[::2], lengths))
+        kept = [tuple(rows[at:at + ROW_WORDS]) for at in range(0, len(rows), ROW_WORDS)]
+        return kept, pos, osp, list(zip(report[::2], report[1::2]))
 
     def open(self, rows, pos, osp, plan):
         """The number that refuses an opening, or 0."""

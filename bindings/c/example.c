@@ -1,5 +1,6 @@
-/* The three-stem wood from C: a row query in turns of four steps, a best-of list with a threshold, totals merged turn by turn, and a
- * refused call. Each buffer comes from malloc with exactly the words it needs, so that a memory checker sees every word beside it.
+/* The three-stem wood from C: tables made from an upload and the report of what was dropped, a row query in turns of four steps, a best-of
+ * list with a threshold, totals merged turn by turn, and refused calls. Each buffer comes from malloc with exactly the words it needs, so
+ * that a memory checker sees every word beside it.
  * Compiles as C99 and as C++. Prints what it does; exits with 1 where something is not as the rules say. */
 #include "sotjarn.h"
 #include "sotjarn_words.h"
@@ -24,11 +25,19 @@ static const uint32_t plan_top[] = {PATTERNS, SOTJARN_TRUE,
                                     SOTJARN_TOP(1), SOTJARN_ROWS(2), VARIABLE(0), VARIABLE(1), SOTJARN_FALLING(1)};
 static const uint32_t plan_group[] = {PATTERNS, SOTJARN_TRUE, SOTJARN_GROUP(0), VARIABLE(1)};
 
-static const uint32_t wood_rows[] = {
+/* The wood as it was measured: the last stem first, the diameter of stem n2 taken twice, and a row whose subject is a text. */
+enum { UPLOADED = 8, KEPT = 6, DROPPED = UPLOADED - KEPT };
+static const uint32_t uploaded[UPLOADED * SOTJARN_ROW_WORDS] = {
+    NAME(3), NAME(12), NUMBER(310), NAME(3), NAME(10), NAME(100),
+    NAME(2), NAME(12), NUMBER(310), SOTJARN_TEXT(7), NAME(12), NUMBER(88), NAME(2), NAME(12), NUMBER(310), NAME(2), NAME(10), NAME(100),
+    NAME(1), NAME(12), NUMBER(45), NAME(1), NAME(10), NAME(100)};
+
+/* The tables that are made of it. */
+static const uint32_t wood_rows[KEPT * SOTJARN_ROW_WORDS] = {
     NAME(1), NAME(10), NAME(100), NAME(1), NAME(12), NUMBER(45),
     NAME(2), NAME(10), NAME(100), NAME(2), NAME(12), NUMBER(310),
     NAME(3), NAME(10), NAME(100), NAME(3), NAME(12), NUMBER(310)};
-static const uint32_t wood_list[] = {0, 2, 4, 1, 3, 5};
+static const uint32_t wood_list[KEPT] = {0, 2, 4, 1, 3, 5};
 
 /* An address for a buffer without words: none may be null. */
 static const uint32_t no_words[1] = {0};
@@ -68,13 +77,34 @@ static struct buffer copied(const uint32_t *words, size_t len)
     return made;
 }
 
-static struct query make_query(const uint32_t *plan, size_t plan_len)
+static struct sotjarn_made make_tables(struct buffer upload, const struct query *q, struct buffer report)
+{
+    return sotjarn_make(upload.words, upload.len, q->rows.words, q->rows.len, q->pos.words, q->pos.len, q->osp.words, q->osp.len,
+                        report.words, report.len);
+}
+
+/* A query over the tables that are made of the upload; the report goes into `report`. */
+static struct query make_query_telling(const uint32_t *plan, size_t plan_len, struct buffer report)
 {
     struct query made;
-    made.rows = copied(wood_rows, sizeof wood_rows / sizeof *wood_rows);
-    made.pos = copied(wood_list, sizeof wood_list / sizeof *wood_list);
-    made.osp = copied(wood_list, sizeof wood_list / sizeof *wood_list);
+    struct buffer upload = copied(uploaded, UPLOADED * SOTJARN_ROW_WORDS);
+    struct sotjarn_made answer;
+    made.rows = make_buffer(KEPT * SOTJARN_ROW_WORDS);
+    made.pos = make_buffer(KEPT);
+    made.osp = make_buffer(KEPT);
     made.plan = copied(plan, plan_len);
+    answer = make_tables(upload, &made, report);
+    expect(answer.refused == 0 && answer.rows_words == made.rows.len && answer.pos_words == KEPT && answer.osp_words == KEPT &&
+               answer.report_words == report.len, "six rows are kept and two dropped");
+    free(upload.words);
+    return made;
+}
+
+static struct query make_query(const uint32_t *plan, size_t plan_len)
+{
+    struct buffer report = make_buffer(DROPPED * SOTJARN_REPORT_WORDS);
+    struct query made = make_query_telling(plan, plan_len, report);
+    free(report.words);
     return made;
 }
 
@@ -131,6 +161,37 @@ static size_t least_output(const struct query *query)
     struct sotjarn_written asked = sotjarn_least_output(query->plan.words, query->plan.len);
     expect(asked.refused == 0, "the plan is accepted");
     return asked.words;
+}
+
+/* Tables from the upload: they are the wood's, and the report tells the two rows that were dropped. Then refused uploads. */
+static void tables_from_upload(void)
+{
+    struct buffer report = make_buffer(DROPPED * SOTJARN_REPORT_WORDS), upload = copied(uploaded, UPLOADED * SOTJARN_ROW_WORDS);
+    struct query made = make_query_telling(plan_rows, sizeof plan_rows / sizeof *plan_rows, report);
+    struct buffer short_report = make_buffer(report.len - 1), short_upload = copied(uploaded, 5);
+    struct sotjarn_made refused;
+    expect(memcmp(made.rows.words, wood_rows, sizeof wood_rows) == 0, "the rows are the wood's, in ascending order");
+    expect(memcmp(made.pos.words, wood_list, sizeof wood_list) == 0, "POS has its row numbers");
+    expect(memcmp(made.osp.words, wood_list, sizeof wood_list) == 0, "OSP has its row numbers");
+    for (size_t at = 0; at < report.len; at += SOTJARN_REPORT_WORDS)
+        printf("dropped row %" PRIu32 ": %s\n", report.words[at], sotjarn_dropped_text(report.words[at + 1]));
+    expect(report.words[0] == 3 && report.words[1] == SOTJARN_DROPPED_WRONG_KIND, "a text as subject is a wrong kind");
+    expect(report.words[2] == 4 && report.words[3] == SOTJARN_DROPPED_REPEAT, "the second of two equal rows is a repeat");
+
+    memset(made.rows.words, 0, made.rows.len * sizeof(uint32_t));
+    refused = make_tables(short_upload, &made, report);
+    printf("an upload of 5 words: refused by %" PRIu32 ": %s\n", refused.refused, sotjarn_refusal_text(refused.refused));
+    expect(refused.refused == SOTJARN_REFUSED_UPLOAD_LENGTH && refused.rows_words == 0, "five words are no rows");
+    refused = make_tables(upload, &made, short_report);
+    printf("a report of one word too few: refused by %" PRIu32 "\n", refused.refused);
+    expect(refused.refused == SOTJARN_REFUSED_MADE_LENGTHS && refused.report_words == 0, "the report has no room");
+    for (size_t at = 0; at < made.rows.len; at++)
+        expect(made.rows.words[at] == 0, "a refused making writes nothing");
+    free(report.words);
+    free(upload.words);
+    free(short_report.words);
+    free(short_upload.words);
+    free_query(&made);
 }
 
 /* Rows, in turns of four steps: the lists are joined end to end. */
@@ -241,6 +302,7 @@ static void refusals(void)
 
 int main(void)
 {
+    tables_from_upload();
     rows_in_turns();
     best_of();
     totals();

@@ -1,5 +1,5 @@
-/* Sotjarn's calls for C and C++: opening a query, one turn of it, and merging a turn's list into a kept one; and how long an output has
- * to be for a plan.
+/* Sotjarn's calls for C and C++: making tables from an upload; opening a query, one turn of it, and merging a turn's list into a kept
+ * one; and how long an output has to be for a plan.
  *
  * Link with libsotjarn.a, the proved library, which `rt staticlib sotjarn` writes to target/staticlib/; or with libsotjarn_portable.a,
  * the same source without its proofs, which cargo makes in portable/. `make install` installs either. No call allocates, keeps an
@@ -14,7 +14,8 @@
  * Buffers that are only read may overlap.
  *
  * The tables are three buffers: `rows` has three terms a row, in ascending order; `pos` and `osp` have row numbers, in the order of
- * predicate, object, subject and of object, subject, predicate. `plan` is the query. The same four go with every turn of a query.
+ * predicate, object, subject and of object, subject, predicate. `sotjarn_make` makes them of rows in any order. `plan` is the query. The
+ * same four go with every turn of a query.
  */
 #ifndef SOTJARN_H
 #define SOTJARN_H
@@ -27,7 +28,7 @@ extern "C" {
 #endif
 
 /* The version of this header, which is that of the libraries made beside it. */
-#define SOTJARN_VERSION "0.3.0"
+#define SOTJARN_VERSION "0.4.0"
 
 /* How a turn ended. */
 enum {
@@ -39,6 +40,14 @@ enum {
 
 /* The words that a state buffer has at least, and the most steps that a turn may take. */
 enum { SOTJARN_STATE_WORDS = 9, SOTJARN_MOST_STEPS = 1000000 };
+
+/* The most rows that tables and an upload may have, the words of a row, and those that a report has for each dropped row. */
+enum { SOTJARN_MOST_ROWS = 65536, SOTJARN_ROW_WORDS = 3, SOTJARN_REPORT_WORDS = 2 };
+
+/* The bytes of stack to provide for sotjarn_make. It keeps what it sorts in 448 KiB of local arrays, whatever the upload's length, and
+ * allocates nothing; with its frames, threads of 456 KiB were enough (tests/stack measures it). Some threads have less by default, as
+ * musl's with 128 KiB. The other calls have no such arrays. */
+enum { SOTJARN_MAKE_STACK = 524288 };
 
 /* What opening and merging answer, and what a plan asks of an output. */
 struct sotjarn_written {
@@ -54,6 +63,27 @@ struct sotjarn_turned {
     size_t state_words; /* the words of the new state, written over the front of `state`; 0 when done */
     size_t list_words;  /* the words of the turn's list, written over the front of `output` */
 };
+
+/* What making tables answers: the words written to the front of each buffer; 0 of each if refused. */
+struct sotjarn_made {
+    uint32_t refused;    /* the number of the first test that failed; 0: none */
+    size_t rows_words;   /* three words for each row that is kept */
+    size_t pos_words;    /* as many as rows are kept */
+    size_t osp_words;    /* the same */
+    size_t report_words; /* two words for each row that is dropped */
+};
+
+/* Makes tables from an upload: rows of three words as they were measured, in any order. Rows of wrong kinds are dropped, and of equal
+ * rows all but the first; the others are written to `rows` in ascending order, and both lists of row numbers to `pos` and `osp`. The tables
+ * pass tests 1 to 4. The report names each dropped row in upload order, by its place from 0 and a code: 1 wrong kind, tested first, 2 repeat.
+ * An upload of n rows makes at most 3 n, n, n and 2 n words; buffers of exactly the words written are enough, and what longer ones have
+ * behind those stays. Refused by 15 (the length is no multiple of 3, or there are over 65,536 rows), then by 16 (a buffer is too short).
+ * Needs a stack of SOTJARN_MAKE_STACK bytes. */
+struct sotjarn_made sotjarn_make(const uint32_t *upload, size_t upload_len,
+                                 uint32_t *rows, size_t rows_len,
+                                 uint32_t *pos, size_t pos_len,
+                                 uint32_t *osp, size_t osp_len,
+                                 uint32_t *report, size_t report_len);
 
 /* Writes the start state of a query over the front of `state`. Refused by 1 to 7. */
 struct sotjarn_written sotjarn_open(const uint32_t *rows, size_t rows_len,

@@ -1,4 +1,4 @@
-/* Words for C and C++: terms, the words of plans and states, and refusals by name and in a line of text.
+/* Words for C and C++: terms, the words of plans and states, and refusals by name and in a line of text; why a row was dropped.
  *
  * Each macro of a number gives a uint32_t and is a constant where its arguments are, so that a plan can be a static array. A value that
  * its bits cannot hold is cut to them: 30 bits of a term, 28 of a plan's or a state's word. docs/FORMATS.md says where each word stands;
@@ -74,6 +74,19 @@ static inline uint64_t sotjarn_wide(const uint32_t *words)
     return (uint64_t)words[1] << 32 | words[0];
 }
 
+/* ---- Reports of making tables: two words for each dropped row, its place in the upload from 0 and a code. */
+enum {
+    SOTJARN_DROPPED_WRONG_KIND = 1, /* its subject or predicate is no name, or its object is a variable */
+    SOTJARN_DROPPED_REPEAT = 2      /* its kinds are right, and an earlier row is the same */
+};
+
+/* Why a row was dropped, in a few words, by its code. */
+static inline const char *sotjarn_dropped_text(uint32_t code)
+{
+    static const char *const texts[] = {"kept", "wrong kind", "repeat"};
+    return code < sizeof texts / sizeof *texts ? texts[code] : "a code that this header does not know: the library is newer";
+}
+
 /* ---- Refusals. */
 enum {
     SOTJARN_REFUSED_TABLE_LENGTHS = 1,
@@ -89,7 +102,9 @@ enum {
     SOTJARN_REFUSED_THRESHOLD = 11,
     SOTJARN_REFUSED_MERGED_LISTS = 12,
     SOTJARN_REFUSED_TOTALS = 13,
-    SOTJARN_REFUSED_KEPT_LENGTH = 14
+    SOTJARN_REFUSED_KEPT_LENGTH = 14,
+    SOTJARN_REFUSED_UPLOAD_LENGTH = 15,
+    SOTJARN_REFUSED_MADE_LENGTHS = 16
 };
 
 /* What is wrong and what to do, in a line, by the number that a call refused by. */
@@ -125,6 +140,10 @@ static inline const char *sotjarn_refusal_text(uint32_t refused)
         "a total would pass 2^64 - 1; merge each list once; such totals no survey reaches",
         "the kept buffer is too short for the merged list; lend a longer buffer: the words of both lists are always "
         "enough",
+        "the length of the upload is no multiple of 3, or it has more than 65,536 rows; send three words a row, and at "
+        "most 65,536 rows",
+        "a buffer is too short for the tables or the report; for n uploaded rows lend 3 n words for rows, n for each "
+        "list and 2 n for the report: that is always enough",
     };
     return refused < sizeof texts / sizeof *texts ? texts[refused] : "a number that this header does not know: the library is newer";
 }

@@ -1,10 +1,11 @@
-"""The engine's three calls, from a library with their C declarations, answering as the evaluation does."""
+"""The engine's calls, from a library with their C declarations, answering as the evaluation does."""
 import faulthandler
 import os
 import subprocess
 from ctypes import CDLL, POINTER, Structure, addressof, c_size_t, c_uint32, cast, sizeof
 
 from evaluation import Turned, Written
+from making import Made
 
 GUARD = 4
 GUARD_WORD = 0xA5A5C3C3
@@ -18,6 +19,11 @@ class CWritten(Structure):
 class CTurned(Structure):
     _fields_ = [('ending', c_uint32), ('refused', c_uint32), ('steps', c_uint32), ('state_words', c_size_t),
                 ('list_words', c_size_t)]
+
+
+class CMade(Structure):
+    _fields_ = [('refused', c_uint32), ('rows_words', c_size_t), ('pos_words', c_size_t), ('osp_words', c_size_t),
+                ('report_words', c_size_t)]
 
 
 class Touched(Exception):
@@ -81,6 +87,8 @@ class Engine:
         turn_types = [WORDS, c_size_t, c_size_t, c_uint32] + [WORDS, c_size_t] * 2
         self.turning.restype, self.turning.argtypes = CTurned, table_types + turn_types
         self.merging.restype, self.merging.argtypes = CWritten, [WORDS, c_size_t, WORDS, c_size_t, c_size_t, WORDS, c_size_t]
+        self.making = library.sotjarn_make
+        self.making.restype, self.making.argtypes = CMade, [WORDS, c_size_t] * 5
 
     def open(self, tables, words, state):
         read, buffer = lent(tables, words), Buffer(state)
@@ -100,3 +108,10 @@ class Engine:
         answer = self.merging(*read[1].arguments(), *buffer.arguments(), given, *taken[1].arguments())
         check([read, taken])
         return Written(answer.refused, answer.words), buffer.words('kept')
+
+    def make(self, upload, rows, pos, osp, report):
+        read, buffers = ('upload', Buffer(upload)), [Buffer(rows), Buffer(pos), Buffer(osp), Buffer(report)]
+        answer = self.making(*read[1].arguments(), *(argument for buffer in buffers for argument in buffer.arguments()))
+        check([read])
+        made = Made(answer.refused, answer.rows_words, answer.pos_words, answer.osp_words, answer.report_words)
+        return (made, *(buffer.words(name) for name, buffer in zip(('rows', 'pos', 'osp', 'report'), buffers)))

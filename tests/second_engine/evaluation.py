@@ -32,7 +32,7 @@ def first_failing(tests):
 
 
 class Evaluation(Running, Lists):
-    """The three calls. A buffer is a tuple of words; a call gives its answer and its written buffers as they are at exit."""
+    """The three calls of a query. A buffer is a tuple of words; a call gives its answer and its written buffers as they are at exit."""
 
     def __init__(self, most_steps=None):
         super().__init__(most_steps)

@@ -7,9 +7,9 @@
 #include <stdlib.h>
 #include <string.h>
 
-enum { SET = 1, FILL, STEMS, OPEN, TURN, MERGE };
-enum { ROWS, POS, OSP, PLAN, STATE, THRESHOLD, OUTPUT, KEPT, LIST, BUFFERS };
-enum { GUARDS = 8, NUMBERS = 15 };
+enum { SET = 1, FILL, STEMS, OPEN, TURN, MERGE, MAKE, SHUFFLED, MAKE_STEMS };
+enum { ROWS, POS, OSP, PLAN, STATE, THRESHOLD, OUTPUT, KEPT, LIST, UPLOAD, REPORT, BUFFERS };
+enum { GUARDS = 8, NUMBERS = 17 };
 
 #define GUARD UINT32_C(0xA5A5C3C3)
 
@@ -95,6 +95,19 @@ static void stems(void)
     lend(OSP);
 }
 
+/* The stems as an upload, in an order that visits each once. */
+static void shuffled(void)
+{
+    uint32_t count = word();
+    uint32_t *rows = resize(UPLOAD, (size_t)3 * count);
+    for (uint32_t i = 0; i < count; i++) {
+        rows[3 * i] = (uint32_t)((uint64_t)i * 40507 % count);
+        rows[3 * i + 1] = 10;
+        rows[3 * i + 2] = 100;
+    }
+    lend(UPLOAD);
+}
+
 /* The words that a call must have written over the front of a buffer. */
 static void must_write(int number, uint32_t count)
 {
@@ -158,6 +171,47 @@ static void run_merge(void)
                           buffers[LIST].len), KEPT);
 }
 
+static struct sotjarn_made make(void)
+{
+    return sotjarn_make(words_of(UPLOAD), buffers[UPLOAD].len, words_of(ROWS), buffers[ROWS].len, words_of(POS), buffers[POS].len,
+                        words_of(OSP), buffers[OSP].len, words_of(REPORT), buffers[REPORT].len);
+}
+
+static void must_make(uint32_t refused, const uint32_t *words)
+{
+    struct sotjarn_made made = make();
+    if (made.refused != refused || made.rows_words != words[0] || made.pos_words != words[1] || made.osp_words != words[2] ||
+        made.report_words != words[3])
+        fail("the answer is another");
+    count(refused);
+}
+
+static void run_make(void)
+{
+    static const int written_to[4] = {ROWS, POS, OSP, REPORT};
+    uint32_t refused = word(), words[4];
+    for (int i = 0; i < 4; i++)
+        words[i] = word();
+    must_make(refused, words);
+    for (int i = 0; i < 4; i++)
+        must_write(written_to[i], words[i]);
+}
+
+/* Tables of so many stems must be made, by the rule of STEMS. */
+static void run_make_stems(void)
+{
+    uint32_t many = word(), words[4] = {3 * many, many, many, 0};
+    if (buffers[ROWS].len < 3 * (size_t)many || buffers[POS].len < many || buffers[OSP].len < many)
+        fail("the file asks for more words than the buffer");
+    must_make(0, words);
+    for (uint32_t i = 0; i < many; i++) {
+        uint32_t *row = buffers[ROWS].right + GUARDS + 3 * (size_t)i;
+        row[0] = buffers[POS].right[GUARDS + i] = buffers[OSP].right[GUARDS + i] = i;
+        row[1] = 10;
+        row[2] = 100;
+    }
+}
+
 static void run(void)
 {
     uint32_t instruction = word();
@@ -165,9 +219,12 @@ static void run(void)
     case SET: set(0); return;
     case FILL: set(1); return;
     case STEMS: stems(); return;
+    case SHUFFLED: shuffled(); return;
     case OPEN: run_open(); break;
     case TURN: run_turn(); break;
     case MERGE: run_merge(); break;
+    case MAKE: run_make(); break;
+    case MAKE_STEMS: run_make_stems(); break;
     default: fail("there is no such instruction");
     }
     compare();

@@ -4,11 +4,11 @@
 // usize has 32 bits there; a struct is returned through an address that is handed over first.
 import { readFileSync } from 'node:fs';
 
-const [SET, FILL, STEMS, OPEN, TURN, MERGE] = [1, 2, 3, 4, 5, 6];
-const [ROWS, POS, OSP, PLAN, STATE, THRESHOLD, OUTPUT, KEPT, LIST, BUFFERS] = [0, 1, 2, 3, 4, 5, 6, 7, 8, 9];
+const [SET, FILL, STEMS, OPEN, TURN, MERGE, MAKE, SHUFFLED, MAKE_STEMS] = [1, 2, 3, 4, 5, 6, 7, 8, 9];
+const [ROWS, POS, OSP, PLAN, STATE, THRESHOLD, OUTPUT, KEPT, LIST, UPLOAD, REPORT, BUFFERS] = [0, 1, 2, 3, 4, 5, 6, 7, 8, 9, 10, 11];
 const GUARDS = 8;
 const GUARD = 0xa5a5c3c3;
-const NUMBERS = 15;
+const NUMBERS = 17;
 const PAGE = 65536;
 
 let calls = 0;
@@ -19,14 +19,14 @@ function fail(what) {
   process.exit(1);
 }
 
-// The library, and its memory: an answer's place and nine buffers, each with room of its own behind what the library itself uses.
+// The library, and its memory: an answer's place and the buffers, each with room of its own behind what the library itself uses.
 const [libraryFile, vectorFile] = process.argv.slice(2);
 if (vectorFile === undefined) {
   console.error('usage: node run.mjs LIBRARY.wasm FILE');
   process.exit(2);
 }
 const { instance } = await WebAssembly.instantiate(readFileSync(libraryFile));
-const { memory, sotjarn_open, sotjarn_turn, sotjarn_merge } = instance.exports;
+const { memory, sotjarn_open, sotjarn_turn, sotjarn_merge, sotjarn_make } = instance.exports;
 const answerAt = memory.buffer.byteLength;
 const ROOM = 16 * PAGE;
 memory.grow(1 + (BUFFERS * ROOM) / PAGE);
@@ -74,6 +74,12 @@ function stems() {
   lend(OSP, numbers);
 }
 
+// The stems as an upload, in an order that visits each once.
+function shuffled() {
+  const count = word();
+  lend(UPLOAD, Array.from({ length: count }, (_, i) => [(i * 40507) % count, 10, 100]).flat());
+}
+
 // Calls.
 
 const answer = (count) => [...new Uint32Array(memory.buffer, answerAt, count)];
@@ -113,6 +119,30 @@ function merge() {
   mustWrite(KEPT, written);
 }
 
+const tables = [ROWS, POS, OSP, REPORT];
+
+function mustMake(refused, lengths) {
+  sotjarn_make(answerAt, ...buffer(UPLOAD), ...tables.flatMap(buffer));
+  mustAnswer(answer(5), [refused, ...lengths], refused);
+}
+
+function make() {
+  const [refused, ...lengths] = words(5);
+  mustMake(refused, lengths);
+  tables.forEach((number, i) => mustWrite(number, lengths[i]));
+}
+
+// Tables of so many stems must be made, by the rule of STEMS.
+function makeStems() {
+  const many = word();
+  mustMake(0, [3 * many, many, many, 0]);
+  const numbers = Array.from({ length: many }, (_, i) => i);
+  const written = [numbers.flatMap((i) => [i, 10, 100]), numbers, numbers];
+  written.forEach((made, i) => {
+    right[tables[i]] = [...made, ...right[tables[i]].slice(made.length)];
+  });
+}
+
 // Every word of every buffer, and beside it, must be right.
 function compare() {
   for (let number = 0; number < BUFFERS; number += 1) {
@@ -123,8 +153,8 @@ function compare() {
   }
 }
 
-const lending = { [SET]: set, [FILL]: fill, [STEMS]: stems };
-const calling = { [OPEN]: open, [TURN]: turn, [MERGE]: merge };
+const lending = { [SET]: set, [FILL]: fill, [STEMS]: stems, [SHUFFLED]: shuffled };
+const calling = { [OPEN]: open, [TURN]: turn, [MERGE]: merge, [MAKE]: make, [MAKE_STEMS]: makeStems };
 
 for (let number = 0; number < BUFFERS; number += 1) lend(number, []);
 while (at < bytes.byteLength) {

@@ -10,6 +10,13 @@ pub const STATE_WORDS: usize = 9;
 /// The most steps that a turn may take.
 pub const MOST_STEPS: u32 = 1_000_000;
 
+/// The most rows of tables, and of an upload.
+pub const MOST_ROWS: usize = 65_536;
+
+/// The bytes of stack that [`make`] may use: it keeps there what it sorts. A thread of a program has 2 MiB by default; one that is given
+/// less needs this much.
+pub const MAKE_STACK: usize = 524_288;
+
 /// How a turn ended.
 #[derive(Clone, Copy, Debug, PartialEq, Eq, Hash)]
 pub enum TurnEnding {
@@ -32,6 +39,19 @@ pub struct Turned {
     pub state_words: usize,
     /// The words of the turn's list, written over the front of the output.
     pub list_words: usize,
+}
+
+/// What making tables answers: the words written over the front of each buffer.
+#[derive(Clone, Copy, Debug, PartialEq, Eq, Hash)]
+pub struct Made {
+    /// Three for each row that is kept.
+    pub rows_words: usize,
+    /// One for each row that is kept.
+    pub pos_words: usize,
+    /// The same.
+    pub osp_words: usize,
+    /// Two for each row that is dropped.
+    pub report_words: usize,
 }
 
 /// The refusal of a number that the library gave.
@@ -159,4 +179,36 @@ pub fn merge(plan: &[u32], kept: &mut [u32], kept_words: usize, list: &[u32]) ->
 /// ```
 pub fn least_output(plan: &[u32]) -> Result<usize, Refusal> {
     written(engine::sotjarn_least_output(plan))
+}
+
+/// Makes tables from an upload, rows of three words in any order, and a report of the rows that were dropped. Rows of wrong kinds are
+/// dropped, and of equal rows all but the first; the others are written over the front of `rows`, in ascending order, and their row numbers
+/// over the front of `pos` and `osp`. The report has two words for each dropped row, in upload order: its place from 0, and 1 for a wrong
+/// kind, tested first, or 2 for a repeat; [`read_report`](crate::read_report) reads it. Buffers of exactly the words written are enough.
+/// Refused by 15 and 16. It needs [`MAKE_STACK`] bytes of stack.
+///
+/// ```
+/// use sotjarn::{make, Made, Refusal};
+///
+/// let upload = [2, 10, 100, 1, 10, 100, 2, 10, 100]; // n2 n10 n100, n1 n10 n100, and the first again
+/// let (mut rows, mut pos, mut osp, mut report) = ([0; 6], [0; 2], [0; 2], [0; 2]);
+/// let made = make(&upload, &mut rows, &mut pos, &mut osp, &mut report)?;
+/// assert_eq!(made, Made { rows_words: 6, pos_words: 2, osp_words: 2, report_words: 2 });
+/// assert_eq!((rows, pos, osp), ([1, 10, 100, 2, 10, 100], [0, 1], [0, 1]));
+/// assert_eq!(report, [2, 2]); // the row at 2 is a repeat
+/// assert_eq!(make(&upload[1..], &mut rows, &mut pos, &mut osp, &mut report), Err(Refusal::UploadLength));
+/// assert_eq!(make(&upload, &mut rows, &mut pos, &mut osp, &mut []), Err(Refusal::MadeLengths));
+/// # Ok::<(), Refusal>(())
+/// ```
+pub fn make(upload: &[u32], rows: &mut [u32], pos: &mut [u32], osp: &mut [u32], report: &mut [u32]) -> Result<Made, Refusal> {
+    let answer = engine::sotjarn_make(upload, rows, pos, osp, report);
+    match answer.refused {
+        0 => Ok(Made {
+            rows_words: answer.rows,
+            pos_words: answer.pos,
+            osp_words: answer.osp,
+            report_words: answer.report,
+        }),
+        code => Err(refusal(code)),
+    }
 }

@@ -1,4 +1,4 @@
-//! Sotjarn's calls for Rust: opening a query, one turn of it, and merging a turn's list into a kept one.
+//! Sotjarn's calls for Rust: making tables from an upload, opening a query, one turn of it, and merging a turn's list into a kept one.
 //!
 //! Sotjarn answers queries over shared tables, a turn of counted steps at a time. A turn may end after any row, and the answer does
 //! not depend on where the cuts fall. Whatever words come in, a call ends, touches nothing outside what it was lent, and refuses
@@ -10,11 +10,12 @@
 //!
 //! | you have | use |
 //! |---|---|
-//! | words in buffers of your own | [`open`], [`turn`], [`merge`], [`least_output`] |
-//! | a query to write | [`Plan::builder`], [`TableWords`] |
+//! | words in buffers of your own | [`make`], [`open`], [`turn`], [`merge`], [`least_output`] |
+//! | rows in any order | [`TableWords::make`], [`TableWords::from_rows`]; [`Dropped`] |
+//! | a query to write | [`Plan::builder`] |
 //! | a query to run | [`Query`] and its [`turns`](Query::turns), [`Kept`] |
 //! | words that were stored | [`Plan::from_words`], [`Query::load`], [`Kept::from_words`] |
-//! | words to read | [`State::read`], [`Plan::read`], [`read_rows`], [`read_groups`] |
+//! | words to read | [`State::read`], [`Plan::read`], [`read_rows`], [`read_groups`], [`read_report`] |
 //!
 //! The three-stem wood: stems of stand n100 with a diameter of at least 70, in turns of four steps.
 //!
@@ -66,15 +67,17 @@ mod states;
 mod stored;
 mod tables;
 mod terms;
+mod uploads;
 
 #[cfg(not(feature = "proved"))]
 use sotjarn_portable as engine;
 
-pub use calls::{least_output, merge, open, turn, TurnEnding, Turned, MOST_STEPS, STATE_WORDS};
+pub use calls::{least_output, make, merge, open, turn, Made, TurnEnding, Turned, MAKE_STACK, MOST_ROWS, MOST_STEPS, STATE_WORDS};
 pub use lists::{read_groups, read_rows, Group, Kept, List, Row, Unreadable};
 pub use plans::{Branch, Comparison, Condition, Key, Plan, PlanBuilder, PlanEnding};
 pub use queries::{Query, Turn, Turns};
 pub use refusals::Refusal;
 pub use states::{Place, State};
-pub use tables::{TableWords, Tables};
+pub use tables::{RowFault, TableWords, Tables};
 pub use terms::{Term, TooLarge, Value, Variable, UNBOUND};
+pub use uploads::{read_report, Dropped, Reason};

@@ -8,7 +8,7 @@ use crate::plans::{Plan, PlanEnding, TOTALS_WORDS};
 use crate::refusals::Refusal;
 use crate::terms::{Value, UNBOUND};
 
-/// Words that are no state or no list of a plan, and why.
+/// Words that are no state, no list of a plan or no report, and why.
 #[derive(Clone, Copy, Debug, PartialEq, Eq, Hash)]
 pub struct Unreadable(pub(crate) &'static str);
 

@@ -21,6 +21,16 @@ pub struct TurnedNumbers {
     pub listed: usize,
 }
 
+/// What making tables answers.
+#[repr(C)]
+pub struct MadeNumbers {
+    pub refused: u32,
+    pub rows: usize,
+    pub pos: usize,
+    pub osp: usize,
+    pub report: usize,
+}
+
 // The numbers of a turn's endings.
 pub const DONE: u32 = 0;
 pub const SPENT: u32 = 1;
@@ -29,7 +39,7 @@ pub const REFUSED: u32 = 3;
 
 /// The calls as the header declares them.
 mod foreign {
-    use super::{TurnedNumbers, WrittenNumbers};
+    use super::{MadeNumbers, TurnedNumbers, WrittenNumbers};
 
     extern "C" {
         pub fn sotjarn_open(
@@ -75,6 +85,19 @@ mod foreign {
         ) -> WrittenNumbers;
 
         pub fn sotjarn_least_output(plan: *const u32, plan_len: usize) -> WrittenNumbers;
+
+        pub fn sotjarn_make(
+            upload: *const u32,
+            upload_len: usize,
+            rows: *mut u32,
+            rows_len: usize,
+            pos: *mut u32,
+            pos_len: usize,
+            osp: *mut u32,
+            osp_len: usize,
+            report: *mut u32,
+            report_len: usize,
+        ) -> MadeNumbers;
     }
 }
 
@@ -150,4 +173,23 @@ pub fn sotjarn_merge(plan: &[u32], kept: &mut [u32], given: usize, list: &[u32])
 pub fn sotjarn_least_output(plan: &[u32]) -> WrittenNumbers {
     // Sound: the address and the length are a slice's, and nothing is written (see the module).
     unsafe { foreign::sotjarn_least_output(plan.as_ptr(), plan.len()) }
+}
+
+pub fn sotjarn_make(upload: &[u32], rows: &mut [u32], pos: &mut [u32], osp: &mut [u32], report: &mut [u32]) -> MadeNumbers {
+    // Sound: each address and length is a slice's; the four that are written are `&mut` slices, so they overlap neither each other
+    // nor the upload (see the module).
+    unsafe {
+        foreign::sotjarn_make(
+            upload.as_ptr(),
+            upload.len(),
+            rows.as_mut_ptr(),
+            rows.len(),
+            pos.as_mut_ptr(),
+            pos.len(),
+            osp.as_mut_ptr(),
+            osp.len(),
+            report.as_mut_ptr(),
+            report.len(),
+        )
+    }
 }

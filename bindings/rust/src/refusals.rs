@@ -10,7 +10,7 @@ use std::fmt;
 ///
 /// assert_eq!(Refusal::Quantum.code(), 8);
 /// assert_eq!(Refusal::from_code(8), Some(Refusal::Quantum));
-/// assert_eq!(Refusal::from_code(15), None);
+/// assert_eq!(Refusal::from_code(17), None);
 /// assert_eq!(Refusal::Quantum.fault(), "the quantum is outside its range");
 /// assert_eq!(Refusal::Quantum.remedy(), "give 1 to 1,000,000 steps");
 /// assert_eq!(Refusal::Quantum.to_string(), "refused by 8: the quantum is outside its range; give 1 to 1,000,000 steps");
@@ -46,10 +46,14 @@ pub enum Refusal {
     Totals = 13,
     /// Merge: the kept buffer is too short for the result.
     KeptLength = 14,
+    /// Making tables: the upload's length isn't a multiple of 3, or it has more than 65,536 rows.
+    UploadLength = 15,
+    /// Making tables: a buffer is too short for the tables or the report.
+    MadeLengths = 16,
 }
 
 /// All of them, by their numbers from 1 on.
-const ALL: [Refusal; 14] = [
+const ALL: [Refusal; 16] = [
     Refusal::TableLengths,
     Refusal::FieldKind,
     Refusal::RowOrder,
@@ -64,6 +68,8 @@ const ALL: [Refusal; 14] = [
     Refusal::MergedLists,
     Refusal::Totals,
     Refusal::KeptLength,
+    Refusal::UploadLength,
+    Refusal::MadeLengths,
 ];
 
 impl Refusal {
@@ -96,6 +102,8 @@ impl Refusal {
             Refusal::MergedLists => "a list is not one that this plan makes, or the plan delivers plain rows",
             Refusal::Totals => "a total would pass 2^64 - 1",
             Refusal::KeptLength => "the kept buffer is too short for the merged list",
+            Refusal::UploadLength => "the length of the upload is no multiple of 3, or it has more than 65,536 rows",
+            Refusal::MadeLengths => "a buffer is too short for the tables or the report",
         }
     }
 
@@ -128,6 +136,10 @@ impl Refusal {
             Refusal::MergedLists => "merge whole lists of turns of the same plan; join the lists of a row query end to end instead",
             Refusal::Totals => "merge each list once; such totals no survey reaches",
             Refusal::KeptLength => "lend a longer buffer: the words of both lists are always enough",
+            Refusal::UploadLength => "send three words a row, and at most 65,536 rows",
+            Refusal::MadeLengths => {
+                "for n uploaded rows lend 3 n words for rows, n for each list and 2 n for the report: that is always enough"
+            }
         }
     }
 }

@@ -1,6 +1,15 @@
-//! Tables: lent, and made from rows.
+//! Tables: lent, and made from rows in any order.
 
+use std::error::Error;
+use std::fmt;
+
+use crate::calls::{make, MOST_ROWS};
+use crate::refusals::Refusal;
 use crate::terms::{Term, TooLarge};
+use crate::uploads::{read_report, Dropped, Reason};
+
+/// The words of a row.
+const ROW_WORDS: usize = 3;
 
 /// The tables of a call, lent: rows of three terms, and the two further orders as lists of row numbers.
 #[derive(Clone, Copy, Debug, PartialEq, Eq)]
@@ -25,7 +34,7 @@ pub struct Tables<'a> {
 /// ])?;
 /// assert_eq!(made.rows[..6], [1, 10, 100, 1, 12, 0x4000_002D]);
 /// assert_eq!(made.tables().pos, [0, 1, 2]);
-/// # Ok::<(), sotjarn::TooLarge>(())
+/// # Ok::<(), sotjarn::RowFault>(())
 /// ```
 #[derive(Clone, Debug, Default, PartialEq, Eq)]
 pub struct TableWords {
@@ -37,26 +46,89 @@ pub struct TableWords {
     pub osp: Vec<u32>,
 }
 
-impl TableWords {
-    /// Sorts the rows, leaves out repeats and writes both lists. Kinds and the count of rows are the engine's to refuse; here only
-    /// a value above 30 bits is.
-    pub fn from_rows(rows: impl IntoIterator<Item = [Term; 3]>) -> Result<TableWords, TooLarge> {
-        let mut sorted = Vec::new();
-        for [subject, predicate, object] in rows {
-            sorted.push([subject.word()?, predicate.word()?, object.word()?]);
+/// Why rows make no tables.
+#[derive(Clone, Copy, Debug, PartialEq, Eq, Hash)]
+pub enum RowFault {
+    /// A term's value is above 30 bits.
+    TooLarge(TooLarge),
+    /// The row at this place, from 0, has a subject or predicate that is no name, or a variable as object.
+    WrongKind(usize),
+    /// The engine refuses them all: there are more than 65,536.
+    Refused(Refusal),
+}
+
+impl fmt::Display for RowFault {
+    fn fmt(&self, f: &mut fmt::Formatter<'_>) -> fmt::Result {
+        match self {
+            RowFault::TooLarge(fault) => fault.fmt(f),
+            RowFault::WrongKind(place) => write!(
+                f,
+                "the row at {place} has a field of a wrong kind: subject and predicate are names, an object is no variable"
+            ),
+            RowFault::Refused(fault) => fault.fmt(f),
         }
-        sorted.sort_unstable();
-        sorted.dedup();
-        let list = |key: fn(&[u32; 3]) -> [u32; 3]| {
-            let mut numbers: Vec<u32> = (0..sorted.len() as u32).collect();
-            numbers.sort_unstable_by_key(|&number| key(&sorted[number as usize]));
-            numbers
+    }
+}
+
+impl Error for RowFault {}
+
+impl From<TooLarge> for RowFault {
+    fn from(fault: TooLarge) -> RowFault {
+        RowFault::TooLarge(fault)
+    }
+}
+
+impl From<Refusal> for RowFault {
+    fn from(fault: Refusal) -> RowFault {
+        RowFault::Refused(fault)
+    }
+}
+
+impl TableWords {
+    /// Makes tables from an upload, three words a row in any order, by the engine's call ([`make`]), and gives them with what was dropped,
+    /// in upload order. Refused by 15.
+    ///
+    /// ```
+    /// use sotjarn::{Dropped, Reason, Refusal, TableWords};
+    ///
+    /// let upload = [2, 10, 100, 0x8000_0001, 10, 100, 1, 10, 100, 2, 10, 100]; // n2, t1 as subject, n1, and n2 again
+    /// let (made, dropped) = TableWords::make(&upload)?;
+    /// assert_eq!(made.rows, [1, 10, 100, 2, 10, 100]);
+    /// let (wrong_kind, repeat) = (Dropped { place: 1, reason: Reason::WrongKind }, Dropped { place: 3, reason: Reason::Repeat });
+    /// assert_eq!(dropped, [wrong_kind, repeat]);
+    /// assert_eq!(TableWords::make(&upload[..5]), Err(Refusal::UploadLength));
+    /// # Ok::<(), Refusal>(())
+    /// ```
+    pub fn make(upload: &[u32]) -> Result<(TableWords, Vec<Dropped>), Refusal> {
+        let rows = (upload.len() / ROW_WORDS).min(MOST_ROWS);
+        let mut made = TableWords {
+            rows: vec![0; ROW_WORDS * rows],
+            pos: vec![0; rows],
+            osp: vec![0; rows],
         };
-        Ok(TableWords {
-            pos: list(|&[s, p, o]| [p, o, s]),
-            osp: list(|&[s, p, o]| [o, s, p]),
-            rows: sorted.concat(),
-        })
+        let mut report = vec![0; 2 * rows];
+        let words = make(upload, &mut made.rows, &mut made.pos, &mut made.osp, &mut report)?;
+        made.rows.truncate(words.rows_words);
+        made.pos.truncate(words.pos_words);
+        made.osp.truncate(words.osp_words);
+        let dropped = read_report(&report[..words.report_words]).expect("the engine writes a report of its own form");
+        Ok((made, dropped))
+    }
+
+    /// Makes tables from rows in any order, by the engine's call. Repeats are left out. A row of wrong kinds is a fault here:
+    /// [`TableWords::make`] drops it and says so.
+    pub fn from_rows(rows: impl IntoIterator<Item = [Term; ROW_WORDS]>) -> Result<TableWords, RowFault> {
+        let mut upload = Vec::new();
+        for row in rows {
+            for term in row {
+                upload.push(term.word()?);
+            }
+        }
+        let (made, dropped) = TableWords::make(&upload)?;
+        match dropped.iter().find(|dropped| dropped.reason == Reason::WrongKind) {
+            Some(wrong) => Err(RowFault::WrongKind(wrong.place)),
+            None => Ok(made),
+        }
     }
 
     /// The tables, to lend to a call.

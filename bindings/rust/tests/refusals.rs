@@ -3,7 +3,7 @@
 use std::collections::BTreeSet;
 
 use sotjarn::Term::{Name, Number};
-use sotjarn::{merge, open, turn, Branch, Plan, PlanBuilder, Refusal, TableWords, Variable};
+use sotjarn::{make, merge, open, turn, Branch, Plan, PlanBuilder, Refusal, TableWords, Variable};
 
 const STEM: Variable = Variable(0);
 const SIZE: Variable = Variable(1);
@@ -68,6 +68,16 @@ fn merge_refused(kept_rows: [u32; 2], list_rows: [u32; 2], kept_len: usize, kept
         .map(Refusal::code)
 }
 
+/// What refuses making tables of the wood's rows, less some words, with a report of so many.
+fn make_refused(fewer: usize, report_words: usize) -> Option<u32> {
+    let rows = [lent().wood.rows, vec![1, 10, 100]].concat(); // the last is a repeat
+    let (mut made, mut pos, mut osp) = ([0; 18], [0; 6], [0; 6]);
+    let mut report = vec![0; report_words];
+    make(&rows[fewer..], &mut made, &mut pos, &mut osp, &mut report)
+        .err()
+        .map(Refusal::code)
+}
+
 #[test]
 fn each_refusal_has_its_call() {
     assert_eq!(refused(|_| ()), None);
@@ -86,19 +96,22 @@ fn each_refusal_has_its_call() {
     assert_eq!(merge_refused([0, 0], [1, 0], 8, 8), Some(12));
     assert_eq!(merge_refused([u32::MAX; 2], [1, 0], 8, 8), Some(13));
     assert_eq!(merge_refused([1, 0], [1, 0], 7, 0), Some(14));
+    assert_eq!(make_refused(0, 2), None);
+    assert_eq!(make_refused(16, 2), Some(15));
+    assert_eq!(make_refused(0, 1), Some(16));
 }
 
 #[test]
 fn each_refusal_says_its_number_and_something_of_its_own() {
-    let said: BTreeSet<String> = (1..=14)
+    let said: BTreeSet<String> = (1..=16)
         .filter_map(Refusal::from_code)
         .map(|refusal| refusal.to_string())
         .collect();
-    assert_eq!(said.len(), 14);
-    for code in 1..=14 {
+    assert_eq!(said.len(), 16);
+    for code in 1..=16 {
         let refusal = Refusal::from_code(code).expect("the rules have it");
         assert_eq!(refusal.code(), code);
         assert!(refusal.to_string().starts_with(&format!("refused by {code}: ")));
     }
-    assert_eq!((Refusal::from_code(0), Refusal::from_code(15)), (None, None));
+    assert_eq!((Refusal::from_code(0), Refusal::from_code(17)), (None, None));
 }

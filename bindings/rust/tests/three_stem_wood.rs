@@ -1,8 +1,10 @@
 //! The worked cases of the three-stem wood, through the crate alone.
 
 use sotjarn::Term::{Name, Number};
-use sotjarn::{open, turn, Branch, Comparison, Condition, Group, Kept, Key, List, Place, Plan, PlanBuilder, Query, Refusal, State};
-use sotjarn::{TableWords, Tables, TurnEnding, Value, Variable};
+use sotjarn::{
+    make, open, turn, Branch, Comparison, Condition, Group, Kept, Key, List, Place, Plan, PlanBuilder, Query, Refusal, State,
+};
+use sotjarn::{Dropped, Made, Reason, TableWords, Tables, TurnEnding, Value, Variable};
 
 const STEM: Variable = Variable(0);
 const SIZE: Variable = Variable(1);
@@ -54,6 +56,54 @@ fn the_tables_are_those_of_the_rules() {
         (&wood.pos[..], &wood.osp[..]),
         (&[0, 2, 4, 1, 3, 5][..], &[0, 2, 4, 1, 3, 5][..])
     );
+}
+
+/// The wood backwards, its fourth row twice, and a row with a text as subject between.
+fn measured() -> Vec<u32> {
+    let mut rows: Vec<[u32; 3]> = wood()
+        .rows
+        .chunks_exact(3)
+        .rev()
+        .map(|row| [row[0], row[1], row[2]])
+        .collect();
+    rows.splice(3..3, [[0x8000_0007, 12, 0x4000_0058], [2, 12, 0x4000_0136]]);
+    rows.concat()
+}
+
+#[test]
+fn an_upload_in_the_order_it_was_measured_makes_the_wood() {
+    let (made, dropped) = TableWords::make(&measured()).expect("the upload is taken");
+    assert_eq!(made, wood());
+    let told = [(3, Reason::WrongKind), (4, Reason::Repeat)];
+    assert_eq!(dropped, told.map(|(place, reason)| Dropped { place, reason }));
+}
+
+#[test]
+fn five_words_are_refused_by_15_and_a_short_report_by_16() {
+    let upload = measured();
+    let (mut rows, mut pos, mut osp, mut report) = ([9; 18], [9; 6], [9; 6], [9; 4]);
+    assert_eq!(
+        make(&upload[..5], &mut rows, &mut pos, &mut osp, &mut report),
+        Err(Refusal::UploadLength)
+    );
+    assert_eq!(
+        make(&upload, &mut rows, &mut pos, &mut osp, &mut report[..3]),
+        Err(Refusal::MadeLengths)
+    );
+    assert_eq!((rows, pos, osp, report), ([9; 18], [9; 6], [9; 6], [9; 4]));
+    let words = Made {
+        rows_words: 18,
+        pos_words: 6,
+        osp_words: 6,
+        report_words: 4,
+    };
+    assert_eq!(make(&upload, &mut rows, &mut pos, &mut osp, &mut report), Ok(words));
+    assert_eq!(report, [3, 1, 4, 2]);
+}
+
+#[test]
+fn nothing_uploaded_makes_no_rows() {
+    assert_eq!(TableWords::make(&[]), Ok((TableWords::default(), vec![])));
 }
 
 #[test]

@@ -9,6 +9,7 @@ use Rattle.words.specs.Sequences.{keep}
 use Rattle.words.proofs.Booleans.{Decided, yes, no, decided}
 use Rattle.words.specs.Sorting.{insertBy, insertAllBy, sortBy, bestBy}
 use Rattle.lists.specs.Rows.{ahead}
+pub use Rattle.words.proofs.Keeping.{keep-nil, keep-yes, keep-no, keep-append}
 use Rattle.words.proofs.Inserting.{insert-nil, insert-here, insert-later}
 use Rattle.lists.proofs.Leaving.{ahead-all, ahead-row}
 
@@ -16,26 +17,14 @@ abbrev pub count : {A : Type 0} → (A → Bool) → List A → ℕ
 count f xs = length (keep f xs)
 
 module _ {A : Type 0} (f : A → Bool) where
-  pub keep-nil : keep f [] ≡ []
-  unfolding keep
-  keep-nil = refl
-
-  pub keep-yes : (x : A) (xs : List A) → f x ≡ true → keep f (x ∷ xs) ≡ x ∷ keep f xs
-  unfolding keep
-  keep-yes x xs e = rw e
-
-  pub keep-no : (x : A) (xs : List A) → f x ≡ false → keep f (x ∷ xs) ≡ keep f xs
-  unfolding keep
-  keep-no x xs e = rw e
-
   pub count-nil : count f [] ≡ 0
-  count-nil = ap length keep-nil
+  count-nil = ap length (keep-nil f)
 
   pub count-yes : (x : A) (xs : List A) → f x ≡ true → count f (x ∷ xs) ≡ suc (count f xs)
-  count-yes x xs e = ap length (keep-yes x xs e)
+  count-yes x xs e = ap length (keep-yes f x xs e)
 
   pub count-no : (x : A) (xs : List A) → f x ≡ false → count f (x ∷ xs) ≡ count f xs
-  count-no x xs e = ap length (keep-no x xs e)
+  count-no x xs e = ap length (keep-no f x xs e)
 
   -- one more in front counts for at most one
   pub count-more : (x : A) (xs : List A) → (count f xs ≤ count f (x ∷ xs)) × (count f (x ∷ xs) ≤ suc (count f xs))
@@ -53,16 +42,8 @@ module _ {A : Type 0} (f : A → Bool) where
         | no e ↦ let a = count-no x xs e in let b = count-no x ys e in omega arith
       ]
 
-  pub keep-append : (xs ys : List A) → keep f (xs ++ ys) ≡ keep f xs ++ keep f ys
-  keep-append [] ys = rw keep-nil
-  keep-append (x ∷ xs) ys =
-      elim (decided (f x)) [
-        | yes e ↦ rw (keep-yes x (xs ++ ys) e, keep-yes x xs e) (ap (λ l. x ∷ l) (keep-append xs ys))
-        | no e ↦ rw (keep-no x (xs ++ ys) e, keep-no x xs e) (keep-append xs ys)
-      ]
-
   pub count-append : (xs ys : List A) → count f (xs ++ ys) ≡ count f xs + count f ys
-  count-append xs ys = ap length (keep-append xs ys) ∙ length-append (keep f xs) (keep f ys)
+  count-append xs ys = ap length (keep-append f xs ys) ∙ length-append (keep f xs) (keep f ys)
 
   pub count-take : (k : ℕ) (xs : List A) → count f (take k xs) ≤ count f xs
   count-take zero xs = omega (arith, count-nil)

@@ -1,16 +1,11 @@
--- The elements of a list that pass a test: by tests that agree, where none passes, and of a list made from another.
+-- The elements of a list that pass a test: where none passes, and of a list made from another. Other laws of them stand in words.
 use mathlib.Core.Path.{_≡_, refl, ap}
 use mathlib.Core.Bool.{Bool, true, false, cond}
 use mathlib.Core.List.{List, [], _∷_, map, List·Memᴰ, List·Memᴰ·head, List·Memᴰ·tail, List·Memᴰ·cases-cons}
 use mathlib.Core.Logic.{inl, inr}
 use Rattle.words.specs.Sequences.{keep}
 use Rattle.words.proofs.Each.{Each}
-
--- by tests that agree at each element
-pub keep-agree : {A : Type 0} (f g : A → Bool) (xs : List A) → Each (λ x. f x ≡ g x) xs → keep f xs ≡ keep g xs
-unfolding keep
-keep-agree f g [] h = refl
-keep-agree f g (x ∷ xs) h = rw (h .0, keep-agree f g xs (h .1))
+pub use Rattle.words.proofs.Keeping.{keep-agree}
 
 pub keep-none : {A : Type 0} (f : A → Bool) (xs : List A) → Each (λ x. f x ≡ false) xs → keep f xs ≡ []
 unfolding keep

@@ -3,22 +3,19 @@
 use Prim.Native.Nat.{ℕ, zero, suc, _*_, _/_, _%_, _≤_, _<_}
 use native.Mathlib.Omega.{arith}
 use native.Mathlib.Nat.{mul-div-cancel, mul-mod-left, suc-mul, div-mul-le-self, zero-div, div-zero, div-add-mod'}
-use mathlib.Core.Path.{_≡_, refl, sym, _∙_, ap, ap₂}
+use mathlib.Core.Path.{_≡_, refl, _∙_, ap, ap₂}
 use mathlib.Core.Bool.{Bool}
-use mathlib.Core.List.{List, [], _∷_, _++_, map, flatten, append-assoc}
-use lib.ListN.{length, take, drop, length-append, length-map, length-drop, take-append-drop}
+use mathlib.Core.List.{List, [], _∷_, _++_, map, flatten}
+use lib.ListN.{length, take, drop, length-map, length-drop, take-append-drop}
 use lib.Seq.{take-at, drop-at, length-take-le}
 use Rattle.words.specs.Bindings.{Bindings, valueOf}
 use Rattle.words.specs.Sequences.{parts}
 use Rattle.words.specs.Sorting.{insertBy, bestBy}
 use Rattle.lists.specs.Rows.{project, ahead}
 use Rattle.lists.specs.Gathering.{recordsIn}
-use Rattle.words.proofs.Each.{Each, each-map, each-append, each-insert, each-best}
+use Rattle.words.proofs.Each.{each-map, each-append, each-insert, each-best}
+pub use Rattle.words.proofs.Flattening.{Wide, length-flatten, flatten-append}
 use Rattle.lists.proofs.Leaving.{each-ahead}
-
--- each list has w words
-abbrev pub Wide : ℕ → List (List ℕ) → Type 0
-Wide w xs = Each (λ (x : List ℕ). length x ≡ w) xs
 
 -- ---- what is wide
 pub wide-project : (vs : List ℕ) (bs : List Bindings) → Wide (length vs) (map (project vs) bs)
@@ -62,15 +59,6 @@ module _ (w : ℕ) where
   length-records ws = length-parts (length ws / w) ws
 
   -- ---- words of records
-  pub length-flatten : (xs : List (List ℕ)) → Wide w xs → length (flatten xs) ≡ length xs * w
-  unfolding flatten
-  length-flatten [] h = omega arith
-  length-flatten (x ∷ xs) h =
-      let a = length-append x (flatten xs) in
-      let i = length-flatten xs (h .1) in
-      let s = suc-mul (length xs) w in
-      omega (arith, h .0)
-
   parts-flatten : (xs : List (List ℕ)) → Wide w xs → parts w (length xs) (flatten xs) ≡ xs
   unfolding parts flatten
   parts-flatten [] h = refl
@@ -89,7 +77,7 @@ module _ (w : ℕ) where
 
   module _ (pos : 0 < w) where
     pub count-flatten : (xs : List (List ℕ)) → Wide w xs → length (flatten xs) / w ≡ length xs
-    count-flatten xs h = ap (λ n. n / w) (length-flatten xs h) ∙ mul-div-cancel (length xs) pos
+    count-flatten xs h = ap (λ n. n / w) (length-flatten w xs h) ∙ mul-div-cancel (length xs) pos
 
     -- joined end to end and cut again
     pub records-flatten : (xs : List (List ℕ)) → Wide w xs → recordsIn w (flatten xs) ≡ xs
@@ -98,7 +86,7 @@ module _ (w : ℕ) where
 
   -- whole records leave no word over
   pub whole-flatten : (xs : List (List ℕ)) → Wide w xs → length (flatten xs) % w ≡ 0
-  whole-flatten xs h = ap (λ n. n % w) (length-flatten xs h) ∙ mul-mod-left (length xs) w
+  whole-flatten xs h = ap (λ n. n % w) (length-flatten w xs h) ∙ mul-mod-left (length xs) w
 
   -- cut and joined again, where no word is left over
   pub flatten-records : (ws : List ℕ) → length ws % w ≡ 0 → flatten (recordsIn w ws) ≡ ws
@@ -116,8 +104,3 @@ records-nil w = rw (zero-div w)
 pub records-zero : (ws : List ℕ) → recordsIn 0 ws ≡ []
 unfolding recordsIn parts
 records-zero ws = rw (div-zero (length ws))
-
-pub flatten-append : (xs ys : List (List ℕ)) → flatten (xs ++ ys) ≡ flatten xs ++ flatten ys
-unfolding flatten
-flatten-append [] ys = refl
-flatten-append (x ∷ xs) ys = ap (λ l. x ++ l) (flatten-append xs ys) ∙ sym (append-assoc x (flatten xs) (flatten ys))

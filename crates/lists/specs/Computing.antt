@@ -2,10 +2,9 @@
 use Rattle.lists.specs.Delivering.{withRow}
 use Rattle.lists.specs.Gathering.{recordsIn, gathered, thresholdRight, merged, groupRight, listRight, totalsFit}
 use Rattle.lists.specs.Groups.{lesser, greater, keysBefore, addBy, addAllBy, groupWords, groupIn}
-use Rattle.words.specs.Sorting.{insertBy, insertAllBy, sortBy, bestBy}
 use Rattle.lists.specs.Rows.{indexOf, rowRanks, rowBefore, ahead}
 
 unfoldable pub computing : Unit {0}
 unfolding withRow recordsIn gathered thresholdRight merged groupRight listRight totalsFit lesser greater keysBefore addBy addAllBy groupWords groupIn
-    indexOf rowRanks rowBefore insertBy insertAllBy sortBy bestBy ahead
+    indexOf rowRanks rowBefore ahead
 computing = tt

@@ -5,7 +5,6 @@ mod tests;
 
 pub use rows::put_row;
 pub use rows::row_of;
-pub use shifts::copy_in;
 pub use shifts::insert;
 pub use shifts::shift;
 pub use tests::is_values;

@@ -1,8 +1,8 @@
-// Words moved and copied within a buffer.
+// Words moved up in a buffer, and words put in between.
+use words::copy_in;
 ghost use mathlib.Core.Path.{_≡_};
 ghost use Prim.Native.Nat.{_+_, _≤_};
 ghost use lib.ListN.{length};
-ghost use lib.Seq.{paste};
 ghost use Rattle.lists.specs.Moves.{shifted, inserted};
 
 // Moves the words from a to e up by w.
@@ -15,19 +15,6 @@ pub fn shift(buf: &mut [u32], a: usize, e: usize, w: usize)
         i -= 1;
         let v = buf[i];
         buf[i + w] = v;
-    }
-}
-
-// Copies some words to the buffer from a on.
-pub fn copy_in(buf: &mut [u32], a: usize, words: &[u32])
-    requires { ⌜ a + length (now words) ≤ length (now buf) ⌝ }
-    ensures { λ _. ⌜ now (buf .exit) ≡ paste (now (buf .entry)) a (now (words .entry)) (length (now (words .entry))) ⌝ }
-{
-    let mut i: usize = 0;
-    while i < words.len() {
-        let v = words[i];
-        buf[a + i] = v;
-        i += 1;
     }
 }
 

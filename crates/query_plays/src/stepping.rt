@@ -52,7 +52,7 @@ fn join(kept: &mut [u32], used: usize, list: &[u32]) -> Written
     if kept.len() - used < list.len() {
         return Written::Refused(ROOM);
     }
-    lists::copy_in(kept, used, list);
+    words::copy_in(kept, used, list);
     Written::Words(used + list.len())
 }
 

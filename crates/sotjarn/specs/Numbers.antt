@@ -1,4 +1,4 @@
--- The answers of the three calls as numbers, for programs in other languages. Assumes nothing: these are definitions.
+-- The answers of the calls as numbers, for programs in other languages. Assumes nothing: these are definitions.
 use Prim.Native.Nat.{ℕ}
 use Rattle.words.specs.declared.Written.{Written}
 use Rattle.words.specs.Answers.{refusalIn, wordsIn}
@@ -6,9 +6,12 @@ use Rattle.turns.specs.declared.TurnEnding.{TurnEnding}
 use Rattle.turns.specs.declared.TurnEnding.the-variants.{Done, Spent, Full, Refused}
 use Rattle.turns.specs.declared.Turned.{Turned}
 use Rattle.turns.specs.Turns.{refusalOf}
+use Rattle.uploads.specs.declared.Made.{Made}
+use Rattle.uploads.specs.Making.{madeRefusal, madeWords}
 use Rattle.sotjarn.specs.declared.WrittenNumbers.{WrittenNumbers}
 use Rattle.sotjarn.specs.declared.EndingNumbers.{EndingNumbers}
 use Rattle.sotjarn.specs.declared.TurnedNumbers.{TurnedNumbers}
+use Rattle.sotjarn.specs.declared.MadeNumbers.{MadeNumbers}
 
 -- the endings of a turn, counted from 0 in the order in which the rules name them; then refused
 abbrev pub endingNumber : TurnEnding → ℕ
@@ -31,4 +34,14 @@ turnedNumbers t =
       steps = t .steps;
       saved = t .saved;
       listed = t .listed;
+    }
+
+abbrev pub madeNumbers : Made → MadeNumbers
+madeNumbers m =
+    record {
+      refused = madeRefusal m;
+      rows = madeWords m .rows;
+      pos = madeWords m .pos;
+      osp = madeWords m .osp;
+      report = madeWords m .report;
     }

@@ -2,6 +2,7 @@
 // bindings/c/sotjarn.h declares them for C.
 use turns::TurnEnding;
 use turns::Turned;
+use uploads::Made;
 use words::Written;
 ghost use mathlib.Core.Path.{_≡_};
 ghost use Rattle.tables.specs.Tables.{tablesOf};
@@ -9,7 +10,8 @@ ghost use Rattle.turns.specs.Opening.{openOf};
 ghost use Rattle.turns.specs.Turns.{turnOf, turnInput};
 ghost use Rattle.merges.specs.Merging.{mergeInput, mergeOf};
 ghost use Rattle.list_endings.specs.PlanOutputs.{planOutput};
-ghost use Rattle.sotjarn.specs.Numbers.{writtenNumbers, endingNumbers, turnedNumbers};
+ghost use Rattle.uploads.specs.Making.{makeInput, makeOf};
+ghost use Rattle.sotjarn.specs.Numbers.{writtenNumbers, endingNumbers, turnedNumbers, madeNumbers};
 
 // What a call that writes to one buffer answers, or that says how long one has to be: the number of the test that refused it, or 0; and
 // the words written or asked for.
@@ -34,6 +36,17 @@ pub struct TurnedNumbers {
 pub struct EndingNumbers {
     pub ending: u32,
     pub refused: u32,
+}
+
+// What making tables answers: the number of the test that refused it, or 0; and the words written to the rows, to POS, to OSP and to the
+// report.
+#[repr(C)]
+pub struct MadeNumbers {
+    pub refused: u32,
+    pub rows: usize,
+    pub pos: usize,
+    pub osp: usize,
+    pub report: usize,
 }
 
 // The endings of a turn, by their numbers.
@@ -97,6 +110,33 @@ fn turned_numbers(t: Turned) -> TurnedNumbers
         steps: t.steps,
         saved: t.saved,
         listed: t.listed,
+    }
+}
+
+// The numbers of what making tables answers: no words are written by a refused call.
+fn made_numbers(m: Made) -> MadeNumbers
+    ensures { λ r. ⌜ r ≡ madeNumbers m ⌝ }
+{
+    match m {
+        Made::Words {
+            rows,
+            pos,
+            osp,
+            report,
+        } => MadeNumbers {
+            refused: 0,
+            rows: rows,
+            pos: pos,
+            osp: osp,
+            report: report,
+        },
+        Made::Refused(number) => MadeNumbers {
+            refused: number,
+            rows: 0,
+            pos: 0,
+            osp: 0,
+            report: 0,
+        },
     }
 }
 
@@ -172,4 +212,27 @@ pub extern "C" fn sotjarn_least_output(plan: &[u32]) -> WrittenNumbers
     ensures { λ r. ⌜ r ≡ writtenNumbers (planOutput (now (plan .entry))) ⌝ }
 {
     written_numbers(list_endings::plan_output(plan))
+}
+
+// Makes tables from an upload, and a report of the rows that it drops, or refuses.
+#[no_mangle]
+pub extern "C" fn sotjarn_make(
+    upload: &[u32],
+    rows: &mut [u32],
+    pos: &mut [u32],
+    osp: &mut [u32],
+    report: &mut [u32],
+) -> MadeNumbers
+    ensures answer { λ r. ⌜ r ≡ madeNumbers (makeOf (makeInput (now (upload .entry)) (now (rows .entry)) (now (pos .entry)) (now (osp .entry))
+        (now (report .entry))) .answer) ⌝ }
+    ensures rows { λ _. ⌜ now (rows .exit) ≡ makeOf (makeInput (now (upload .entry)) (now (rows .entry)) (now (pos .entry)) (now (osp .entry))
+        (now (report .entry))) .buffers .rows ⌝ }
+    ensures pos { λ _. ⌜ now (pos .exit) ≡ makeOf (makeInput (now (upload .entry)) (now (rows .entry)) (now (pos .entry)) (now (osp .entry))
+        (now (report .entry))) .buffers .pos ⌝ }
+    ensures osp { λ _. ⌜ now (osp .exit) ≡ makeOf (makeInput (now (upload .entry)) (now (rows .entry)) (now (pos .entry)) (now (osp .entry))
+        (now (report .entry))) .buffers .osp ⌝ }
+    ensures report { λ _. ⌜ now (report .exit) ≡ makeOf (makeInput (now (upload .entry)) (now (rows .entry)) (now (pos .entry)) (now (osp .entry))
+        (now (report .entry))) .buffers .report ⌝ }
+{
+    made_numbers(upload_calls::make(upload, rows, pos, osp, report))
 }

@@ -1,6 +1,7 @@
 // The check of lent tables: tests 1 to 4, in their order.
 use crate::Reading;
 use tables::COLUMNS;
+use tables::MOST_ROWS;
 use tables::Order;
 use tables::Place;
 use tables::fields;
@@ -15,8 +16,6 @@ ghost use Rattle.words.specs.Tests.{firstFailing, numberOf};
 ghost use Rattle.tables.specs.Tables.{tablesOf, columnCount, rowCount, lengthsRight, kindsRight, tableTests};
 ghost use Rattle.tables.specs.Right.{Sized};
 ghost use Rattle.table_tests.specs.Walk.{orderAt, readingAt, rightOrders, refusalAfter};
-
-pub const MOST_ROWS: usize = 65536;
 
 // How many orders there are.
 const ORDERS: u32 = 3;

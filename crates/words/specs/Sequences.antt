@@ -14,6 +14,15 @@ unfoldable pub countBelow : (ℕ → Bool) → ℕ → ℕ
 countBelow f zero = 0
 countBelow f (suc n) = cond (f n) (countBelow f n + 1) (countBelow f n)
 
+-- a test passes at some number below n
+abbrev pub someBelow : (ℕ → Bool) → ℕ → Bool
+someBelow f n = not (allBelow (λ i. not (f i)) n)
+
+-- the numbers below n, ascending
+unfoldable pub numbers : ℕ → List ℕ
+numbers zero = []
+numbers (suc n) = numbers n ++ (n ∷ [])
+
 -- a test passes at each element; the elements that pass it
 unfoldable pub all {ℓ} : {A : Type ℓ} → (A → Bool) → List A → Bool
 all f [] = true

@@ -1,6 +1,8 @@
 // The 32-bit words of rows, plans and saved states: a kind in the top bits, a value or number in the low ones.
 ghost use mathlib.Core.Path.{_≡_};
-ghost use Prim.Native.Nat.{_%_, _<_, _≤_};
+ghost use Prim.Native.Nat.{_+_, _%_, _<_, _≤_};
+ghost use lib.ListN.{length};
+ghost use lib.Seq.{paste};
 ghost use Rattle.words.specs.Bindings.{valueOf};
 ghost use Rattle.words.specs.Words.{termValues, termKind, termValue, name, number, text, variable, unbound, isVariable, isNumber, isValue};
 ghost use Rattle.words.specs.Words.{keyRank, lastRank, lowNumbers, kind, low, word, headKind, branchKind, trueKind, andKind, orKind, notKind};
@@ -308,4 +310,17 @@ pub fn value_of(word: u32, bound: &[u32; 16]) -> u32
         return Term::UNBOUND;
     }
     word
+}
+
+// Copies some words to the buffer from a on.
+pub fn copy_in(buf: &mut [u32], a: usize, words: &[u32])
+    requires { ⌜ a + length (now words) ≤ length (now buf) ⌝ }
+    ensures { λ _. ⌜ now (buf .exit) ≡ paste (now (buf .entry)) a (now (words .entry)) (length (now (words .entry))) ⌝ }
+{
+    let mut i: usize = 0;
+    while i < words.len() {
+        let v = words[i];
+        buf[a + i] = v;
+        i += 1;
+    }
 }

@@ -7,3 +7,4 @@ pub mod LimitsHold
 pub mod FaultsHold
 pub mod SizesHold
 pub mod StepsHold
+pub mod UploadsHold

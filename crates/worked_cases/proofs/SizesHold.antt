@@ -1,4 +1,4 @@
--- The most rows: test 1 by the lengths, which are known without the rows.
+-- The most rows: tests 1 and 15 by the lengths, which are known without the rows.
 use Prim.Native.Nat.{ℕ, _*_, _/_, _%_}
 use mathlib.Core.Path.{_≡_, refl}
 use mathlib.Core.Bool.{Bool, false, _&&_}
@@ -9,7 +9,9 @@ use Rattle.words.specs.declared.Written.the-variants.{Refused}
 use Rattle.words.specs.Tests.{firstFailing}
 use Rattle.tables.specs.Tables.{Tables, mostRows, columnCount, lengthsRight}
 use Rattle.turns.specs.Opening.{openOf}
-use Rattle.worked_cases.specs.Sizes.{zeroRows, RowLimit}
+use Rattle.uploads.specs.declared.Made.the-variants as made
+use Rattle.uploads.specs.Making.{MadeBuffers, uploadRight, MakeInput, makeOf}
+use Rattle.worked_cases.specs.Sizes.{zeroRows, RowLimit, UploadLimit}
 
 -- test 1 of three lengths
 abbrev fit : ℕ → ℕ → ℕ → Bool
@@ -26,3 +28,15 @@ by-one t plan state e = rw (e) refl
 
 pub row-limit : RowLimit
 row-limit = record { most = lengths 65536; more = λ plan state. by-one (zeroRows 65537) plan state (lengths 65537) }
+
+-- test 15 of a length
+uploaded : (n : ℕ) → uploadRight (replicate (n * 3) 0) ≡ (eqb (n * 3 % columnCount) 0 && leb (n * 3 / columnCount) mostRows)
+unfolding uploadRight
+uploaded n = simp (length-replicate)
+
+by-fifteen : (i : MakeInput) → uploadRight (i .upload) ≡ false → makeOf i ≡ record { answer = made.Refused 15; buffers = i .buffers }
+unfolding makeOf firstFailing
+by-fifteen i e = rw (e) refl
+
+pub upload-limit : UploadLimit
+upload-limit = record { most = uploaded 65536; more = λ b. by-fifteen _ (uploaded 65537) }

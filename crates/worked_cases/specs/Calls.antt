@@ -16,12 +16,15 @@ use Rattle.turns.specs.declared.TurnEnding.the-variants as ending
 use Rattle.turns.specs.Opening.{Opened, openOf}
 use Rattle.turns.specs.Turns.{TurnInput, TurnResult, turnTests, turnOf, resultOf}
 use Rattle.merges.specs.Merging.{MergeInput, MergeResult, mergeOf}
+use Rattle.uploads.specs.declared.Made.the-variants as answer
+use Rattle.uploads.specs.Making.{MakeInput, MakeResult, makeOf}
 
--- the three calls; the uncut run after n steps, with its list; and the tests of a turn alone, for a turn too long to compute
+-- the four calls; the uncut run after n steps, with its list; and the tests of a turn alone, for a turn too long to compute
 pub data Call : Type 0 where
   opening : Tables → List ℕ → List ℕ → Call
   turning : TurnInput → Call
   merging : MergeInput → Call
+  making : MakeInput → Call
   running : Tables → List ℕ → ℕ → Call
   testing : TurnInput → Call
 
@@ -29,6 +32,7 @@ pub data Result : Type 0 where
   opened : Opened → Result
   turned : TurnResult → Result
   merged : MergeResult → Result
+  made : MakeResult → Result
   ran : Option State → List ℕ → Result
   -- the number of the first test that fails, none where all pass
   tested : Option ℕ → Result
@@ -37,6 +41,7 @@ abbrev pub resultFor : Call → Result
 resultFor (opening t plan state) = opened (openOf t plan state)
 resultFor (turning i) = turned (turnOf i)
 resultFor (merging i) = merged (mergeOf i)
+resultFor (making i) = made (makeOf i)
 resultFor (running t plan n) =
     ran (after t (planOf plan) n .state) (gathered (planOf plan .ending) [] (after t (planOf plan) n .delivered))
 resultFor (testing i) = tested (firstFailing (turnTests i))
@@ -86,3 +91,6 @@ notTurned i x = turnCase i (ending.Refused x) 0 [] []
 
 abbrev pub notMerged : MergeInput → ℕ → Case
 notMerged i x = (merging i, merged (record { answer = Refused x; kept = i .kept }))
+
+abbrev pub notMade : MakeInput → ℕ → Case
+notMade i x = (making i, made (record { answer = answer.Refused x; buffers = i .buffers }))

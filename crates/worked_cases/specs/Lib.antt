@@ -12,3 +12,4 @@ pub mod States
 pub mod Limits
 pub mod Faults
 pub mod Sizes
+pub mod Uploads

@@ -10,6 +10,8 @@ use Rattle.tables.specs.Tables.{Tables, lengthsRight}
 use Rattle.turns.specs.declared.TurnEnding.the-variants.{Done}
 use Rattle.turns.specs.Opening.{openOf}
 use Rattle.turns.specs.Turns.{TurnInput, turnOf, resultOf}
+use Rattle.uploads.specs.declared.Made.the-variants as made
+use Rattle.uploads.specs.Making.{MadeBuffers, uploadRight, makeOf}
 use Rattle.worked_cases.specs.Calls.{turnCall}
 use Rattle.worked_cases.specs.Literals.{stems}
 
@@ -21,6 +23,11 @@ zeroRows n = record { rows = replicate (n * 3) 0; pos = replicate n 0; osp = rep
 pub record RowLimit : Type 0 where
   pub most : lengthsRight (zeroRows 65536) ≡ true
   pub more : (plan state : List ℕ) → openOf (zeroRows 65537) plan state ≡ record { answer = Refused 1; state = state }
+
+-- 65,536 uploaded rows pass test 15; 65,537 are refused by it, whatever the buffers
+pub record UploadLimit : Type 0 where
+  pub most : uploadRight (replicate (65536 * 3) 0) ≡ true
+  pub more : (b : MadeBuffers) → makeOf (record { upload = replicate (65537 * 3) 0; buffers = b }) ≡ record { answer = made.Refused 15; buffers = b }
 
 -- a turn of ?0 n11 ?1, an empty range, with a quantum
 abbrev pub emptyTurn : ℕ → TurnInput

@@ -6,12 +6,13 @@ use std::process::exit;
 
 use crate::evaluation::calls::{Merge, Open, Query, Turn};
 use crate::evaluation::tables::Tables;
+use crate::evaluation::uploads::Make;
 use crate::evaluation::words::*;
 use crate::histories::{self, Calls};
 use crate::inputs::random::Random;
-use crate::inputs::{calls, damage, plans, woods};
+use crate::inputs::{calls, damage, plans, uploads, woods};
 use crate::lending::{self, Made};
-use crate::libraries::{Library, Turned, Written};
+use crate::libraries::{self, Library, Turned, Written};
 
 /// Both libraries, and how often each answer came.
 struct Both {
@@ -70,6 +71,12 @@ impl Calls for Both {
         let made = self.made(call, lending::merge);
         self.note(named(made.answer.refused, "merged"));
         (made.answer, made.at_exit(0).to_vec())
+    }
+
+    fn make(&mut self, call: &Make) -> libraries::Made {
+        let made = self.made(call, lending::make);
+        self.note(named(made.answer.refused, "made"));
+        made.answer
     }
 }
 
@@ -143,6 +150,43 @@ pub fn made_up(to: &mut impl Calls, random: &mut Random, query: &Query) {
     });
 }
 
+/// Uploads of at most so many rows: as they come, damaged, and made up.
+pub fn uploaded(to: &mut impl Calls, random: &mut Random, most: usize) {
+    let words = uploads::upload(random, most);
+    let mut call = uploads::make(random, words);
+    to.make(&call);
+    for _ in 0..random.pick(&[1, 1, 2]) {
+        uploads::damage(random, &mut call);
+        to.make(&call);
+    }
+    to.make(&uploads::made_up(random));
+}
+
+/// An upload with buffers that are long enough whatever it makes.
+fn with_room(upload: Vec<u32>) -> Make {
+    let rows = upload.len() / 3;
+    Make {
+        rows: vec![5; 3 * rows],
+        pos: vec![5; rows],
+        osp: vec![5; rows],
+        report: vec![5; 2 * rows],
+        upload,
+    }
+}
+
+/// The largest uploads, and one row more than there may be; the longest report.
+fn largest_uploads(to: &mut impl Calls) {
+    let random = &mut Random::new(65_536);
+    for many in [65_535, 65_536, 65_537] {
+        to.make(&with_room(uploads::shuffled(random, many)));
+    }
+    let mut again = uploads::shuffled(random, 30_000);
+    again.extend_from_within(..);
+    again.extend([variable(0); 3].repeat(5_536));
+    to.make(&with_room(again));
+    to.make(&with_room([1, 10, 100].repeat(65_536)));
+}
+
 /// The largest woods, and one row more than there may be.
 fn largest(to: &mut impl Calls) {
     let random = &mut Random::new(65_536);
@@ -191,6 +235,7 @@ pub fn compare(file: &str, seeds: Range<u64>) {
         let query = plans::short_query(random);
         damaged(&mut both, random, &query, 4);
         made_up(&mut both, random, &query);
+        uploaded(&mut both, &mut Random::new(seed ^ 0x0AD5_0000), 25);
     }
     let (apart, histories) = (both.calls, seeds.end - seeds.start);
     for seed in seeds {
@@ -201,10 +246,11 @@ pub fn compare(file: &str, seeds: Range<u64>) {
         histories::play(&mut both, random, &query, quantum, 60);
     }
     largest(&mut both);
+    largest_uploads(&mut both);
     println!("{:?}", both.came);
-    let whats = (1..=14)
+    let whats = (1..=16)
         .map(|number| named(number, ""))
-        .chain(["opened", "done", "spent", "full", "merged"].map(String::from));
+        .chain(["opened", "done", "spent", "full", "merged", "made"].map(String::from));
     let rare: Vec<String> = whats
         .filter(|what| both.came.get(what).copied().unwrap_or(0) < OFTEN)
         .collect();

@@ -2,15 +2,17 @@
 
 use crate::evaluation::calls::{Merge, Open, Query, Turn};
 use crate::evaluation::plan::Ending;
+use crate::evaluation::uploads::Make;
 use crate::inputs::random::Random;
 use crate::inputs::{calls, damage};
-use crate::libraries::{Turned, Written};
+use crate::libraries::{Made, Turned, Written};
 
 /// Where the calls of a history go: each is made, and answered with the written buffers at exit.
 pub trait Calls {
     fn open(&mut self, call: &Open) -> (Written, Vec<u32>);
     fn turn(&mut self, call: &Turn) -> (Turned, Vec<u32>, Vec<u32>);
     fn merge(&mut self, call: &Merge) -> (Written, Vec<u32>);
+    fn make(&mut self, call: &Make) -> Made;
 }
 
 const DONE: u32 = 0;

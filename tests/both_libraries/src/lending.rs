@@ -1,7 +1,8 @@
 //! Calls made of a library over copies of their buffers, with guard words around each: what they answer, and every word at exit.
 
 use crate::evaluation::calls::{Merge, Open, Turn};
-use crate::libraries::{Lent, Library, Turned, Written};
+use crate::evaluation::uploads::Make;
+use crate::libraries::{self, Lent, Library, Turned, Written};
 
 const GUARDS: usize = 8;
 const GUARD: u32 = 0xA5A5_C3C3;
@@ -95,4 +96,17 @@ pub fn least_output(library: &Library, plan: &Vec<u32>) -> Made<Written> {
     let plan = Copied::new(plan);
     let answer = library.least_output(plan.words());
     Made::new(answer, vec![plan])
+}
+
+pub fn make(library: &Library, call: &Make) -> Made<libraries::Made> {
+    let upload = Copied::new(&call.upload);
+    let [mut rows, mut pos, mut osp, mut report] = [&call.rows, &call.pos, &call.osp, &call.report].map(|words| Copied::new(words));
+    let answer = library.make(
+        upload.words(),
+        rows.words_mut(),
+        pos.words_mut(),
+        osp.words_mut(),
+        report.words_mut(),
+    );
+    Made::new(answer, vec![rows, pos, osp, report, upload])
 }

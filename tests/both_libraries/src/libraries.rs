@@ -20,6 +20,16 @@ pub struct Turned {
     pub list_words: usize,
 }
 
+#[derive(Clone, Copy, Debug, PartialEq)]
+#[repr(C)]
+pub struct Made {
+    pub refused: u32,
+    pub rows_words: usize,
+    pub pos_words: usize,
+    pub osp_words: usize,
+    pub report_words: usize,
+}
+
 /// A buffer that is read, as C has it, and one that is written.
 type Read = *const u32;
 type Write = *mut u32;
@@ -44,6 +54,7 @@ type TurnCall = unsafe extern "C" fn(
 ) -> Turned;
 type MergeCall = unsafe extern "C" fn(Read, usize, Write, usize, usize, Read, usize) -> Written;
 type LeastCall = unsafe extern "C" fn(Read, usize) -> Written;
+type MakeCall = unsafe extern "C" fn(Read, usize, Write, usize, Write, usize, Write, usize, Write, usize) -> Made;
 
 #[link(name = "sotjarn", kind = "static")]
 extern "C" {
@@ -68,6 +79,7 @@ extern "C" {
     ) -> Turned;
     fn sotjarn_merge(_: Read, _: usize, _: Write, _: usize, _: usize, _: Read, _: usize) -> Written;
     fn sotjarn_least_output(_: Read, _: usize) -> Written;
+    fn sotjarn_make(_: Read, _: usize, _: Write, _: usize, _: Write, _: usize, _: Write, _: usize, _: Write, _: usize) -> Made;
 }
 
 #[link(name = "dl")]
@@ -85,6 +97,7 @@ pub struct Library {
     turn: TurnCall,
     merge: MergeCall,
     least: LeastCall,
+    make: MakeCall,
 }
 
 /// The tables and the plan of a call.
@@ -102,6 +115,7 @@ impl Library {
             turn: sotjarn_turn,
             merge: sotjarn_merge,
             least: sotjarn_least_output,
+            make: sotjarn_make,
         }
     }
 
@@ -125,6 +139,7 @@ impl Library {
                 turn: transmute_copy(&symbol(c"sotjarn_turn")),
                 merge: transmute_copy(&symbol(c"sotjarn_merge")),
                 least: transmute_copy(&symbol(c"sotjarn_least_output")),
+                make: transmute_copy(&symbol(c"sotjarn_make")),
             }
         }
     }
@@ -199,5 +214,23 @@ impl Library {
     pub fn least_output(&self, plan: &[u32]) -> Written {
         // Sound: the address and the length are a slice's, and nothing is written.
         unsafe { (self.least)(plan.as_ptr(), plan.len()) }
+    }
+
+    pub fn make(&self, upload: &[u32], rows: &mut [u32], pos: &mut [u32], osp: &mut [u32], report: &mut [u32]) -> Made {
+        // Sound: each address and length is a slice's, and the written buffers are `&mut` slices.
+        unsafe {
+            (self.make)(
+                upload.as_ptr(),
+                upload.len(),
+                rows.as_mut_ptr(),
+                rows.len(),
+                pos.as_mut_ptr(),
+                pos.len(),
+                osp.as_mut_ptr(),
+                osp.len(),
+                report.as_mut_ptr(),
+                report.len(),
+            )
+        }
     }
 }

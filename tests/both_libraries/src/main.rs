@@ -4,7 +4,7 @@
 //!     both_libraries PORTABLE.so [--seeds N] [--seed FIRST]      compare
 //!     both_libraries --vectors FILE                              write the test vectors, with the proved library's answers
 //!
-//! Woods, plans, calls and damage come from the generators of bindings/rust's property tests.
+//! Woods, uploads, plans, calls and damage come from the generators of bindings/rust's property tests.
 
 #[path = "../../../bindings/rust/tests/properties/evaluation/mod.rs"]
 #[allow(dead_code)]

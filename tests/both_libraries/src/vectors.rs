@@ -2,16 +2,17 @@
 
 use std::fs;
 
-use crate::comparing::{damaged, made_up};
+use crate::comparing::{damaged, made_up, uploaded};
 use crate::evaluation::calls::{Merge, Open, Query, Turn};
 use crate::evaluation::plan::{Branch, Condition, Ending, Plan};
 use crate::evaluation::tables::Tables;
+use crate::evaluation::uploads::Make;
 use crate::evaluation::words::*;
 use crate::histories::{self, Calls};
 use crate::inputs::plans;
 use crate::inputs::random::Random;
 use crate::lending;
-use crate::libraries::{Library, Turned, Written};
+use crate::libraries::{Library, Made, Turned, Written};
 
 /// How many queries there are, each with damaged calls, made-up ones and a history.
 const QUERIES: u64 = 80;
@@ -27,6 +28,13 @@ const STEMS: u32 = 3;
 const OPEN: u32 = 4;
 const TURN: u32 = 5;
 const MERGE: u32 = 6;
+const MAKE: u32 = 7;
+const SHUFFLED: u32 = 8;
+const MAKE_STEMS: u32 = 9;
+
+/// How many small uploads there are, and the most rows of one.
+const UPLOADS: u64 = 60;
+const UPLOADED: usize = 14;
 
 /// The buffers, by their numbers in the file.
 #[derive(Clone, Copy)]
@@ -40,7 +48,12 @@ enum Name {
     Output,
     Kept,
     List,
+    Upload,
+    Report,
 }
+
+/// How many buffers there are.
+const BUFFERS: usize = 11;
 
 /// The words of a filled buffer.
 fn filled(many: usize) -> Vec<u32> {
@@ -58,10 +71,17 @@ fn stems(many: u32) -> Tables {
     }
 }
 
+/// The stems by the same rule as an upload, in another order: one that visits each once.
+fn shuffled(many: u32) -> Vec<u32> {
+    (0..u64::from(many))
+        .flat_map(|at| [name((at * 40_507 % u64::from(many)) as u32), name(10), name(100)])
+        .collect()
+}
+
 /// The vectors that are being written: what the buffers hold by now, and the words of the file.
 struct Vectors {
     proved: Library,
-    held: [Vec<u32>; 9],
+    held: [Vec<u32>; BUFFERS],
     words: Vec<u32>,
     calls: u32,
 }
@@ -96,6 +116,53 @@ impl Vectors {
         self.held[Name::Pos as usize] = tables.pos.clone();
         self.held[Name::Osp as usize] = tables.osp.clone();
         tables
+    }
+
+    /// Has the upload hold so many stems, shuffled.
+    fn lend_shuffled(&mut self, many: u32) {
+        self.words.extend([SHUFFLED, many]);
+        self.held[Name::Upload as usize] = shuffled(many);
+    }
+
+    /// Makes tables of the upload of so many stems that is lent, in buffers that are longer by one word, and asks for those of the rule.
+    fn make_stems(&mut self, many: u32) {
+        let rows = many as usize;
+        let call = Make {
+            upload: shuffled(many),
+            rows: filled(3 * rows + 1),
+            pos: filled(rows + 1),
+            osp: filled(rows + 1),
+            report: filled(1),
+        };
+        let (made, right) = (lending::make(&self.proved, &call), stems(many));
+        assert!(
+            made.answer.refused == 0 && made.answer.report_words == 0,
+            "the stems are kept"
+        );
+        for (at, words) in [&right.rows, &right.pos, &right.osp].into_iter().enumerate() {
+            assert!(
+                made.at_exit(at)[..words.len()] == words[..],
+                "the tables are those of the rule"
+            );
+        }
+        self.lend_buffers(&call);
+        self.words.extend([MAKE_STEMS, many]);
+        self.held_after(&made);
+        self.calls += 1;
+    }
+
+    fn lend_buffers(&mut self, call: &Make) {
+        self.lend(Name::Rows, &call.rows);
+        self.lend(Name::Pos, &call.pos);
+        self.lend(Name::Osp, &call.osp);
+        self.lend(Name::Report, &call.report);
+    }
+
+    /// The buffers after tables were made.
+    fn held_after(&mut self, made: &lending::Made<Made>) {
+        for (at, buffer) in [Name::Rows, Name::Pos, Name::Osp, Name::Report].into_iter().enumerate() {
+            self.held[buffer as usize] = made.at_exit(at).to_vec();
+        }
     }
 
     /// A buffer after a call that wrote so many words to its front.
@@ -161,6 +228,35 @@ impl Calls for Vectors {
         self.calls += 1;
         (made.answer, made.at_exit(0).to_vec())
     }
+
+    fn make(&mut self, call: &Make) -> Made {
+        let call = Make {
+            upload: call.upload.clone(),
+            rows: filled(call.rows.len()),
+            pos: filled(call.pos.len()),
+            osp: filled(call.osp.len()),
+            report: filled(call.report.len()),
+        };
+        let made = lending::make(&self.proved, &call);
+        let Made {
+            refused,
+            rows_words,
+            pos_words,
+            osp_words,
+            report_words,
+        } = made.answer;
+        self.lend(Name::Upload, &call.upload);
+        self.lend_buffers(&call);
+        let lengths = [rows_words, pos_words, osp_words, report_words];
+        self.words.extend([MAKE, refused]);
+        self.words.extend(lengths.map(|words| words as u32));
+        for (at, words) in lengths.into_iter().enumerate() {
+            self.words.extend(&made.at_exit(at)[..words]);
+        }
+        self.held_after(&made);
+        self.calls += 1;
+        made.answer
+    }
 }
 
 /// Short queries: damaged and made-up calls, and a history.
@@ -173,6 +269,25 @@ fn short(to: &mut Vectors) {
         damaged(to, random, &query, 2);
         made_up(to, random, &query);
     }
+}
+
+/// Uploads: small ones as they come, damaged and made up; then the most rows and one more.
+fn uploads(to: &mut Vectors) {
+    for seed in 0..UPLOADS {
+        uploaded(to, &mut Random::new(seed), UPLOADED);
+    }
+    for many in [1, 2, 1_050, 65_535, 65_536] {
+        to.lend_shuffled(many);
+        to.make_stems(many);
+    }
+    to.lend_shuffled(65_537);
+    to.make(&Make {
+        upload: shuffled(65_537),
+        rows: filled(3),
+        pos: filled(1),
+        osp: filled(1),
+        report: filled(1),
+    });
 }
 
 /// The pairs of stems of one stand, counted.
@@ -218,6 +333,7 @@ pub fn write(file: &str) {
         calls: 0,
     };
     short(&mut made);
+    uploads(&mut made);
     long(&mut made);
     let bytes: Vec<u8> = made.words.iter().flat_map(|word| word.to_le_bytes()).collect();
     fs::write(file, &bytes).expect("the file is written");

@@ -4,6 +4,7 @@ use std::cell::Cell;
 use std::hint::black_box;
 
 use crate::evaluation::calls::{Answer, How, Merge, Open, Turn};
+use crate::evaluation::uploads::{Make, Written};
 use sotjarn::{Refusal, Tables, TurnEnding};
 
 thread_local! {
@@ -120,4 +121,27 @@ pub fn merge(call: &Merge) -> (Result<usize, u32>, Vec<u32>) {
     let answer = sotjarn::merge(plan.lent(), kept.lent_mut(), call.given, list.lent());
     [plan, list].into_iter().for_each(Guarded::unchanged);
     (answer.map_err(number), kept.at_exit())
+}
+
+pub fn make(call: &Make) -> (Result<Written, u32>, Make) {
+    let upload = Guarded::new("upload", &call.upload);
+    let (mut rows, mut pos) = (Guarded::new("rows", &call.rows), Guarded::new("pos", &call.pos));
+    let (mut osp, mut report) = (Guarded::new("osp", &call.osp), Guarded::new("report", &call.report));
+    let answer = sotjarn::make(
+        upload.lent(),
+        rows.lent_mut(),
+        pos.lent_mut(),
+        osp.lent_mut(),
+        report.lent_mut(),
+    );
+    upload.unchanged();
+    let at_exit = Make {
+        upload: call.upload.clone(),
+        rows: rows.at_exit(),
+        pos: pos.at_exit(),
+        osp: osp.at_exit(),
+        report: report.at_exit(),
+    };
+    let answer = answer.map(|made| (made.rows_words, made.pos_words, made.osp_words, made.report_words));
+    (answer.map_err(number), at_exit)
 }

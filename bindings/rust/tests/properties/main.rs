@@ -10,3 +10,4 @@ mod guarded;
 mod inputs;
 mod long;
 mod short;
+mod uploads;

@@ -1,4 +1,4 @@
-//! The three calls: tests in their order, the answer, and the written buffers at exit.
+//! The three calls of a query: tests in their order, the answer, and the written buffers at exit.
 
 use std::collections::BTreeSet;
 

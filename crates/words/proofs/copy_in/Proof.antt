@@ -5,8 +5,8 @@ use native.Mathlib.Omega.{arith}
 use native.Mathlib.Numerals.{add-one}
 use lib.ListN.{length, length-set}
 use lib.Seq.{paste, paste-zero, paste-suc}
-use Rattle.lists.proofs.shifts.copy_in.Statement.{statement}
-use Rattle.lists.proofs.shifts.copy_in.Tie as tie
+use Rattle.words.proofs.copy_in.Statement.{statement}
+use Rattle.words.proofs.copy_in.Tie as tie
 
 abbrev Inv-loop : tie.InvT-loop
 Inv-loop buf₀ a words i₀ buf i = (i ≤ length words) × (length buf ≡ length buf₀) × (buf ≡ paste buf₀ a words i)

@@ -1,0 +1,77 @@
+// Tables from an upload in C++, by std::stable_sort, for comparison only: nothing of it is proved. The whole job of the call: rows are
+// judged, sorted, repeats dropped, both lists of row numbers sorted, and the report written.
+#include "tables.h"
+
+#include <algorithm>
+#include <numeric>
+#include <vector>
+
+namespace {
+
+constexpr size_t columns = 3;
+constexpr size_t most_rows = 65536;
+enum : uint8_t { kept, wrong_kind, repeat };
+
+// The order of rows by their columns from one on.
+template <size_t first> struct Before {
+    const uint32_t *rows;
+
+    bool operator()(uint32_t a, uint32_t b) const
+    {
+        constexpr size_t second = (first + 1) % columns, third = (first + 2) % columns;
+        const uint32_t *x = rows + columns * a, *y = rows + columns * b;
+        if (x[first] != y[first])
+            return x[first] < y[first];
+        return x[second] != y[second] ? x[second] < y[second] : x[third] < y[third];
+    }
+};
+
+bool kinds_right(const uint32_t *row)
+{
+    return row[0] >> 30 == 0 && row[1] >> 30 == 0 && row[2] >> 30 != 3;
+}
+
+template <size_t first> void write_list(const uint32_t *rows, uint32_t *list, size_t count)
+{
+    std::iota(list, list + count, 0);
+    std::stable_sort(list, list + count, Before<first>{rows});
+}
+
+} // namespace
+
+extern "C" struct sotjarn_made cpp_make(const uint32_t *upload, size_t upload_len, uint32_t *rows, size_t rows_len, uint32_t *pos,
+                                        size_t pos_len, uint32_t *osp, size_t osp_len, uint32_t *report, size_t report_len)
+{
+    const size_t count = upload_len / columns;
+    if (upload_len % columns != 0 || count > most_rows)
+        return {15, 0, 0, 0, 0};
+    std::vector<uint32_t> list;
+    std::vector<uint8_t> fates(count, kept);
+    list.reserve(count);
+    for (size_t row = 0; row < count; row++) {
+        if (kinds_right(upload + columns * row))
+            list.push_back(static_cast<uint32_t>(row));
+        else
+            fates[row] = wrong_kind;
+    }
+    std::stable_sort(list.begin(), list.end(), Before<0>{upload});
+    for (size_t place = 1; place < list.size(); place++)
+        if (!Before<0>{upload}(list[place - 1], list[place]))
+            fates[list[place]] = repeat;
+    const size_t many = static_cast<size_t>(std::count(fates.begin(), fates.end(), kept));
+    if (rows_len < columns * many || pos_len < many || osp_len < many || report_len < 2 * (count - many))
+        return {16, 0, 0, 0, 0};
+    uint32_t *next = rows;
+    for (uint32_t row : list)
+        if (fates[row] == kept)
+            next = std::copy_n(upload + columns * row, columns, next);
+    write_list<1>(rows, pos, many);
+    write_list<2>(rows, osp, many);
+    uint32_t *told = report;
+    for (size_t row = 0; row < count; row++)
+        if (fates[row] != kept) {
+            *told++ = static_cast<uint32_t>(row);
+            *told++ = fates[row];
+        }
+    return {0, columns * many, many, many, 2 * (count - many)};
+}

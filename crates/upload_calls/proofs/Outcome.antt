@@ -1,0 +1,112 @@
+-- The outcome of making tables, test by test.
+use Prim.Native.Nat.{ℕ, _-_, _*_, _%_, _≤_, _<_}
+use native.Mathlib.Omega.{arith}
+use mathlib.Core.Path.{_≡_, sym, _∙_}
+use mathlib.Core.Bool.{true, false}
+use mathlib.Core.List.{List}
+use lib.Dec.{leb}
+use lib.ListN.{length}
+use borrow.Author.Tests.{eq-eqb, ne-eqb, le-leb, lt-leb, leb-true}
+use Rattle.words.specs.Sequences.{over}
+use Rattle.words.specs.Tests.{firstFailing}
+use Rattle.words.proofs.Booleans.{and-left, and-right}
+use Rattle.tables.specs.declared.Order.the-variants.{Pos, Osp}
+use Rattle.tables.specs.Tables.{columnCount, mostRows}
+use Rattle.uploads.specs.declared.Made.the-variants.{Words, Refused}
+use Rattle.uploads.specs.Uploads.{uploadCount, keptCount, droppedCount, entryWords, madeOf, reportOf}
+use Rattle.uploads.specs.Making.{MadeBuffers, buffersOf, MakeInput, MakeResult, uploadRight, roomRight, madeWith, makeOf}
+use Rattle.uploads.proofs.Lengths.{all-rows, made-length, numbers-made, report-length}
+use Rattle.uploads.proofs.Writes.{room-right}
+use Rattle.upload_calls.specs.Writing.{roomFor}
+
+-- ---- 15
+module _ (up : List ℕ) where
+  pub upload-parts : (length up % columnCount ≡ 0 → ⊥) → uploadRight up ≡ false
+  unfolding uploadRight
+  upload-parts n = rw (ne-eqb (length up % columnCount) 0 n)
+
+  pub upload-many : length up % columnCount ≡ 0 → mostRows < uploadCount up → uploadRight up ≡ false
+  unfolding uploadRight
+  upload-many e h = rw (eq-eqb (length up % columnCount) 0 e, lt-leb (uploadCount up) mostRows h)
+
+  pub dropped-is : (kept : ℕ) → kept ≡ keptCount up → uploadCount up - kept ≡ droppedCount up
+  dropped-is kept e = omega (arith, all-rows up)
+
+module _ (i : MakeInput) where
+  pub wrong-upload : uploadRight (i .upload) ≡ false → record { answer = Refused 15; buffers = i .buffers } ≡ makeOf i
+  unfolding makeOf firstFailing
+  wrong-upload e = rw e
+
+  -- ---- 16, as the code tests it
+  module _ (u : uploadRight (i .upload) ≡ true) (kept dropped : ℕ) (k : kept ≡ keptCount (i .upload)) (d : dropped ≡ droppedCount (i .upload)) where
+    room-is : roomFor kept dropped (length (i .buffers .rows)) (length (i .buffers .pos)) (length (i .buffers .osp)) (length (i .buffers .report))
+        ≡ roomRight (madeOf (i .upload)) (reportOf (i .upload)) (i .buffers)
+    unfolding roomFor
+    room-is = rw (k, d) (sym (room-right i))
+
+    pub no-room : roomFor kept dropped (length (i .buffers .rows)) (length (i .buffers .pos)) (length (i .buffers .osp)) (length (i .buffers .report))
+        ≡ false → record { answer = Refused 16; buffers = i .buffers } ≡ makeOf i
+    unfolding makeOf firstFailing
+    no-room e = rw (u, sym room-is ∙ e)
+
+    pub served : roomFor kept dropped (length (i .buffers .rows)) (length (i .buffers .pos)) (length (i .buffers .osp)) (length (i .buffers .report))
+        ≡ true → madeWith (madeOf (i .upload)) (reportOf (i .upload)) (i .buffers) ≡ makeOf i
+    unfolding makeOf firstFailing
+    served e = rw (u, sym room-is ∙ e)
+
+-- ---- the room, length by length
+module _ (kept dropped rows pos osp report : ℕ) where
+  pub no-rows : rows < kept * columnCount → roomFor kept dropped rows pos osp report ≡ false
+  unfolding roomFor
+  no-rows h = rw (lt-leb (kept * columnCount) rows h)
+
+  module _ (r : kept * columnCount ≤ rows) where
+    pub no-pos : pos < kept → roomFor kept dropped rows pos osp report ≡ false
+    unfolding roomFor
+    no-pos h = rw (le-leb (kept * columnCount) rows r, lt-leb kept pos h)
+
+    module _ (p : kept ≤ pos) where
+      pub no-osp : osp < kept → roomFor kept dropped rows pos osp report ≡ false
+      unfolding roomFor
+      no-osp h = rw (le-leb (kept * columnCount) rows r, le-leb kept pos p, lt-leb kept osp h)
+
+      pub by-report : kept ≤ osp → roomFor kept dropped rows pos osp report ≡ leb (dropped * entryWords) report
+      unfolding roomFor
+      by-report o = rw (le-leb (kept * columnCount) rows r, le-leb kept pos p, le-leb kept osp o)
+
+-- what there is room for
+pub record RoomParts (kept dropped rows pos osp report : ℕ) : Type 0 where
+  pub for-rows : kept * columnCount ≤ rows
+  pub for-pos : kept ≤ pos
+  pub for-osp : kept ≤ osp
+  pub for-report : dropped * entryWords ≤ report
+
+pub room-parts : (kept dropped rows pos osp report : ℕ) → roomFor kept dropped rows pos osp report ≡ true
+    → RoomParts kept dropped rows pos osp report
+unfolding roomFor
+room-parts kept dropped rows pos osp report e =
+    let a = and-right (leb (kept * columnCount) rows) _ e in
+    let b = and-right (leb kept pos) _ a in
+    record {
+      for-rows = leb-true _ _ (and-left (leb (kept * columnCount) rows) _ e);
+      for-pos = leb-true _ _ (and-left (leb kept pos) _ a);
+      for-osp = leb-true _ _ (and-left (leb kept osp) _ b);
+      for-report = leb-true _ _ (and-right (leb kept osp) _ b);
+    }
+
+-- ---- a result with the words of what is made
+abbrev results : ℕ → ℕ → ℕ → ℕ → List ℕ → List ℕ → List ℕ → List ℕ → MakeResult
+results a b c d rows pos osp report = record { answer = Words a b c d; buffers = buffersOf rows pos osp report }
+
+equal-results : {a a' b b' c c' d d' : ℕ} {r r' p p' o o' q q' : List ℕ} → a ≡ a' → b ≡ b' → c ≡ c' → d ≡ d' → r ≡ r'
+    → p ≡ p' → o ≡ o' → q ≡ q'
+    → results a b c d r p o q ≡ results a' b' c' d' r' p' o' q'
+equal-results e f g h i j k l = rw (e, f, g, h, i, j, k, l)
+
+pub same-result : (i : MakeInput) (a b d : ℕ) (rows pos osp report : List ℕ)
+    → a ≡ keptCount (i .upload) * columnCount → b ≡ keptCount (i .upload) → d ≡ length (reportOf (i .upload))
+    → rows ≡ over (madeOf (i .upload) .rows) (i .buffers .rows) → pos ≡ over (madeOf (i .upload) .pos) (i .buffers .pos)
+    → osp ≡ over (madeOf (i .upload) .osp) (i .buffers .osp) → report ≡ over (reportOf (i .upload)) (i .buffers .report)
+    → record { answer = Words a b b d; buffers = buffersOf rows pos osp report } ≡ madeWith (madeOf (i .upload)) (reportOf (i .upload)) (i .buffers)
+same-result i a b d rows pos osp report e f g h j k l =
+    equal-results (e ∙ sym (made-length (i .upload))) (f ∙ sym (numbers-made (i .upload) Pos)) (f ∙ sym (numbers-made (i .upload) Osp)) g h j k l

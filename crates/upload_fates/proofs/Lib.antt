@@ -1,0 +1,5 @@
+pub mod Marking
+pub mod Repeats
+pub mod RightNumbers
+pub mod Judged
+pub mod Judging

@@ -1,0 +1,45 @@
+-- What a served call leaves: tables that tests 1 to 4 accept, which hold exactly the kept triples, and a report of exactly the dropped rows.
+use Prim.Native.Nat.{ℕ, _≤_}
+use mathlib.Core.Path.{_≡_, sym, _∙_, ap, subst⁻¹}
+use mathlib.Core.Option.{none}
+use mathlib.Core.List.{List}
+use lib.ListN.{length, take}
+use Rattle.words.specs.Tests.{firstFailing}
+use Rattle.words.proofs.Buffers.{take-over}
+use Rattle.tables.specs.Tables.{Tables, tablesOf, mostRows, tableTests}
+use Rattle.tables.proofs.MadeTables.{made-accepted}
+use Rattle.uploads.specs.Uploads.{uploadCount, madeRows, madeOf, reportOf}
+use Rattle.uploads.specs.Making.{MakeInput, MadeBuffers, MakeResult, madeWith, makeOf}
+use Rattle.uploads.specs.Refusals.{Makes}
+use Rattle.uploads.specs.Exactness.{tablesIn, reportIn, Exactly, Reported, MadeRight}
+use Rattle.uploads.proofs.Kept.{kept-right}
+use Rattle.uploads.proofs.Exact.{made-exactly}
+use Rattle.uploads.proofs.Reported.{report-exactly}
+use Rattle.uploads.proofs.Refusals.{made-so}
+use Rattle.uploads.proofs.Writes.{make-suffices}
+
+-- the made tables themselves
+pub made-passes : (up : List ℕ) → uploadCount up ≤ mostRows → firstFailing (tableTests (madeOf up)) ≡ none
+made-passes up few = made-accepted (madeRows up) (kept-right up few)
+
+-- what is read back from the buffers
+read-tables : (t : Tables) (report : List ℕ) (b : MadeBuffers) → tablesIn (madeWith t report b) ≡ t
+read-tables t report b = rw (take-over (t .rows) (b .rows), take-over (t .pos) (b .pos), take-over (t .osp) (b .osp))
+
+module _ (i : MakeInput) (m : Makes i) where
+  pub tables-left : tablesIn (makeOf i) ≡ madeOf (i .upload)
+  tables-left = ap tablesIn (made-so i m) ∙ read-tables (madeOf (i .upload)) (reportOf (i .upload)) (i .buffers)
+
+  pub report-left : reportIn (makeOf i) ≡ reportOf (i .upload)
+  report-left = ap reportIn (made-so i m) ∙ take-over (reportOf (i .upload)) (i .buffers .report)
+
+  few : uploadCount (i .upload) ≤ mostRows
+  few = make-suffices i .0 m .few
+
+  pub make-right : MadeRight i
+  make-right =
+      record {
+        accepted = ap (λ t. firstFailing (tableTests t)) tables-left ∙ made-passes (i .upload) few;
+        exact = subst⁻¹ (Exactly (i .upload)) tables-left (made-exactly (i .upload) few);
+        told = subst⁻¹ (Reported (i .upload)) report-left (report-exactly (i .upload));
+      }

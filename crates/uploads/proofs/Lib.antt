@@ -1,0 +1,9 @@
+pub mod SameRows
+pub mod Fates
+pub mod Kept
+pub mod Lengths
+pub mod Exact
+pub mod Reported
+pub mod Refusals
+pub mod Writes
+pub mod Leaves

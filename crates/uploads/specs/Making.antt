@@ -1,0 +1,88 @@
+-- Making tables from an upload: the tests in order, the answer, and the buffers at exit. Assumes nothing: these are definitions.
+use Prim.Native.Nat.{ℕ, _%_}
+use mathlib.Core.Bool.{Bool, _&&_}
+use mathlib.Core.Option.{Option, none, some}
+use mathlib.Core.List.{List, [], _∷_}
+use lib.Dec.{eqb, leb}
+use lib.ListN.{length}
+use Rattle.words.specs.Sequences.{over}
+use Rattle.words.specs.Tests.{Test, firstFailing}
+use Rattle.tables.specs.Tables.{Tables, columnCount, mostRows}
+use Rattle.uploads.specs.declared.Made.{Made}
+use Rattle.uploads.specs.declared.Made.the-variants.{Words, Refused}
+use Rattle.uploads.specs.Uploads.{uploadCount, madeOf, reportOf}
+
+-- the buffers that a call writes to
+pub record MadeBuffers : Type 0 where
+  pub rows : List ℕ
+  pub pos : List ℕ
+  pub osp : List ℕ
+  pub report : List ℕ
+
+abbrev pub buffersOf : List ℕ → List ℕ → List ℕ → List ℕ → MadeBuffers
+buffersOf rows pos osp report = record { rows = rows; pos = pos; osp = osp; report = report }
+
+-- what a call lends
+pub record MakeInput : Type 0 where
+  pub upload : List ℕ
+  pub buffers : MadeBuffers
+
+abbrev pub makeInput : List ℕ → List ℕ → List ℕ → List ℕ → List ℕ → MakeInput
+makeInput upload rows pos osp report = record { upload = upload; buffers = buffersOf rows pos osp report }
+
+-- ---- the tests
+-- 15: whole rows, and not too many
+unfoldable pub uploadRight : List ℕ → Bool
+uploadRight up = eqb (length up % columnCount) 0 && leb (uploadCount up) mostRows
+
+-- 16: each buffer has room for what is written to it
+unfoldable pub roomRight : Tables → List ℕ → MadeBuffers → Bool
+roomRight t report b =
+    leb (length (t .rows)) (length (b .rows))
+    && (leb (length (t .pos)) (length (b .pos)) && (leb (length (t .osp)) (length (b .osp)) && leb (length report) (length (b .report))))
+
+abbrev pub makeTests : MakeInput → List Test
+makeTests i =
+    (15, uploadRight (i .upload))
+    ∷ (16, roomRight (madeOf (i .upload)) (reportOf (i .upload)) (i .buffers))
+    ∷ []
+
+-- ---- what a call answers, and what it leaves
+pub record MakeResult : Type 0 where
+  pub answer : Made
+  pub buffers : MadeBuffers
+
+abbrev pub madeWith : Tables → List ℕ → MadeBuffers → MakeResult
+madeWith t report b =
+    record {
+      answer = Words (length (t .rows)) (length (t .pos)) (length (t .osp)) (length report);
+      buffers = buffersOf (over (t .rows) (b .rows)) (over (t .pos) (b .pos)) (over (t .osp) (b .osp)) (over report (b .report));
+    }
+
+-- a refusal changes nothing
+abbrev pub madeAs : MakeInput → Option ℕ → MakeResult
+madeAs i (some n) = record { answer = Refused n; buffers = i .buffers }
+madeAs i none = madeWith (madeOf (i .upload)) (reportOf (i .upload)) (i .buffers)
+
+unfoldable pub makeOf : MakeInput → MakeResult
+makeOf i = madeAs i (firstFailing (makeTests i))
+
+-- ---- the numbers and values of an answer
+-- the number of the test that refused a call, 0 where it was served
+abbrev pub madeRefusal : Made → ℕ
+madeRefusal (Words rows pos osp report) = 0
+madeRefusal (Refused x) = x
+
+-- the words written to each buffer: none by a refused call
+pub record MadeWords : Type 0 where
+  pub rows : ℕ
+  pub pos : ℕ
+  pub osp : ℕ
+  pub report : ℕ
+
+abbrev pub noWords : MadeWords
+noWords = record { rows = 0; pos = 0; osp = 0; report = 0 }
+
+abbrev pub madeWords : Made → MadeWords
+madeWords (Words rows pos osp report) = record { rows = rows; pos = pos; osp = osp; report = report }
+madeWords (Refused x) = noWords
