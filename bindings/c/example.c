@@ -1,6 +1,6 @@
 /* The three-stem wood from C: tables made from an upload and the report of what was dropped, a row query in turns of four steps, a best-of
- * list with a threshold, totals merged turn by turn, and refused calls. Each buffer comes from malloc with exactly the words it needs, so
- * that a memory checker sees every word beside it.
+ * list with a threshold, totals merged turn by turn, the total of nothing, and refused calls. Each buffer comes from malloc with exactly the
+ * words it needs, so that a memory checker sees every word beside it.
  * Compiles as C99 and as C++. Prints what it does; exits with 1 where something is not as the rules say. */
 #include "sotjarn.h"
 #include "sotjarn_words.h"
@@ -24,6 +24,8 @@ static const uint32_t plan_rows[] = {PATTERNS, SOTJARN_COMPARISON(SOTJARN_AT_LEA
 static const uint32_t plan_top[] = {PATTERNS, SOTJARN_TRUE,
                                     SOTJARN_TOP(1), SOTJARN_ROWS(2), VARIABLE(0), VARIABLE(1), SOTJARN_FALLING(1)};
 static const uint32_t plan_group[] = {PATTERNS, SOTJARN_TRUE, SOTJARN_GROUP(0), VARIABLE(1)};
+static const uint32_t plan_felled[] = {PATTERNS, SOTJARN_COMPARISON(SOTJARN_GREATER), VARIABLE(1), NUMBER(310),
+                                       SOTJARN_GROUP(0), VARIABLE(1)};
 
 /* The wood as it was measured: the last stem first, the diameter of stem n2 taken twice, and a row whose subject is a text. */
 enum { UPLOADED = 8, KEPT = 6, DROPPED = UPLOADED - KEPT };
@@ -256,6 +258,14 @@ static void best_of(void)
     free_query(&query);
 }
 
+static void print_total(const uint32_t *record)
+{
+    printf("group %" PRIu64 " %" PRIu64 " %" PRIu64, sotjarn_wide(record), sotjarn_wide(record + 2), sotjarn_wide(record + 4));
+    print_term(record[6]);
+    print_term(record[7]);
+    printf("\n");
+}
+
 /* The totals of all stems. */
 static void totals(void)
 {
@@ -263,10 +273,20 @@ static void totals(void)
     struct buffer kept = make_buffer(least_output(&query));
     size_t words = merge_in_turns(&query, 3, kept, 0);
     expect(words == 8 && sotjarn_wide(kept.words) == 3 && sotjarn_wide(kept.words + 4) == 665, "one group of 3 rows, and their sum");
-    printf("group %" PRIu64 " %" PRIu64 " %" PRIu64, sotjarn_wide(kept.words), sotjarn_wide(kept.words + 2), sotjarn_wide(kept.words + 4));
-    print_term(kept.words[6]);
-    print_term(kept.words[7]);
-    printf("\n");
+    print_total(kept.words);
+    free(kept.words);
+    free_query(&query);
+}
+
+/* The total of a stand without such stems: one record all the same, of nothing. */
+static void felled(void)
+{
+    struct query query = make_query(plan_felled, sizeof plan_felled / sizeof *plan_felled);
+    struct buffer kept = make_buffer(least_output(&query));
+    size_t words = merge_in_turns(&query, 3, kept, 0);
+    expect(words == 8 && sotjarn_wide(kept.words) == 0 && sotjarn_wide(kept.words + 4) == 0, "one group of no rows");
+    expect(kept.words[6] == SOTJARN_UNBOUND && kept.words[7] == SOTJARN_UNBOUND, "nothing has no least and no greatest");
+    print_total(kept.words);
     free(kept.words);
     free_query(&query);
 }
@@ -306,6 +326,7 @@ int main(void)
     rows_in_turns();
     best_of();
     totals();
+    felled();
     refusals();
     return 0;
 }

@@ -28,7 +28,7 @@ extern "C" {
 #endif
 
 /* The version of this header, which is that of the libraries made beside it. */
-#define SOTJARN_VERSION "0.4.0"
+#define SOTJARN_VERSION "0.5.0"
 
 /* How a turn ended. */
 enum {
@@ -61,7 +61,8 @@ struct sotjarn_turned {
     uint32_t refused;   /* the number of the first test that failed; 0 unless the ending is SOTJARN_REFUSED */
     uint32_t steps;     /* the steps taken */
     size_t state_words; /* the words of the new state, written over the front of `state`; 0 when done */
-    size_t list_words;  /* the words of the turn's list, written over the front of `output` */
+    size_t list_words;  /* the words of the turn's list, written over the front of `output`; in groups by no variable a turn that is
+                         * done has one record always, which is that of nothing where it had no rows */
 };
 
 /* What making tables answers: the words written to the front of each buffer; 0 of each if refused. */

@@ -65,7 +65,8 @@ enum { SOTJARN_DEFAULT_BEST = 10 };
 #define SOTJARN_STATE_BRANCH(word) (SOTJARN_WORD_LOW(word) / 16)
 #define SOTJARN_STATE_DEPTH(word) (SOTJARN_WORD_LOW(word) % 16)
 
-/* ---- Records of groups: the keys, then so many words: rows, numbers and sum of two words each, least, greatest. */
+/* ---- Records of groups: the keys, then so many words: rows, numbers and sum of two words each, least, greatest. A query without group
+ * variables has one record at its end, even of no rows: rows, numbers and sum 0, least and greatest SOTJARN_UNBOUND. */
 enum { SOTJARN_TOTALS_WORDS = 8 };
 
 /* Two words as one number, the low word first. */

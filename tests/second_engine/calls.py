@@ -56,7 +56,7 @@ class Script:
     def cut(self, quantum, share, with_threshold):
         """A query from its opening to its end, each list taken as it comes."""
         answer, state = self.make(Open(self.tables, self.words, self.filler(9 + self.spare())))
-        whole = tuple(self.right.list_words(self.plan, self.rows))
+        whole = tuple(self.right.list_words(self.plan, self.rows, (), True))
         kept, held, given, threshold, steps, joined = self.filler(len(whole) + self.spare()), 0, answer.words, (), 0, ()
         while True:
             answer, state, output = self.make(Turn(self.tables, self.words, state, given, quantum(), threshold, self.output(share)))
@@ -102,7 +102,10 @@ class Script:
         return Turn(self.tables, self.words, tuple(words) + self.filler(9 + self.spare() - len(words)), len(words), quantum,
                     self.some_threshold(), self.output(self.rng.choice([0, .3, .6, 1])))
 
-    def some_totals(self):
+    def some_totals(self, keys):
+        """Totals of one row or many; of none often where there are no keys, and else now and then, to be refused."""
+        if self.rng.random() < (.05 if keys else .35):
+            return two_words(0) + [0, 0, 0, 0, UNBOUND, UNBOUND]
         count = self.rng.choice([1, 2, 3, MOST_WORD, 1 << 32, 1 << 62, 1 << 63, (1 << 64) - 2])
         numbers = self.rng.choice([0, count, self.rng.randint(0, count)])
         if numbers == 0:
@@ -115,7 +118,7 @@ class Script:
         """A list in order, of rows or records that no run need have made."""
         if self.plan.kind == GROUP:
             keys = {key for key in pool if self.rng.random() < .7}
-            return tuple(w for key in sorted(keys, key=self.right.group_key) for w in [*key, *self.some_totals()])
+            return tuple(w for key in sorted(keys, key=self.right.group_key) for w in [*key, *self.some_totals(key)])
         rows = [self.rng.choice(pool) for _ in range(self.rng.randint(0, min(self.right.best_count(self.plan), 12)))]
         return tuple(w for row in sorted(rows, key=lambda row: self.right.sort_key(self.plan, row)) for w in row)
 

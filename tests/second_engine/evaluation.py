@@ -90,7 +90,8 @@ class Evaluation(Running, Lists):
         walk, delivered = self.walk(tables, words), self.deliveries(tables, words)
         start = walk.number[state_of(state[:given])]
         ending, end = self.end_of_turn(plan, delivered, start, quantum, len(output) // width(plan))
-        made = self.list_words(plan, [row for row in delivered[start:end] if row is not None], threshold)
+        rows = [row for row in delivered[start:end] if row is not None]
+        made = self.list_words(plan, rows, threshold, ending == DONE, delivered[:start])
         left = [] if ending == DONE else state_words(walk.states[self.saved(end)])
         return Turned(ending, 0, self.steps(start, end, ending), len(left), len(made)), written(state, left), written(output, made)
 

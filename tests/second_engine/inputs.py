@@ -8,6 +8,7 @@ MOST_ROWS = 65536
 
 Tables = namedtuple('Tables', 'rows pos osp')               # words of the rows, and two lists of row numbers
 Totals = namedtuple('Totals', 'rows numbers sum least greatest')
+NOTHING = Totals(0, 0, 0, UNBOUND, UNBOUND)                 # the totals of no rows
 
 
 # Tables: tests 1 to 4.
@@ -78,7 +79,8 @@ def split_record(record):
 
 
 def totals_right(totals):
-    if totals.rows == 0 or totals.numbers > totals.rows:
+    """Test 12 on a record's totals, but for what it asks of rows 0."""
+    if totals.numbers > totals.rows:
         return False
     if totals.numbers == 0:
         return totals.sum == 0 and totals.least == totals.greatest == UNBOUND

@@ -1,5 +1,5 @@
 """Best-of lists and groups: of delivered rows, and merged."""
-from inputs import Totals, ascend, delivered_term, in_parts, split_record, totals_right
+from inputs import NOTHING, Totals, ascend, delivered_term, in_parts, split_record, totals_right
 from plan_reader import width
 from words import GROUP, NUMBER, ROWS, TOP, UNBOUND, term_kind, term_value, two_words
 
@@ -9,6 +9,7 @@ DEFAULT_BEST = 10                   # rows of a best-of list whose plan gives no
 
 class Lists:
     """Orders of rows and groups, their words, and merging."""
+    nothing = NOTHING
 
     def key(self, word):
         """A word's position among the values of a key: unbound first, then names, numbers, texts, each by value."""
@@ -50,6 +51,17 @@ class Lists:
             groups[tuple(keys)] = self.added(groups.get(tuple(keys)), self.counted(value))
         return groups
 
+    def has_total(self, plan, done, before):
+        """Whether a turn has a record even without rows: the one that is done, where there is no group variable. `before` is what
+        the steps before the turn delivered."""
+        return done and plan.group == ()
+
+    def groups_of_turn(self, plan, rows, done, before=()):
+        """The groups of a turn's rows, or that of nothing."""
+        if not rows and self.has_total(plan, done, before):
+            return {(): self.nothing}
+        return self.groups(rows)
+
     def group_key(self, keys):
         return tuple(map(self.key, keys))
 
@@ -59,15 +71,22 @@ class Lists:
             *keys, *two_words(groups[keys].rows), *two_words(groups[keys].numbers), *two_words(groups[keys].sum),
             groups[keys].least, groups[keys].greatest]]
 
-    def list_words(self, plan, rows, threshold=()):
-        """The words of the list that these delivered rows make."""
+    def list_words(self, plan, rows, threshold, done, before=()):
+        """The words of the list that a turn's rows make; done is whether it is the last turn."""
         if plan.kind == GROUP:
-            return self.records(self.groups(rows))
+            return self.records(self.groups_of_turn(plan, rows, done, before))
         if plan.kind == TOP:
             rows = self.best(plan, [row for row in rows if self.passes_threshold(plan, row, threshold)])
         return [word for row in rows for word in row]
 
     # Merging.
+
+    def may_be_nothing(self, keys):
+        """Whether a record may have rows 0: only one without keys."""
+        return not keys
+
+    def record_right(self, keys, totals):
+        return (totals.rows > 0 or self.may_be_nothing(keys)) and totals_right(totals)
 
     def list_right(self, plan, words):
         """Test 12 on a list."""
@@ -80,7 +99,7 @@ class Lists:
                     and all(a <= b for a, b in zip(keys, keys[1:])))
         groups = [split_record(record) for record in parts]
         return (all(delivered_term(w) for keys, _ in groups for w in keys) and ascend([self.group_key(keys) for keys, _ in groups])
-                and all(totals_right(totals) for _, totals in groups))
+                and all(self.record_right(*group) for group in groups))
 
     def added_groups(self, plan, kept, made):
         groups = {}

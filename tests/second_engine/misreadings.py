@@ -3,6 +3,7 @@ import struct
 
 from calls import Merge, Open, Turn
 from evaluation import DONE, FULL, Evaluation, written
+from inputs import NOTHING
 from plan_reader import read_plan, variables_right
 from words import GROUP, MOST_WORD, NUMBER, ROWS, TOP, UNBOUND, UNEQUAL, is_variable, number, term_kind, term_value
 
@@ -286,6 +287,96 @@ class UnboundLeftOut(Misreading):
         return super().groups([row for row in rows if UNBOUND not in row[:-1]])
 
 
+# The total of nothing.
+
+class NoTotal(Misreading):
+    """without rows there is no group, even where there is no group variable"""
+    concerns, endings = 'calls', (GROUP,)
+    calls = (Turn,)
+
+    def has_total(self, plan, done, before):
+        return False
+
+
+class TotalOfUnfinished(Misreading):
+    """an unfinished turn without rows has a record too"""
+    concerns, endings = 'calls', (GROUP,)
+    calls = (Turn,)
+
+    def has_total(self, plan, done, before):
+        return super().has_total(plan, True, before)
+
+
+class TotalOfWholeAlone(Misreading):
+    """the last turn has a record of no rows only where the turns before had no rows"""
+    concerns, endings = 'calls', (GROUP,)
+    calls = (Turn,)
+
+    def has_total(self, plan, done, before):
+        return super().has_total(plan, done, before) and all(row is None for row in before)
+
+
+class TotalFromStart(Misreading):
+    """the last turn has a record of no rows only where it is the first too"""
+    concerns, endings = 'calls', (GROUP,)
+    calls = (Turn,)
+
+    def has_total(self, plan, done, before):
+        return super().has_total(plan, done, before) and not before
+
+
+class TotalWithKey(Misreading):
+    """with one group variable no rows have a record, whose key is unbound"""
+    concerns, endings = 'calls', (GROUP,)
+    calls = (Turn,)
+
+    def groups_of_turn(self, plan, rows, done, before=()):
+        if done and not rows and len(plan.group) == 1:
+            return {(UNBOUND,): self.nothing}
+        return super().groups_of_turn(plan, rows, done, before)
+
+
+class NothingIsZero(Misreading):
+    """least and greatest of nothing are 0"""
+    concerns, endings = 'calls', (GROUP,)
+    calls = (Turn,)
+    nothing = NOTHING._replace(least=number(0), greatest=number(0))
+
+
+class NothingIsARow(Misreading):
+    """nothing counts as a row"""
+    concerns, endings = 'calls', (GROUP,)
+    calls = (Turn,)
+    nothing = NOTHING._replace(rows=1)
+
+
+class NothingRefused(Misreading):
+    """a record of 0 rows is refused, even without keys"""
+    concerns, endings = 'calls', (GROUP,)
+    calls = (Merge,)
+
+    def may_be_nothing(self, keys):
+        return False
+
+
+class NothingWithKeyPasses(Misreading):
+    """a record of 0 rows passes with keys too"""
+    concerns, endings = 'calls', (GROUP,)
+    calls = (Merge,)
+
+    def may_be_nothing(self, keys):
+        return True
+
+
+class NothingNotMerged(Misreading):
+    """a merged record of 0 rows is left out"""
+    concerns, endings = 'calls', (GROUP,)
+    calls = (Merge,)
+
+    def added_groups(self, plan, kept, made):
+        return {keys: totals for keys, totals in super().added_groups(plan, kept, made).items() if totals.rows}
+
+
 # Turns, states and refusals.
 
 class FullTakesStep(Misreading):
@@ -404,5 +495,6 @@ ALL_MISREADINGS = [
     NamesOrdered, ErrorIsFalse, LeftErrorDecides, ErrorDecidesOr, ErrorDecidesAnd, KeepsErrors, NumberIsNoText, ErrorIsUnequal,
     RepeatsIgnored, EmptyAtZero, EndTooEarly, SubjectBeforeObject, BoundBefore, BranchDuplicates, AllDuplicates, RawWords,
     UnboundFirstFalling, TextsBeforeNumbers, ZeroIsNone, ZeroIsMost, LaterPushesOut, TurnFirst, ThresholdNotAfter, LeastFromZero,
-    CarryDropped, SingleFloats, TextsCounted, NoNumberNoRow, UnboundLeftOut, FullTakesStep, FullLosesRow, FullKnownGroup, FullAtOnce,
-    DoneTakesStep, SavedEarly, BelowEnd, SixBeforeFive, EqualRowsPass, RefusalWrites]
+    CarryDropped, SingleFloats, TextsCounted, NoNumberNoRow, UnboundLeftOut, NoTotal, TotalOfUnfinished, TotalOfWholeAlone, TotalFromStart,
+    TotalWithKey, NothingIsZero, NothingIsARow, NothingRefused, NothingWithKeyPasses, NothingNotMerged, FullTakesStep, FullLosesRow,
+    FullKnownGroup, FullAtOnce, DoneTakesStep, SavedEarly, BelowEnd, SixBeforeFive, EqualRowsPass, RefusalWrites]

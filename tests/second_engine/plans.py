@@ -1,7 +1,8 @@
 """Random woods and plans, from a seed.
 
 About half of the plans have solutions: their patterns are rows of the wood with some terms put into variables, the same
-variable for the same term. The others are made of anything that the plan's words allow.
+variable for the same term. The others are made of anything that the plan's words allow. Of every ten one has conditions that keep no
+row, as a stand has that was clear-felled.
 """
 from inputs import Tables, osp_key, pos_key, rows_of
 from plan_reader import MOST_DEPTH, MOST_NODES, MOST_PLAN_WORDS
@@ -94,6 +95,7 @@ class Draft:
         self.numbers = rng.sample(range(16), 16)
         self.pool = rng.randint(2, 6)
         self.objects = set()
+        self.felled = rng.random() < .1
 
     def some_variable(self):
         return variable(self.numbers[self.rng.randrange(self.pool)])
@@ -168,7 +170,15 @@ class Draft:
             return [plan_word(NOT, 0)] * 7 + self.comparison(variables)
         return self.sized(variables, MOST_NODES, MOST_DEPTH)
 
+    def felled_condition(self, variables):
+        """A condition that is true of no row."""
+        same = self.rng.choice(variables) if variables else self.some_constant()
+        never = [plan_word(COMPARISON, UNEQUAL), same, same]
+        return self.rng.choice([never, [plan_word(AND, 0)] + self.condition(variables, 2) + never])
+
     def some_condition(self, variables):
+        if self.felled:
+            return self.felled_condition(variables)
         chance = self.rng.random()
         if chance < .3:
             return [plan_word(TRUE, 0)]
@@ -188,7 +198,7 @@ class Draft:
 
     def group_ending(self, variables):
         """The measured variable is mostly one that stands for objects."""
-        keys = self.rng.sample(variables, min(len(variables), self.rng.choice([0, 0, 1, 1, 2, 3, 4])))
+        keys = self.rng.sample(variables, min(len(variables), self.rng.choice([0, 0, 0, 1, 1, 2, 3, 4])))
         objects = [v for v in variables if v in self.objects]
         measured = self.rng.choice(objects if objects and self.rng.random() < .8 else variables)
         return [plan_word(GROUP, len(keys))] + keys + [measured]

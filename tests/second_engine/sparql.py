@@ -121,15 +121,16 @@ def queries(plan):
 # Answers.
 
 def group_of(plan, shown):
-    """A group's keys and totals from an answer's line. Without rows MIN and MAX are unbound, without numbers they mean nothing."""
-    rows, numbers, total, least, greatest = (0 if field == '-' else int(field.split('^^')[0]) for field in shown[-5:])
-    bound = lambda value: number(value) if numbers else UNBOUND
-    return tuple(map(read_term, shown[:len(plan.group)])), Totals(rows, numbers, total, bound(least), bound(greatest))
+    """A group's keys and totals from an answer's line. Of no rows MIN and MAX are unbound; of rows without a number they are those of
+    the values that stand for the others, and mean nothing."""
+    rows, numbers, total = (int(field.split('^^')[0]) for field in shown[-5:-2])
+    least, greatest = (read_term(field) if numbers or not rows else UNBOUND for field in shown[-2:])
+    return tuple(map(read_term, shown[:len(plan.group)])), Totals(rows, numbers, total, least, greatest)
 
 
 def groups_of(plan, lines):
-    """Here no delivered row means no group; SPARQL has one where there is no GROUP BY."""
-    return {keys: totals for keys, totals in (group_of(plan, line) for line in lines) if totals.rows}
+    """The groups of an answer, as they are: without GROUP BY SPARQL has one always, over no solutions too."""
+    return dict(group_of(plan, line) for line in lines)
 
 
 def rows_of_answer(lines):

@@ -150,13 +150,11 @@ fn print(owner: &str, finished: &Finished) {
         List::Groups(groups) => {
             for group in groups {
                 let keys: Vec<String> = group.keys.iter().map(|value| value.to_string()).collect();
-                let (least, greatest) = (group.least.unwrap_or_default(), group.greatest.unwrap_or_default());
-                println!(
-                    "  {:5} {} stems, sum {}, {least} to {greatest}",
-                    keys.join(" "),
-                    group.rows,
-                    group.sum
-                );
+                let sizes = match (group.least, group.greatest) {
+                    (Some(least), Some(greatest)) => format!(", {least} to {greatest}"),
+                    _ => String::new(),
+                };
+                println!("  {:5} {} stems, sum {}{sizes}", keys.join(" "), group.rows, group.sum);
             }
         }
     }
@@ -167,6 +165,10 @@ fn main() -> Result<(), Box<dyn Error + Send + Sync>> {
     let owners = [
         ("totals by stand", Plan::builder().branch(stems(70)).group([STAND], SIZE)?),
         ("the whole wood", Plan::builder().branch(stems(0)).group([], SIZE)?),
+        (
+            "stems past 620, of which there are none",
+            Plan::builder().branch(stems(621)).group([], SIZE)?,
+        ),
         (
             "the five largest",
             Plan::builder().branch(stems(0)).top(5, [STEM, SIZE], [Key::Falling(SIZE)])?,

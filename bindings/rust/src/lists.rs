@@ -24,11 +24,14 @@ impl Error for Unreadable {}
 pub type Row = Vec<Value>;
 
 /// A group's record.
+///
+/// Without a group variable a finished query has one always, which has no keys: its total. Where no row was delivered it is that of
+/// nothing, `rows` and `numbers` and `sum` 0, `least` and `greatest` none. Of groups by variables none has 0 rows.
 #[derive(Clone, Debug, PartialEq, Eq)]
 pub struct Group {
     /// The values of the group variables.
     pub keys: Vec<Value>,
-    /// The rows of the group.
+    /// The rows of the group; 0 in the total of nothing alone.
     pub rows: u64,
     /// Those of them whose measured value is a number.
     pub numbers: u64,
@@ -45,7 +48,7 @@ pub struct Group {
 pub enum List {
     /// Rows, of a row query or a best-of query.
     Rows(Vec<Row>),
-    /// Groups, in ascending order of their keys.
+    /// Groups, in ascending order of their keys. An unfinished query may have none; a finished one without group variables has one.
     Groups(Vec<Group>),
 }
 
@@ -111,6 +114,9 @@ pub fn read_rows(list: &[u32], columns: usize) -> Result<Vec<Row>, Unreadable> {
 /// let groups = read_groups(&[3, 0, 3, 0, 665, 0, 0x4000_002D, 0x4000_0136], 0)?;
 /// assert_eq!((groups[0].rows, groups[0].numbers, groups[0].sum), (3, 3, 665));
 /// assert_eq!((groups[0].least, groups[0].greatest), (Some(45), Some(310)));
+///
+/// let nothing = read_groups(&[0, 0, 0, 0, 0, 0, sotjarn::UNBOUND, sotjarn::UNBOUND], 0)?; // the total of a felled stand
+/// assert_eq!((nothing[0].rows, nothing[0].least, nothing[0].greatest), (0, None, None));
 /// # Ok::<(), sotjarn::Unreadable>(())
 /// ```
 pub fn read_groups(list: &[u32], keys: usize) -> Result<Vec<Group>, Unreadable> {

@@ -190,7 +190,7 @@ pub enum PlanEnding {
         /// The keys, 1 to 4.
         keys: Vec<Key>,
     },
-    /// Groups by these variables, with one measured.
+    /// Groups by these variables, with one measured. By none: one group, the total, even of no rows.
     Group {
         /// The group variables, 0 to 4.
         by: Vec<Variable>,
@@ -245,7 +245,8 @@ impl PlanBuilder {
         })
     }
 
-    /// Ends the plan in groups by these variables, with one measured.
+    /// Ends the plan in groups by these variables, with one measured. By none it has one group at its end, the total, which may be that
+    /// of nothing; by one or more, no rows are no groups.
     pub fn group(self, by: impl Into<Vec<Variable>>, measured: Variable) -> Result<Plan, TooLarge> {
         self.ending(PlanEnding::Group { by: by.into(), measured })
     }

@@ -58,10 +58,14 @@ fn refused(change: impl Fn(&mut Lent)) -> Option<u32> {
         .map(Refusal::code)
 }
 
-/// What refuses a merge of lists of one group, of so many rows, none of them a number.
+/// A record of so many rows, none of them a number.
+fn record([low, high]: [u32; 2]) -> [u32; 8] {
+    [low, high, 0, 0, 0, 0, sotjarn::UNBOUND, sotjarn::UNBOUND]
+}
+
+/// What refuses a merge of lists of one group, of so many rows.
 fn merge_refused(kept_rows: [u32; 2], list_rows: [u32; 2], kept_len: usize, kept_words: usize) -> Option<u32> {
     let plan = stems().group([], SIZE).expect("every value fits");
-    let record = |[low, high]: [u32; 2]| [low, high, 0, 0, 0, 0, sotjarn::UNBOUND, sotjarn::UNBOUND];
     let mut kept = record(kept_rows);
     merge(plan.words(), &mut kept[..kept_len], kept_words, &record(list_rows))
         .err()
@@ -93,12 +97,47 @@ fn each_refusal_has_its_call() {
     assert_eq!(refused(|lent| lent.state[1] += 4), Some(10));
     assert_eq!(refused(|lent| lent.threshold = vec![1, 2]), Some(11));
     assert_eq!(merge_refused([1, 0], [1, 0], 8, 8), None);
-    assert_eq!(merge_refused([0, 0], [1, 0], 8, 8), Some(12));
+    assert_eq!(merge_refused([1, 0], [1, 0], 8, 7), Some(12));
     assert_eq!(merge_refused([u32::MAX; 2], [1, 0], 8, 8), Some(13));
     assert_eq!(merge_refused([1, 0], [1, 0], 7, 0), Some(14));
     assert_eq!(make_refused(0, 2), None);
     assert_eq!(make_refused(16, 2), Some(15));
     assert_eq!(make_refused(0, 1), Some(16));
+}
+
+/// What refuses a merge of a kept record and none, its words behind so many keys n1.
+fn record_refused(keys: usize, totals: [u32; 8]) -> Option<u32> {
+    let plan = stems().group([STEM, SIZE][..keys].to_vec(), SIZE).expect("every value fits");
+    let mut kept = [&[1; 2][..keys], &totals].concat();
+    let words = kept.len();
+    merge(plan.words(), &mut kept, words, &[]).err().map(Refusal::code)
+}
+
+#[test]
+fn a_record_of_no_rows_passes_only_without_keys() {
+    let nothing = record([0, 0]);
+    assert_eq!(merge_refused([0, 0], [0, 0], 8, 8), None);
+    assert_eq!(merge_refused([0, 0], [1, 0], 8, 8), None);
+    assert_eq!(merge_refused([1, 0], [0, 0], 7, 0), Some(14));
+    assert_eq!(record_refused(0, nothing), None);
+    for keys in 1..=2 {
+        assert_eq!(record_refused(keys, record([1, 0])), None);
+        assert_eq!(record_refused(keys, nothing), Some(12));
+    }
+    for (at, word) in [
+        (2, 1),
+        (3, 1),
+        (4, 1),
+        (5, 1),
+        (6, 0x4000_0000),
+        (7, 0x4000_0000),
+        (6, 0),
+        (7, 0xC000_0001),
+    ] {
+        let mut other = nothing;
+        other[at] = word;
+        assert_eq!(record_refused(0, other), Some(12), "word {at}: {word:x}");
+    }
 }
 
 #[test]

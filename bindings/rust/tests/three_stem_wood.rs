@@ -196,6 +196,77 @@ fn a_group_of_no_variable() {
     }
 }
 
+/// The total of no rows, in words and as it is read.
+const NOTHING: [u32; 8] = [0, 0, 0, 0, 0, 0, sotjarn::UNBOUND, sotjarn::UNBOUND];
+
+fn nothing() -> List {
+    List::Groups(vec![Group {
+        keys: vec![],
+        rows: 0,
+        numbers: 0,
+        sum: 0,
+        least: None,
+        greatest: None,
+    }])
+}
+
+/// Plan A with a condition that is false of every row.
+fn felled() -> PlanBuilder {
+    one(Condition::compare(SIZE, Comparison::Less, Number(45)))
+}
+
+#[test]
+fn without_rows_a_group_of_no_variable_is_of_nothing() {
+    let plan = one(Condition::always()).group([], SIZE).expect("every value fits");
+    let (turns, list) = run(TableWords::default().tables(), &plan, 1, 8);
+    assert_eq!((turns, list), (vec![(1, TurnEnding::Done)], nothing()));
+}
+
+#[test]
+fn only_the_last_turn_has_the_total_of_nothing() {
+    let (wood, plan) = (wood(), felled().group([], SIZE).expect("every value fits"));
+    let mut query = Query::open(wood.tables(), plan.words()).expect("the opening is accepted");
+    let mut kept = Kept::new(&plan);
+    let lists: Vec<_> = query
+        .turns(9, 8)
+        .map(|turn| {
+            let turn = turn.expect("the turn is served");
+            kept.take(&turn.list).expect("the list is taken");
+            (turn.steps, turn.ending, turn.list)
+        })
+        .collect();
+    assert_eq!(
+        lists,
+        [(9, TurnEnding::Spent, vec![]), (1, TurnEnding::Done, NOTHING.to_vec())]
+    );
+    assert_eq!((kept.words(), kept.list()), (&NOTHING[..], Ok(nothing())));
+    for quantum in 1..=10 {
+        assert_eq!(run(wood.tables(), &plan, quantum, 8).1, nothing());
+    }
+}
+
+#[test]
+fn a_last_turn_without_rows_adds_nothing_to_the_total() {
+    let (wood, plan) = (wood(), one(Condition::always()).group([], SIZE).expect("every value fits"));
+    let mut query = Query::open(wood.tables(), plan.words()).expect("the opening is accepted");
+    let lists: Vec<_> = query.turns(8, 8).map(|turn| turn.expect("the turn is served").list).collect();
+    let total = [3, 0, 3, 0, 665, 0, 0x4000_002D, 0x4000_0136];
+    assert_eq!(lists, [total, NOTHING]);
+    let mut kept = Kept::new(&plan);
+    for list in &lists {
+        kept.take(list).expect("the list is taken");
+        assert_eq!(kept.words(), total);
+    }
+}
+
+#[test]
+fn with_a_group_variable_no_rows_are_no_groups() {
+    let plan = felled().group([STEM], SIZE).expect("every value fits");
+    for quantum in 1..=10 {
+        assert_eq!(run(wood().tables(), &plan, quantum, 9).1, List::Groups(vec![]));
+    }
+}
+
 #[test]
 fn no_rows_are_done_after_one_step() {
     let (turns, list) = run(TableWords::default().tables(), &plan_a(), 10, 2);

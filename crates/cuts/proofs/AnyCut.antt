@@ -1,5 +1,5 @@
 -- Any cut is as the uncut run: demand 3, for every list of turns, merges and joins.
-use Prim.Native.Nat.{ℕ, _+_, _<_}
+use Prim.Native.Nat.{ℕ, zero, suc, _+_, _≤_, _<_}
 use native.Mathlib.Omega.{arith}
 use mathlib.Core.Path.{_≡_, refl, sym, _∙_, ap, subst}
 use mathlib.Core.Logic.{_↔_}
@@ -8,26 +8,27 @@ use mathlib.Core.Option.{Option, none, some}
 use mathlib.Core.List.{List, [], _∷_, _++_, append-nil}
 use lib.ListN.{take}
 use Rattle.words.proofs.Booleans.{absurd-true}
+use Rattle.words.proofs.Testing.{none-some}
 use Rattle.words.specs.Sequences.{iterate}
 use Rattle.tables.specs.Tables.{Tables}
 use Rattle.plans.specs.Endings.{Ending, rows}
 use Rattle.plans.specs.Plans.{Plan, planOf}
 use Rattle.steps.specs.Steps.{State, after}
 use Rattle.steps.specs.Saved.{savedWords, positionWords}
-use Rattle.lists.proofs.Gatherings.{Gathering}
+use Rattle.lists.proofs.OneRow.{gathered-nil}
 use Rattle.turns.specs.declared.TurnEnding.{TurnEnding}
 use Rattle.turns.specs.declared.TurnEnding.the-variants.{Done, Spent, Full, Refused}
 use Rattle.turns.specs.Opening.{openOf, Opens}
-use Rattle.turns.specs.Turns.{TurnInput, turnOf, refusalOf}
+use Rattle.turns.specs.Turns.{isOver, TurnInput, turnOf, refusalOf}
 use Rattle.turns.proofs.Follows.{starts-run}
 use Rattle.cuts.specs.Histories.{Event, turns, merges, joins, Phone, ServedTurn, servedIn, stepsIn, doneIn, turnInputOf, afterTurn, happens}
 use Rattle.cuts.specs.Histories.{history, fresh}
 use Rattle.cuts.specs.Premises.{Asked, Premises}
-use Rattle.cuts.specs.Uncut.{EndsAt, AsUncut, joinedLists, runList}
+use Rattle.cuts.specs.Uncut.{EndsAt, AsUncut, joinedLists, runList, keptAfter}
 use Rattle.cuts.specs.Accepting.{Accepted}
-use Rattle.cuts.proofs.Accepting.{opening-accepts, accepted-gathering}
-use Rattle.cuts.proofs.Chains.{Chain, chain-take, within-quantum, chain-joined}
-use Rattle.cuts.proofs.Turning.{Kept, isNone, served-keeps}
+use Rattle.cuts.proofs.Accepting.{opening-accepts, accepted-form}
+use Rattle.cuts.proofs.Chains.{Chain, chain-take, within-quantum, kept-some, chain-joined}
+use Rattle.cuts.proofs.Turning.{Kept, served-keeps}
 use Rattle.cuts.proofs.Taking.{merging-keeps, joining-keeps}
 
 module _ (t : Tables) (plan : List ℕ) (a : Accepted t plan) where
@@ -70,7 +71,7 @@ module _ (t : Tables) (plan : List ℕ) (a : Accepted t plan) where
         alive = λ m l. absurd (omega arith);
         done = refl;
         chain = tt;
-        list = sym (accepted-gathering t plan a .none []);
+        list = refl;
       }
 
   -- ---- what is kept says it all
@@ -79,7 +80,7 @@ module _ (t : Tables) (plan : List ℕ) (a : Accepted t plan) where
   no-words none e = refl
   no-words (some s) e = cc
 
-  is-none : (o : Option State) → isNone o ≡ true → o ≡ none
+  is-none : (o : Option State) → isOver o ≡ true → o ≡ none
   is-none none e = refl
   is-none (some s) e = absurd-true refl (sym e)
 
@@ -87,23 +88,33 @@ module _ (t : Tables) (plan : List ℕ) (a : Accepted t plan) where
       → joinedLists xs ≡ runList (q .ending) (after t q (stepsIn xs))
   unfolding after iterate
   rows-from-start vs e xs c =
-      sym (ap (λ l. l ++ joinedLists xs) (accepted-gathering t plan a .none []))
-      ∙ chain-joined t q (accepted-gathering t plan a) vs e 0 xs c
-      ∙ ap (λ d. runList (q .ending) (after t q d)) (let p : 0 + stepsIn xs ≡ stepsIn xs = omega arith in p)
+      chain-joined t q (accepted-form t plan a .ending) vs e 0 xs c
+      ∙ ap (keptAfter t q) (let p : 0 + stepsIn xs ≡ stepsIn xs = omega arith in p)
+      ∙ kept-any (stepsIn xs)
+    where
+      -- of a row query the kept rows and the run's are the same at the start too
+      kept-any : (n : ℕ) → keptAfter t q n ≡ runList (q .ending) (after t q n)
+      kept-any zero = sym (gathered-nil (q .ending) [])
+      kept-any (suc n) = refl
+
+  -- the run does not end at its start
+  pub end-later : (n : ℕ) → EndsAt t q n → 1 ≤ n
+  unfolding after iterate
+  end-later zero e = absurd (none-some (sym (e .over)))
+  end-later (suc n) e = omega arith
 
   pub as-uncut : (h : Phone) → Kept t q h → AsUncut t q h
   as-uncut h k =
       record {
         state = k .saved;
         end = (λ e. ends (no-words _ (sym (k .saved) ∙ e)), λ x. k .saved ∙ ap savedWords (x .over));
-        done = (λ e. ends (is-none _ (sym (k .done) ∙ e)), λ x. k .done ∙ ap isNone (x .over));
+        done = (λ e. ends (is-none _ (sym (k .done) ∙ e)), λ x. k .done ∙ ap isOver (x .over));
         quantum = within-quantum t q 0 (servedIn h) (k .chain);
         list = k .list;
         prefixes = λ vs e n. rows-from-start vs e (take n (servedIn h)) (chain-take t q n 0 (servedIn h) (k .chain));
-        finished = λ e w. (
-          subst (λ l. EndsAt t q (stepsIn l)) (ap (λ l. h .taken ++ l) w ∙ append-nil (h .taken)) (ends (is-none _ (sym (k .done) ∙ e))),
-          k .list,
-        );
+        finished = λ e w.
+            let end = subst (λ l. EndsAt t q (stepsIn l)) (ap (λ l. h .taken ++ l) w ∙ append-nil (h .taken)) (ends (is-none _ (sym (k .done) ∙ e))) in
+            (end, k .list ∙ kept-some t q (accepted-form t plan a .ending) (stepsIn (h .taken)) (end-later (stepsIn (h .taken)) end));
       }
     where
       ends : after t q (stepsIn (servedIn h)) .state ≡ none → EndsAt t q (stepsIn (servedIn h))

@@ -6,17 +6,22 @@ use mathlib.Core.Bool.{Bool, true, false, _||_}
 use mathlib.Core.List.{List, [], _∷_, _++_, map, flatten, append-assoc, append-nil}
 use lib.ListN.{take}
 use Rattle.words.specs.Bindings.{Bindings}
+use Rattle.words.specs.Sequences.{iterate}
 use Rattle.tables.specs.Tables.{Tables}
 use Rattle.plans.specs.Endings.{Ending, rows}
 use Rattle.plans.specs.Plans.{Plan}
+use Rattle.plans.proofs.Bounds.{EndingForm}
 use Rattle.steps.specs.Steps.{Run, after}
 use Rattle.lists.specs.Gathering.{gathered, takenInto}
+use Rattle.lists.specs.Closing.{listAt}
 use Rattle.lists.proofs.TopLists.{Fine}
 use Rattle.lists.proofs.FullLists.{listsOf, deliveredBy}
-use Rattle.lists.proofs.Gatherings.{Gathering}
-use Rattle.cuts.specs.Histories.{ServedTurn, stepsIn, doneIn, isDone}
+use Rattle.lists.proofs.OneRow.{gathered-nil}
+use Rattle.lists.proofs.Closing.{at-adds}
+use Rattle.turns.specs.Turns.{isDone, isOver}
+use Rattle.cuts.specs.Histories.{ServedTurn, stepsIn, doneIn}
 use Rattle.cuts.specs.Premises.{listsIn}
-use Rattle.cuts.specs.Uncut.{WithinQuantum, joinedLists, runList}
+use Rattle.cuts.specs.Uncut.{WithinQuantum, joinedLists, runList, keptAfter}
 
 -- ---- steps added up, and done
 pub steps-append : (xs ys : List ServedTurn) → stepsIn (xs ++ ys) ≡ stepsIn xs + stepsIn ys
@@ -43,12 +48,13 @@ done-more (y ∷ xs) x e = go (isDone (y .ending)) e (done-more xs x)
     go false f ih = ih f
 
 -- ---- pieces
--- a served turn, after some steps of the run: its list is made of the rows of its own steps
+-- a served turn, after some steps of the run, which goes on there: its list is made of the rows of its own steps, closed at the run's end
 pub record Piece (t : Tables) (q : Plan) (from : ℕ) (x : ServedTurn) : Type 0 where
   pub rows : List Bindings
   pub threshold : List ℕ
   pub more : after t q (from + x .steps) .delivered ≡ after t q from .delivered ++ rows
-  pub list : x .list ≡ gathered (q .ending) threshold rows
+  pub going : isOver (after t q from .state) ≡ false
+  pub list : x .list ≡ listAt (q .ending) threshold (isOver (after t q (from + x .steps) .state)) rows
   pub fine : Fine (q .ending) (after t q from .delivered) threshold
   pub least : 1 ≤ x .steps
   pub most : x .steps ≤ x .quantum
@@ -89,10 +95,14 @@ module _ (t : Tables) (q : Plan) where
   turnsOf from [] c = []
   turnsOf from (x ∷ xs) c = (c .0 .threshold, c .0 .rows) ∷ turnsOf (from + x .steps) xs (c .1)
 
-  pub turns-lists : (from : ℕ) (xs : List ServedTurn) (c : Chain t q from xs) → listsOf (q .ending) (turnsOf from xs c) ≡ listsIn xs
+  -- and their lists, where done adds nothing to them
+  pub turns-lists : ((threshold : List ℕ) (done : Bool) (bs : List Bindings) → listAt (q .ending) threshold done bs ≡ gathered (q .ending) threshold bs)
+      → (from : ℕ) (xs : List ServedTurn) (c : Chain t q from xs) → listsOf (q .ending) (turnsOf from xs c) ≡ listsIn xs
   unfolding turnsOf
-  turns-lists from [] c = refl
-  turns-lists from (x ∷ xs) c = ap₂ _∷_ (sym (c .0 .list)) (turns-lists (from + x .steps) xs (c .1))
+  turns-lists same from [] c = refl
+  turns-lists same from (x ∷ xs) c =
+      ap₂ _∷_ (sym (c .0 .list ∙ same (c .0 .threshold) (isOver (after t q (from + x .steps) .state)) (c .0 .rows)))
+      (turns-lists same (from + x .steps) xs (c .1))
 
   pub turns-rows : (from : ℕ) (xs : List ServedTurn) (c : Chain t q from xs)
       → after t q (from + stepsIn xs) .delivered ≡ after t q from .delivered ++ deliveredBy (turnsOf from xs c)
@@ -104,25 +114,37 @@ module _ (t : Tables) (q : Plan) where
       ∙ ap (λ l. l ++ deliveredBy (turnsOf (from + x .steps) xs (c .1))) (c .0 .more)
       ∙ append-assoc (after t q from .delivered) (c .0 .rows) (deliveredBy (turnsOf (from + x .steps) xs (c .1)))
 
-  module _ (g : Gathering (q .ending)) where
-    -- the list of a piece, taken behind what was gathered before it
+  module _ (form : EndingForm (q .ending)) where
+    -- what is kept up to where the run goes on is the list of its rows there
+    pub kept-going : (from : ℕ) → isOver (after t q from .state) ≡ false → keptAfter t q from ≡ gathered (q .ending) [] (after t q from .delivered)
+    unfolding after iterate
+    kept-going zero e = sym (gathered-nil (q .ending) [])
+    kept-going (suc n) e = ap (λ d. listAt (q .ending) [] d (after t q (suc n) .delivered)) e
+
+    -- what is kept after some steps
+    pub kept-some : (n : ℕ) → 1 ≤ n → keptAfter t q n ≡ runList (q .ending) (after t q n)
+    kept-some zero l = absurd (omega arith)
+    kept-some (suc n) l = refl
+
+    -- the list of a piece, taken into what was kept before it
     pub piece-adds : (from : ℕ) (x : ServedTurn) → Piece t q from x
-        → takenInto (q .ending) (runList (q .ending) (after t q from)) (x .list) ≡ runList (q .ending) (after t q (from + x .steps))
+        → takenInto (q .ending) (keptAfter t q from) (x .list) ≡ keptAfter t q (from + x .steps)
     piece-adds from x p =
-        ap (takenInto (q .ending) (runList (q .ending) (after t q from))) (p .list)
-        ∙ g .adds (p .threshold) (after t q from .delivered) (p .rows) (p .fine)
-        ∙ ap (gathered (q .ending) []) (sym (p .more))
+        let d = isOver (after t q (from + x .steps) .state) in
+        ap₂ (takenInto (q .ending)) (kept-going from (p .going)) (p .list)
+        ∙ at-adds (q .ending) form (p .threshold) d (after t q from .delivered) (p .rows) (p .fine)
+        ∙ ap (listAt (q .ending) [] d) (sym (p .more))
+        ∙ sym (kept-some (from + x .steps) (omega (arith, p .least)))
 
     -- the lists of a row query's chain, joined behind the rows before it
     pub chain-joined : (vs : List ℕ) → q .ending ≡ rows vs → (from : ℕ) (xs : List ServedTurn) → Chain t q from xs
-        → runList (q .ending) (after t q from) ++ joinedLists xs ≡ runList (q .ending) (after t q (from + stepsIn xs))
+        → keptAfter t q from ++ joinedLists xs ≡ keptAfter t q (from + stepsIn xs)
     unfolding stepsIn flatten
     chain-joined vs e from [] c =
-        append-nil (runList (q .ending) (after t q from))
-        ∙ ap (λ n. runList (q .ending) (after t q n)) (let p : from ≡ from + 0 = omega arith in p)
+        append-nil (keptAfter t q from) ∙ ap (keptAfter t q) (let p : from ≡ from + 0 = omega arith in p)
     chain-joined vs e from (x ∷ xs) c =
-        sym (append-assoc (runList (q .ending) (after t q from)) (x .list) (joinedLists xs))
+        sym (append-assoc (keptAfter t q from) (x .list) (joinedLists xs))
         ∙ ap (λ l. l ++ joinedLists xs)
-        (sym (ap (λ d. takenInto d (runList (q .ending) (after t q from)) (x .list)) e) ∙ piece-adds from x (c .0))
+        (sym (ap (λ d. takenInto d (keptAfter t q from) (x .list)) e) ∙ piece-adds from x (c .0))
         ∙ chain-joined vs e (from + x .steps) xs (c .1)
-        ∙ ap (λ n. runList (q .ending) (after t q n)) (later from x xs)
+        ∙ ap (keptAfter t q) (later from x xs)

@@ -1,5 +1,6 @@
 pub mod Chains
 pub mod Accepting
+pub mod KeptValid
 pub mod Turning
 pub mod Taking
 pub mod AnyCut

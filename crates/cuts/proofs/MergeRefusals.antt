@@ -20,23 +20,23 @@ use Rattle.words.proofs.Testing.{none-some, some-injective, fails-first}
 use Rattle.tables.specs.Tables.{Tables}
 use Rattle.plans.specs.Endings.{Ending, rows, top, group}
 use Rattle.plans.specs.Plans.{Plan, planOf, hasForm, readPlan, variablesRight}
-use Rattle.steps.specs.Steps.{Run, after}
-use Rattle.lists.specs.Groups.{addGroups, groupsOf}
-use Rattle.lists.specs.Gathering.{gathered, merged, takenInto, listRight, groupFits, totalsFit}
+use Rattle.steps.specs.Steps.{after}
+use Rattle.lists.specs.Gathering.{gathered, merged, takenInto, listRight, totalsFit, rowsFit}
 use Rattle.words.proofs.Each.{Each}
 use Rattle.lists.proofs.Values.{AllValues}
-use Rattle.lists.proofs.GroupLists.{groups-in-gathered, groups-append}
-use Rattle.lists.proofs.Gatherings.{Valid}
+use Rattle.lists.proofs.Gatherings.{Valid, Gathering}
+use Rattle.lists.proofs.Closing.{at-valid, at-fit}
+use Rattle.turns.specs.Turns.{isOver}
 use Rattle.turns.specs.Opening.{openOf, Opens}
 use Rattle.merges.specs.Merging.{MergeInput, mergeTests, mergedWords, mergeOf}
 use Rattle.merges.specs.Refusals.{Merges}
 use Rattle.merges.proofs.Refusals.{merge-passed, merge-refusals}
 use Rattle.cuts.specs.Histories.{Event, Phone, ServedTurn, stepsIn, mergeInputOf, history, fresh}
 use Rattle.cuts.specs.Premises.{Premises}
-use Rattle.cuts.specs.Uncut.{runList, runFits, MergesLists, NotTaken, totals-pass, no-room}
+use Rattle.cuts.specs.Uncut.{keptAfter, runFits, MergesLists, NotTaken, totals-pass, no-room}
 use Rattle.cuts.specs.Accepting.{Accepted}
-use Rattle.cuts.proofs.Accepting.{opening-accepts, accepted-gathering, accepted-values}
-use Rattle.cuts.proofs.Chains.{Piece, piece-adds}
+use Rattle.cuts.proofs.Accepting.{opening-accepts, accepted-form, accepted-gathering, accepted-values}
+use Rattle.cuts.proofs.Chains.{Piece, kept-going, piece-adds}
 use Rattle.cuts.proofs.Turning.{Kept}
 use Rattle.cuts.proofs.Taking.{merged-taken, next-piece}
 use Rattle.cuts.proofs.AnyCut.{fresh-keeps, history-keeps}
@@ -62,18 +62,6 @@ last-two true true false d e y p q r h = absurd-true r refl
 last-two true false c d e y p q r h = absurd-true q refl
 last-two false b c d e y p q r h = absurd-true p refl
 
--- test 13 of two gathered lists is that of the rows of both
-fits-both : (e : Ending) (threshold : List ℕ) (xs ys : List Bindings) (r : Run) → r .delivered ≡ xs ++ ys
-    → totalsFit e (gathered e [] xs) (gathered e threshold ys) ≡ runFits e r
-unfolding totalsFit
-fits-both (rows vs) threshold xs ys r d = refl
-fits-both (top k vs keys) threshold xs ys r d = refl
-fits-both (group vs m) threshold xs ys r d =
-    ap (all groupFits)
-    (ap₂ addGroups (groups-in-gathered vs m [] xs) (groups-in-gathered vs m threshold ys)
-    ∙ sym (groups-append vs m xs ys)
-    ∙ ap (groupsOf vs m) (sym d))
-
 module _ (t : Tables) (plan : List ℕ) (a : Accepted t plan) (h : Phone) (k : Kept t (planOf plan) h) where
   abbrev q : Plan
   q = planOf plan
@@ -82,37 +70,45 @@ module _ (t : Tables) (plan : List ℕ) (a : Accepted t plan) (h : Phone) (k : K
     abbrev i : MergeInput
     i = mergeInputOf plan h behind x
 
-    kept-right : listRight (q .ending) (h .kept) ≡ true
-    kept-right =
-        ap (listRight (q .ending)) (k .list)
-        ∙ valid-right (q .ending) m _
-        (accepted-gathering t plan a .valid [] (after t q (stepsIn (h .taken)) .delivered) (accepted-values t plan a (stepsIn (h .taken))))
-
     abbrev n : ℕ
     n = stepsIn (h .taken)
 
     piece : Piece t q n x
     piece = next-piece t plan a h k x rest waits
 
+    -- the run goes on where the turn began: what is kept is the list of its rows up to there
+    kept-is : h .kept ≡ gathered (q .ending) [] (after t q n .delivered)
+    kept-is = k .list ∙ kept-going t q (accepted-form t plan a .ending) n (piece .going)
+
+    kept-right : listRight (q .ending) (h .kept) ≡ true
+    kept-right =
+        ap (listRight (q .ending)) kept-is
+        ∙ valid-right (q .ending) m _ (accepted-gathering t plan a .valid [] (after t q n .delivered) (accepted-values t plan a n))
+
+    -- the turn is at the run's end, or not
+    abbrev over : Bool
+    over = isOver (after t q (n + x .steps) .state)
+
     list-right : listRight (q .ending) (x .list) ≡ true
     list-right =
         ap (listRight (q .ending)) (piece .list)
         ∙ valid-right (q .ending) m _
-        (accepted-gathering t plan a .valid (piece .threshold) (piece .rows)
+        (at-valid (q .ending) (accepted-form t plan a .ending) (piece .threshold) over (piece .rows)
         (each-later (λ (b : Bindings). all isValue b ≡ true) (after t q n .delivered) (piece .rows)
         (subst AllValues (piece .more) (accepted-values t plan a (n + x .steps)))))
 
     -- the totals and the words of the result are the uncut run's up to the end of that turn
     totals-are : totalsFit (q .ending) (h .kept) (x .list) ≡ runFits (q .ending) (after t q (n + x .steps))
     totals-are =
-        ap₂ (totalsFit (q .ending)) (k .list) (piece .list)
-        ∙ fits-both (q .ending) (piece .threshold) (after t q n .delivered) (piece .rows) (after t q (n + x .steps)) (piece .more)
+        ap₂ (totalsFit (q .ending)) kept-is (piece .list)
+        ∙ at-fit (q .ending) (piece .threshold) over (after t q n .delivered) (piece .rows)
+        ∙ ap (rowsFit (q .ending)) (sym (piece .more))
 
-    words-are : merged (q .ending) (h .kept) (x .list) ≡ runList (q .ending) (after t q (n + x .steps))
+    words-are : merged (q .ending) (h .kept) (x .list) ≡ keptAfter t q (n + x .steps)
     words-are =
         merged-taken (q .ending) (h .kept) (x .list) kept-right
         ∙ ap (λ l. takenInto (q .ending) l (x .list)) (k .list)
-        ∙ piece-adds t q (accepted-gathering t plan a) n x piece
+        ∙ piece-adds t q (accepted-form t plan a .ending) n x piece
 
     given-kept : take (i .given) (i .kept) ≡ h .kept
     given-kept = take-append-seam (h .kept) behind

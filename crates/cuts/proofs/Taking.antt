@@ -17,17 +17,18 @@ use Rattle.plans.specs.Plans.{Plan, planOf}
 use Rattle.steps.specs.Steps.{after}
 use Rattle.steps.specs.Saved.{savedWords}
 use Rattle.lists.specs.Gathering.{merged, takenInto, listRight}
+use Rattle.turns.specs.Turns.{isOver}
 use Rattle.merges.specs.Merging.{MergeInput, MergeResult, mergedWords, mergeOf}
 use Rattle.merges.specs.Refusals.{Merges}
 use Rattle.merges.proofs.Refusals.{merge-passed}
 use Rattle.merges.proofs.Writes.{merge-writes}
 use Rattle.cuts.specs.Histories.{ServedTurn, Phone, servedIn, stepsIn, doneIn, mergeInputOf, afterTaking, afterMerge, afterMerging, afterJoin}
 use Rattle.cuts.specs.Histories.{afterJoining}
-use Rattle.cuts.specs.Uncut.{runList}
+use Rattle.cuts.specs.Uncut.{keptAfter}
 use Rattle.cuts.specs.Accepting.{Accepted}
-use Rattle.cuts.proofs.Accepting.{accepted-gathering}
+use Rattle.cuts.proofs.Accepting.{accepted-form}
 use Rattle.cuts.proofs.Chains.{steps-more, Piece, Chain, chain-rest, piece-adds}
-use Rattle.cuts.proofs.Turning.{Kept, isNone}
+use Rattle.cuts.proofs.Turning.{Kept}
 
 -- a list that test 12 passes is merged by taking it
 pub merged-taken : (e : Ending) (kept list : List ℕ) → listRight e kept ≡ true → merged e kept list ≡ takenInto e kept list
@@ -58,13 +59,13 @@ module _ (t : Tables) (plan : List ℕ) (a : Accepted t plan) (h : Phone) (k : K
         record {
           saved = k .saved ∙ ap (λ l. savedWords (after t q (stepsIn l) .state)) (sym same);
           alive = λ m l. k .alive m (subst (λ xs. m < stepsIn xs) same l);
-          done = ap doneIn same ∙ k .done ∙ ap (λ l. isNone (after t q (stepsIn l) .state)) (sym same);
+          done = ap doneIn same ∙ k .done ∙ ap (λ l. isOver (after t q (stepsIn l) .state)) (sym same);
           chain = subst (Chain t q 0) (sym same) (k .chain);
           list =
               e
               ∙ ap (λ l. takenInto (q .ending) l (x .list)) (k .list)
-              ∙ piece-adds t q (accepted-gathering t plan a) (stepsIn (h .taken)) x next-piece
-              ∙ ap (λ d. runList (q .ending) (after t q d)) (sym (steps-more (h .taken) x));
+              ∙ piece-adds t q (accepted-form t plan a .ending) (stepsIn (h .taken)) x next-piece
+              ∙ ap (keptAfter t q) (sym (steps-more (h .taken) x));
         }
 
     -- ---- merging

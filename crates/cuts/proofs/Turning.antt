@@ -2,7 +2,7 @@
 use Prim.Native.Nat.{ℕ, zero, suc, _+_, _-_, _≤_, _<_}
 use native.Mathlib.Omega.{arith}
 use native.Mathlib.Decide.{decLt}
-use mathlib.Core.Path.{_≡_, refl, sym, _∙_, ap, subst}
+use mathlib.Core.Path.{_≡_, refl, sym, _∙_, ap, subst, subst⁻¹}
 use mathlib.Core.Bool.{Bool, true, false, _&&_}
 use mathlib.Core.Option.{Option, none, some}
 use mathlib.Core.List.{List, [], _∷_, _++_, append-assoc}
@@ -12,19 +12,24 @@ use lib.Seq.{take-append-seam}
 use Rattle.words.proofs.Booleans.{absurd-true, and-right}
 use Rattle.words.proofs.Testing.{none-some, some-injective}
 use Rattle.words.specs.Sequences.{iterate}
+use Rattle.words.specs.Bindings.{Bindings}
 use Rattle.tables.specs.Tables.{Tables}
+use Rattle.plans.specs.Endings.{Ending, rows, top, group}
 use Rattle.plans.specs.Plans.{Plan, planOf}
 use Rattle.steps.specs.Steps.{State, Run, runFrom, after}
 use Rattle.steps.specs.Saved.{savedWords, stateWords, shapeRight, stateIn}
 use Rattle.steps.proofs.Runs.{after-state, after-rows}
 use Rattle.steps.proofs.AcceptedStates.{loads-back}
+use Rattle.lists.specs.Gathering.{gathered}
+use Rattle.lists.specs.Closing.{listAt}
 use Rattle.lists.specs.Thresholds.{Sent}
 use Rattle.lists.proofs.TopLists.{Fine}
-use Rattle.lists.proofs.FullLists.{listsOf, deliveredBy, sent-fine}
+use Rattle.lists.proofs.Closing.{top-at}
+use Rattle.lists.proofs.FullLists.{deliveredBy, sent-fine}
 use Rattle.lists.proofs.Gatherings.{some-width}
 use Rattle.turns.specs.declared.TurnEnding.{TurnEnding}
 use Rattle.turns.specs.declared.TurnEnding.the-variants.{Done, Spent, Full, Refused}
-use Rattle.turns.specs.Turns.{TurnInput, TurnResult, turnOf, givenState}
+use Rattle.turns.specs.Turns.{isDone, isOver, TurnInput, TurnResult, turnOf, givenState}
 use Rattle.turns.specs.Refusals.{Served}
 use Rattle.turns.proofs.Refusals.{turn-passed}
 use Rattle.turns.proofs.AfterDone.{no-shape}
@@ -32,24 +37,20 @@ use Rattle.turns.specs.Follows.{givenRun, turnRun}
 use Rattle.turns.proofs.Follows.{follows}
 use Rattle.turns.proofs.Progress.{progresses}
 use Rattle.turns.proofs.Endings.{endings}
-use Rattle.cuts.specs.Histories.{ServedTurn, Phone, servedIn, stepsIn, doneIn, isDone, turnInputOf, servedOf, afterServed}
+use Rattle.cuts.specs.Histories.{ServedTurn, Phone, servedIn, stepsIn, doneIn, turnInputOf, servedOf, afterServed}
 use Rattle.cuts.specs.Premises.{listsIn}
-use Rattle.cuts.specs.Uncut.{runList}
+use Rattle.cuts.specs.Uncut.{keptAfter}
 use Rattle.cuts.specs.Accepting.{Accepted}
 use Rattle.cuts.proofs.Accepting.{accepted-form}
 use Rattle.cuts.proofs.Chains.{steps-more, done-more, Piece, Chain, chain-append, turnsOf, turns-lists, turns-rows}
-
-abbrev pub isNone : Option State → Bool
-isNone none = true
-isNone (some s) = false
 
 -- what every history keeps true
 pub record Kept (t : Tables) (q : Plan) (h : Phone) : Type 0 where
   pub saved : h .saved ≡ savedWords (after t q (stepsIn (servedIn h)) .state)
   pub alive : (m : ℕ) → m < stepsIn (servedIn h) → after t q m .state ≡ none → ⊥
-  pub done : doneIn (servedIn h) ≡ isNone (after t q (stepsIn (servedIn h)) .state)
+  pub done : doneIn (servedIn h) ≡ isOver (after t q (stepsIn (servedIn h)) .state)
   pub chain : Chain t q 0 (servedIn h)
-  pub list : h .kept ≡ runList (q .ending) (after t q (stepsIn (h .taken)))
+  pub list : h .kept ≡ keptAfter t q (stepsIn (h .taken))
 
 module _ (t : Tables) (plan : List ℕ) (a : Accepted t plan) (h : Phone) (k : Kept t (planOf plan) h) where
   abbrev q : Plan
@@ -62,13 +63,26 @@ module _ (t : Tables) (plan : List ℕ) (a : Accepted t plan) (h : Phone) (k : K
   pub sent-leaves : (threshold : List ℕ) → Sent (q .ending) (listsIn (servedIn h)) threshold
       → Fine (q .ending) (after t q n .delivered) threshold
   unfolding after iterate
-  sent-leaves threshold s =
-      let turns = turnsOf t q 0 (servedIn h) (k .chain) in
-      let rows : after t q n .delivered ≡ deliveredBy turns =
-      ap (λ m. after t q m .delivered) (let p : n ≡ 0 + n = omega arith in p) ∙ turns-rows t q 0 (servedIn h) (k .chain) in
-      subst (λ bs. Fine (q .ending) bs threshold) (sym rows)
-      (sent-fine (q .ending) (some-width (q .ending) (accepted-form t plan a .ending)) turns threshold
-      (subst (λ ls. Sent (q .ending) ls threshold) (sym (turns-lists t q 0 (servedIn h) (k .chain))) s))
+  sent-leaves threshold s = go (q .ending) refl
+    where
+      turns : List (List ℕ × List Bindings)
+      turns = turnsOf t q 0 (servedIn h) (k .chain)
+
+      all-rows : after t q n .delivered ≡ deliveredBy turns
+      all-rows = ap (λ m. after t q m .delivered) (let p : n ≡ 0 + n = omega arith in p) ∙ turns-rows t q 0 (servedIn h) (k .chain)
+
+      same : (j : ℕ) (vs keys : List ℕ) → q .ending ≡ top j vs keys → (th : List ℕ) (done : Bool) (bs : List Bindings)
+          → listAt (q .ending) th done bs ≡ gathered (q .ending) th bs
+      same j vs keys e th done bs = subst⁻¹ (λ x. listAt x th done bs ≡ gathered x th bs) e (top-at j vs keys th done bs)
+
+      -- only a best-of list takes a threshold, and done adds nothing to it
+      go : (e : Ending) → q .ending ≡ e → Fine (q .ending) (after t q n .delivered) threshold
+      go (rows vs) e = subst⁻¹ (λ x. Fine x (after t q n .delivered) threshold) e tt
+      go (group vs m) e = subst⁻¹ (λ x. Fine x (after t q n .delivered) threshold) e tt
+      go (top j vs keys) e =
+          subst (λ bs. Fine (q .ending) bs threshold) (sym all-rows)
+          (sent-fine (q .ending) (some-width (q .ending) (accepted-form t plan a .ending)) turns threshold
+          (subst (λ ls. Sent (q .ending) ls threshold) (sym (turns-lists t q (same j vs keys e) 0 (servedIn h) (k .chain))) s))
 
   module _ (behind : List ℕ) (quantum : ℕ) (threshold output : List ℕ) where
     abbrev i : TurnInput
@@ -118,7 +132,10 @@ module _ (t : Tables) (plan : List ℕ) (a : Accepted t plan) (h : Phone) (k : K
             rows = turnRun i .delivered;
             threshold = threshold;
             more = new-rows;
-            list = follows i serve .output .front;
+            going = ap isOver (running .1);
+            list =
+                follows i serve .output .front
+                ∙ ap (λ o. listAt (q .ending) threshold (isOver o) (turnRun i .delivered)) (sym new-state);
             fine = fine;
             least = progresses i serve .least;
             most = progresses i serve .within;
@@ -131,14 +148,14 @@ module _ (t : Tables) (plan : List ℕ) (a : Accepted t plan) (h : Phone) (k : K
       steps-are = ap stepsIn grown ∙ steps-more (servedIn h) x
 
       -- done is answered exactly when no state is left
-      ending-is : (e : TurnEnding) → turnOf i .answer .ending ≡ e → isDone e ≡ isNone (turnRun i .state)
-      ending-is Done e = sym (ap isNone (endings i serve .done .0 e .over))
+      ending-is : (e : TurnEnding) → turnOf i .answer .ending ≡ e → isDone e ≡ isOver (turnRun i .state)
+      ending-is Done e = sym (ap isOver (endings i serve .done .0 e .over))
       ending-is Spent e = going (turnRun i .state) (endings i serve .spent .0 e .not-done)
         where
-          going : (o : Option State) → ¬ (o ≡ none) → false ≡ isNone o
+          going : (o : Option State) → ¬ (o ≡ none) → false ≡ isOver o
           going none f = absurd (f refl)
           going (some u) f = refl
-      ending-is Full e = sym (ap isNone (endings i serve .full .0 e .no-space .here))
+      ending-is Full e = sym (ap isOver (endings i serve .full .0 e .no-space .here))
       ending-is (Refused y) e = absurd (serve y e)
 
       alive-on : (j : ℕ) → j < n + m → after t q j .state ≡ none → ⊥
@@ -162,10 +179,10 @@ module _ (t : Tables) (plan : List ℕ) (a : Accepted t plan) (h : Phone) (k : K
             alive = λ j l. alive-on j (subst (λ d. j < d) steps-are l);
             done =
                 ap doneIn grown
-                ∙ done-more (servedIn h) x (k .done ∙ ap isNone (running .1))
+                ∙ done-more (servedIn h) x (k .done ∙ ap isOver (running .1))
                 ∙ ending-is (turnOf i .answer .ending) refl
-                ∙ ap isNone (sym new-state)
-                ∙ ap (λ d. isNone (after t q d .state)) (sym steps-are);
+                ∙ ap isOver (sym new-state)
+                ∙ ap (λ d. isOver (after t q d .state)) (sym steps-are);
             chain =
                 subst (Chain t q 0) (sym grown)
                 (chain-append t q 0 (servedIn h) (x ∷ []) (k .chain)

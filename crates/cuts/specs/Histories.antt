@@ -2,7 +2,7 @@
 -- not made. Assumes nothing: these are definitions.
 use Prim.Native.Nat.{ℕ, _+_}
 use mathlib.Core.List.{List, [], _∷_, _++_}
-use mathlib.Core.Bool.{Bool, true, false, cond, _||_}
+use mathlib.Core.Bool.{Bool, false, cond, _||_}
 use lib.ListN.{length, take}
 use Rattle.words.specs.declared.Written.{Written}
 use Rattle.words.specs.declared.Written.the-variants.{Words, Refused}
@@ -14,7 +14,7 @@ use Rattle.lists.specs.Gathering.{isRows}
 use Rattle.turns.specs.declared.TurnEnding.{TurnEnding}
 use Rattle.turns.specs.declared.TurnEnding.the-variants as ending
 use Rattle.turns.specs.Opening.{Opened, openOf}
-use Rattle.turns.specs.Turns.{TurnInput, TurnResult, turnOf}
+use Rattle.turns.specs.Turns.{isDone, TurnInput, TurnResult, turnOf}
 use Rattle.merges.specs.Merging.{MergeInput, MergeResult, mergeOf}
 
 -- a turn: the words behind the saved state in its buffer, the quantum, the threshold, the output as it is lent.
@@ -46,12 +46,6 @@ servedIn h = h .taken ++ h .waiting
 unfoldable pub stepsIn : List ServedTurn → ℕ
 stepsIn [] = 0
 stepsIn (x ∷ xs) = x .steps + stepsIn xs
-
-abbrev pub isDone : TurnEnding → Bool
-isDone ending.Done = true
-isDone ending.Spent = false
-isDone ending.Full = false
-isDone (ending.Refused x) = false
 
 unfoldable pub doneIn : List ServedTurn → Bool
 doneIn [] = false

@@ -1,5 +1,5 @@
 -- What demand 3 says of a history: it is as the uncut run. Assumes nothing: these are definitions.
-use Prim.Native.Nat.{ℕ, _≤_, _<_}
+use Prim.Native.Nat.{ℕ, zero, suc, _≤_, _<_}
 use mathlib.Core.Path.{_≡_}
 use mathlib.Core.Logic.{_↔_}
 use mathlib.Core.List.{List, [], _∷_, flatten}
@@ -11,13 +11,20 @@ use Rattle.plans.specs.Endings.{Ending, rows, top, group}
 use Rattle.plans.specs.Plans.{Plan}
 use Rattle.steps.specs.Steps.{Run, after}
 use Rattle.steps.specs.Saved.{savedWords}
-use Rattle.lists.specs.Gathering.{gathered, rowsFit}
+use Rattle.lists.specs.Gathering.{rowsFit}
+use Rattle.lists.specs.Closing.{listAt}
+use Rattle.turns.specs.Turns.{isOver}
 use Rattle.cuts.specs.Histories.{ServedTurn, Phone, servedIn, stepsIn, doneIn}
 use Rattle.cuts.specs.Premises.{listsIn}
 
--- the rows, best-of list or groups of a run, as words
+-- the rows, best-of list or groups of a run, as words: closed where the run is over
 abbrev pub runList : Ending → Run → List ℕ
-runList e r = gathered e [] (r .delivered)
+runList e r = listAt e [] (isOver (r .state)) (r .delivered)
+
+-- what is kept of the uncut run's lists up to so many steps: nothing before the first step, for then no list is taken yet
+abbrev pub keptAfter : Tables → Plan → ℕ → List ℕ
+keptAfter t q zero = []
+keptAfter t q (suc n) = runList (q .ending) (after t q (suc n))
 
 -- no total of a run's groups, each a natural number, passes 2^64 - 1
 abbrev pub runFits : Ending → Run → Bool
@@ -32,7 +39,7 @@ pub record EndsAt (t : Tables) (q : Plan) (n : ℕ) : Type 0 where
 -- the run's groups up to there passes 2^64 - 1. By 14: none does, and the run's list up to there is longer than the buffer
 pub data NotTaken (t : Tables) (q : Plan) (steps room : ℕ) : ℕ → Type 0 where
   totals-pass : runFits (q .ending) (after t q steps) ≡ false → NotTaken t q steps room 13
-  no-room : runFits (q .ending) (after t q steps) ≡ true → room < length (runList (q .ending) (after t q steps)) → NotTaken t q steps room 14
+  no-room : runFits (q .ending) (after t q steps) ≡ true → room < length (keptAfter t q steps) → NotTaken t q steps room 14
 
 -- a best-of or group query
 abbrev pub MergesLists : Ending → Type 0
@@ -59,7 +66,7 @@ pub record AsUncut (t : Tables) (q : Plan) (h : Phone) : Type 0 where
   -- no turn's steps are above its quantum
   pub quantum : WithinQuantum (servedIn h)
   -- the lists taken so far make its rows, its best-of list or its groups up to where the last of them ended
-  pub list : h .kept ≡ runList (q .ending) (after t q (stepsIn (h .taken)))
+  pub list : h .kept ≡ keptAfter t q (stepsIn (h .taken))
   -- for a row query, the first lists of any number make its rows up to where the last of them ended
   pub prefixes : (vs : List ℕ) → q .ending ≡ rows vs → (k : ℕ)
       → joinedLists (take k (servedIn h)) ≡ runList (q .ending) (after t q (stepsIn (take k (servedIn h))))

@@ -1,4 +1,6 @@
 pub mod Receiving
+pub mod ClosedGroups
+pub mod ByClosing
 pub mod Least
 pub mod ByKind
 pub mod OutputRefusals

@@ -1,5 +1,5 @@
 -- A turn of test 12 of a list of groups: the record at a word is right and follows the one before it, or the list is wrong.
-use Prim.Native.Nat.{ℕ, _+_, _-_, _%_, _≤_, _<_}
+use Prim.Native.Nat.{ℕ, zero, suc, _+_, _-_, _%_, _≤_, _<_}
 use native.Mathlib.Omega.{arith}
 use native.Mathlib.Decide.{decLt}
 use mathlib.Core.Path.{_≡_, refl, sym, _∙_, ap, ap₂}
@@ -7,14 +7,14 @@ use mathlib.Core.Bool.{Bool, true, false, _&&_}
 use mathlib.Core.List.{List, [], _∷_, map}
 use lib.Dec.{eqb}
 use lib.ListN.{length, take, drop, length-drop, drop-of-length-le}
-use lib.Seq.{take-take, drop-drop}
+use lib.Seq.{take-take, drop-drop, length-take-le}
 use borrow.Author.Tests.{eq-eqb, ne-eqb}
 use Rattle.words.specs.Words.{keyRank, isValue}
 use Rattle.words.specs.Sequences.{all, neighbours, lexBefore}
 use Rattle.words.proofs.Booleans.{absurd-true}
 use Rattle.plans.specs.Endings.{group}
 use Rattle.lists.specs.Groups.{Group, totalsWidth, keysBefore, groupIn}
-use Rattle.lists.specs.Gathering.{recordsIn, groupRight, listRight}
+use Rattle.lists.specs.Gathering.{recordsIn, leastRows, groupRight, listRight}
 use Rattle.list_groups.specs.Keys.{keysFirst}
 use Rattle.list_groups.specs.GroupTests.{totalsRight, followsAt}
 use Rattle.list_group_totals.specs.GroupTotals.{totalsIn}
@@ -184,12 +184,19 @@ follows-lent g list at n =
 pub right-parts : (g : ℕ) (list : List ℕ) (at : ℕ) → at + (g + totalsWidth) ≤ length list
     → groupRight (groupIn g (take (g + totalsWidth) (drop at list)))
     ≡ (all isValue (take (at + g - at) (drop at list))
-    && totalsRight (totalsIn (take (at + g + totalsWidth - (at + g)) (drop (at + g) list))))
+    && totalsRight (leastRows g) (totalsIn (take (at + g + totalsWidth - (at + g)) (drop (at + g) list))))
 unfolding groupRight
 right-parts g list at h =
+    let n : length (take g (drop at list)) ≡ g = length-take-le g (drop at list) (omega (arith, length-drop at list)) in
     ap groupRight (group-at g list at h)
-    ∙ ap₂ (λ p q. all isValue (take p (drop at list)) && totalsRight (totalsIn (take q (drop (at + g) list))))
+    ∙ ap (λ n. all isValue (take g (drop at list)) && totalsRight (leastRows n) (totalsIn (take totalsWidth (drop (at + g) list)))) n
+    ∙ ap₂ (λ p q. all isValue (take p (drop at list)) && totalsRight (leastRows g) (totalsIn (take q (drop (at + g) list))))
     (let z : g ≡ at + g - at = omega arith in z) (let z : totalsWidth ≡ at + g + totalsWidth - (at + g) = omega arith in z)
+
+-- where there is a key, a row at least
+pub least-some : (n : ℕ) → (n ≡ 0 → ⊥) → 1 ≡ leastRows n
+least-some zero h = absurd (h refl)
+least-some (suc n) h = refl
 
 -- ---- the whole test, by the number of keys
 module _ (g : ℕ) (list : List ℕ) (vs : List ℕ) (m : ℕ) (e : length vs ≡ g) where

@@ -12,7 +12,7 @@ ghost use Prim.Native.Nat.{ℕ, _+_, _≤_, _<_};
 ghost use lib.ListN.{length, take, drop};
 ghost use Rattle.plans.specs.Endings.{group, mostGroupVariables};
 ghost use Rattle.lists.specs.Groups.{totalsWidth, groupIn};
-ghost use Rattle.lists.specs.Gathering.{extremesRight, groupRight, listRight};
+ghost use Rattle.lists.specs.Gathering.{extremesRight, leastRows, groupRight, listRight};
 ghost use Rattle.list_group_totals.specs.GroupTotals.{groupOf};
 ghost use Rattle.list_groups.specs.GroupTests.{totalsRight, followsAt};
 
@@ -38,10 +38,21 @@ fn extremes_right(t: Totals) -> bool
     Term(t.least).value() <= Term(t.greatest).value()
 }
 
-fn totals_right(t: Totals) -> bool
-    ensures { λ r. ⌜ r ≡ totalsRight t ⌝ }
+// The rows that a record with so many keys counts at least: with no key it may be the record of no rows.
+fn least_rows(keys: usize) -> u64
+    ensures { λ r. ⌜ r ≡ leastRows keys ⌝ }
 {
-    if t.rows < 1 {
+    if keys == 0 {
+        return 0;
+    }
+    1
+}
+
+// Whether totals are those of so many rows or more.
+fn totals_right(least: u64, t: Totals) -> bool
+    ensures { λ r. ⌜ r ≡ totalsRight least t ⌝ }
+{
+    if t.rows < least {
         return false;
     }
     if t.rows < t.numbers {
@@ -60,7 +71,8 @@ fn record_right(g: usize, list: &[u32], at: usize) -> bool
     if !is_values(&list[at..mid]) {
         return false;
     }
-    totals_right(read_totals(&list[mid..end]))
+    let least = least_rows(g);
+    totals_right(least, read_totals(&list[mid..end]))
 }
 
 // Whether the record at a word comes after the one before it, if there is one.

@@ -32,7 +32,7 @@ pub record Gathering (e : Ending) : Type 0 where
       → takenInto e (gathered e [] xs) (gathered e threshold ys) ≡ gathered e [] (xs ++ ys)
   -- what is gathered of rows of values is valid, and valid lists make a valid one
   pub valid : (threshold : List ℕ) (bs : List Bindings) → AllValues bs → Valid e (gathered e threshold bs)
-  pub closed : (kept list : List ℕ) → Valid e kept → Valid e list → Valid e (takenInto e kept list)
+  pub stays : (kept list : List ℕ) → Valid e kept → Valid e list → Valid e (takenInto e kept list)
   -- an output that test 7 passes has room for a row
   pub room : (threshold : List ℕ) (b : Bindings) → length (gathered e threshold (b ∷ [])) ≤ leastOutput e
 
@@ -43,7 +43,7 @@ gathering (rows vs) f =
       none = gathered-nil (rows vs);
       adds = λ threshold xs ys h. rows-join vs xs ys threshold;
       valid = λ threshold bs h. tt;
-      closed = λ kept list p q. tt;
+      stays = λ kept list p q. tt;
       room = one-row (rows vs);
     }
 gathering (top k vs keys) f =
@@ -51,7 +51,7 @@ gathering (top k vs keys) f =
       none = gathered-nil (top k vs keys);
       adds = merge-top k vs keys (f .row .least);
       valid = right-gathered k vs keys;
-      closed = right-merged k vs keys;
+      stays = right-merged k vs keys;
       room = one-row (top k vs keys);
     }
 gathering (group vs m) f =
@@ -59,7 +59,7 @@ gathering (group vs m) f =
       none = gathered-nil (group vs m);
       adds = λ threshold xs ys h. merge-group vs m xs ys threshold;
       valid = gathered-right vs m;
-      closed = merged-right vs m;
+      stays = merged-right vs m;
       room = one-row (group vs m);
     }
 

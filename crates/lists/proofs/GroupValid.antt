@@ -84,13 +84,16 @@ module _ (vs : List ℕ) (m : ℕ) where
       (groups-ascending (length vs) gs hs (have-keys-in vs kept) (have-keys-in vs list) (right-ascending kept p))
 
   -- ---- gathering
+  pub groups-rights : (bs : List Bindings) → AllValues bs → AllRight (groupsOf vs m bs)
+  groups-rights bs h =
+      right-addAll [] (map (ofRow vs m) bs) tt
+      (each-mapped (λ (g : Group). groupRight g ≡ true) (ofRow vs m) bs (rows-right vs m bs (key-values vs bs h)))
+
   pub gathered-right : (th : List ℕ) (bs : List Bindings) → AllValues bs
       → listRight (group vs m) (gathered (group vs m) th bs) ≡ true
   unfolding gathered
   gathered-right th bs h =
-      let rights = each-mapped (λ (g : Group). groupRight g ≡ true) (ofRow vs m) bs (rows-right vs m bs (key-values vs bs h)) in
-      words-right (groupsOf vs m bs) (groups-have vs m bs) (right-addAll [] (map (ofRow vs m) bs) tt rights)
-      (groups-ascend vs m bs)
+      words-right (groupsOf vs m bs) (groups-have vs m bs) (groups-rights bs h) (groups-ascend vs m bs)
 
   -- ---- room: as many words as there are records; the output that test 7 asks for has room for the record of one row
   pub length-gathered : (th : List ℕ) (bs : List Bindings)

@@ -1,16 +1,18 @@
--- Test 12 of one record: the record of a row passes it, and two records that pass it pass it together.
-use Prim.Native.Nat.{ℕ, _≤_}
+-- Test 12 of one record: the record of a row passes it, and two records that pass it pass it together. Of the records that count no rows
+-- one passes it.
+use Prim.Native.Nat.{ℕ, zero, suc, _≤_}
 use native.Mathlib.Omega.{arith}
 use mathlib.Core.Path.{_≡_, refl}
 use mathlib.Core.Bool.{Bool, true, false, cond, _&&_}
-use mathlib.Core.List.{List}
+use mathlib.Core.List.{List, [], _∷_}
 use lib.Dec.{eqb, leb}
+use lib.ListN.{length}
 use borrow.Author.Tests.{eqb-true, eqb-false, ne-eqb, leb-true, leb-false, le-leb}
 use Rattle.words.specs.Words.{isNumber, valueRank, unbound, isValue}
 use Rattle.words.specs.Sequences.{all}
 use Rattle.words.proofs.Booleans.{and-left, and-right}
-use Rattle.lists.specs.Groups.{Group, ofValue, lesser, greater, together}
-use Rattle.lists.specs.Gathering.{extremesRight, groupRight}
+use Rattle.lists.specs.Groups.{Group, ofValue, ofNothing, lesser, greater, together}
+use Rattle.lists.specs.Gathering.{extremesRight, leastRows, groupRight}
 use Rattle.lists.proofs.Extremes.{lesser-unbound, greater-unbound, unbound-lesser, unbound-greater, lesser-numbers, greater-numbers}
 
 -- what the test says of a sum and of the least and the greatest number, beside the number of numbers
@@ -93,7 +95,7 @@ extremes-together g h (some p q r s) (some p′ q′ r′ s′) =
 -- ---- the whole test
 pub record Right (g : Group) : Type 0 where
   pub keys : all isValue (g .keys) ≡ true
-  pub rows : 1 ≤ g .rows
+  pub rows : leastRows (length (g .keys)) ≤ g .rows
   pub numbers : g .numbers ≤ g .rows
   pub extremes : Extremes g
 
@@ -101,27 +103,34 @@ pub right-is : (g : Group) → groupRight g ≡ true → Right g
 unfolding groupRight
 right-is g e =
     let a = all isValue (g .keys) in
-    let b = leb 1 (g .rows) in
+    let b = leb (leastRows (length (g .keys))) (g .rows) in
     let c = leb (g .numbers) (g .rows) in
     let d = extremesRight g in
     let h = and-right a (b && (c && d)) e in
     let k = and-right b (c && d) h in
     record {
       keys = and-left a (b && (c && d)) e;
-      rows = leb-true 1 (g .rows) (and-left b (c && d) h);
+      rows = leb-true (leastRows (length (g .keys))) (g .rows) (and-left b (c && d) h);
       numbers = leb-true (g .numbers) (g .rows) (and-left c d k);
       extremes = right-extremes g (and-right c d k);
     }
 
 pub is-right : (g : Group) → Right g → groupRight g ≡ true
 unfolding groupRight
-is-right g r = rw (r .keys, le-leb 1 (g .rows) (r .rows), le-leb (g .numbers) (g .rows) (r .numbers)) (extremes-right g (r .extremes))
+is-right g r =
+    rw (r .keys, le-leb (leastRows (length (g .keys))) (g .rows) (r .rows), le-leb (g .numbers) (g .rows) (r .numbers))
+    (extremes-right g (r .extremes))
+
+-- no record has to count more than one row
+least-one : (n : ℕ) → leastRows n ≤ 1
+least-one zero = omega arith
+least-one (suc n) = omega arith
 
 -- the record of a row whose keys are values
 pub right-value : (keys : List ℕ) (x : ℕ) → all isValue keys ≡ true → groupRight (ofValue keys x) ≡ true
 right-value keys x e =
     is-right (ofValue keys x)
-    (record { keys = e; rows = omega arith; numbers = go (isNumber x); extremes = extremes-value keys x })
+    (record { keys = e; rows = least-one (length keys); numbers = go (isNumber x); extremes = extremes-value keys x })
   where
     go : (b : Bool) → cond {A = ℕ} b 1 0 ≤ 1
     go true = omega arith
@@ -138,3 +147,22 @@ right-together g h p q =
       numbers = (let a = r .numbers in let b = s .numbers in omega arith);
       extremes = extremes-together g h (r .extremes) (s .extremes);
     })
+
+-- ---- of no rows
+pub right-nothing : groupRight ofNothing ≡ true
+unfolding all
+right-nothing =
+    is-right ofNothing (record { keys = refl; rows = omega arith; numbers = omega arith; extremes = none refl refl refl refl })
+
+-- and no other record of no rows passes: it has no keys, no numbers, the sum 0, and neither least nor greatest
+pub nothing-only : (g : Group) → groupRight g ≡ true → g .rows ≡ 0 → g ≡ ofNothing
+nothing-only g e z =
+    let r = right-is g e in
+    let least : leastRows (length (g .keys)) ≤ 0 = omega (arith, r .rows) in
+    let few : g .numbers ≤ 0 = omega (arith, r .numbers) in
+    go (g .keys) refl least few (r .extremes)
+  where
+    go : (ks : List ℕ) → g .keys ≡ ks → leastRows (length (g .keys)) ≤ 0 → g .numbers ≤ 0 → Extremes g → g ≡ ofNothing
+    go (k ∷ ks) p l f x = let h : leastRows (length (k ∷ ks)) ≤ 0 = rw p at l in absurd (omega arith)
+    go [] p l f (some a b c d) = absurd (omega arith)
+    go [] p l f (none a b c d) = λ i. record { keys = p i; rows = z i; numbers = a i; sum = b i; least = c i; greatest = d i }

@@ -32,5 +32,7 @@ pub mod NewGroups
 pub mod Room
 pub mod GroupTotals
 pub mod Gatherings
+pub mod ClosedGroups
+pub mod Closing
 pub mod DeliveredRows
 pub mod SideCases

@@ -1,6 +1,6 @@
 -- What each ending makes of delivered rows, case by case: its list as words, merging, tests 12 and 13, and the room that it needs.
 -- Assumes nothing: these are definitions.
-use Prim.Native.Nat.{ℕ, _+_, _*_, _/_, _%_}
+use Prim.Native.Nat.{ℕ, zero, suc, _+_, _*_, _/_, _%_}
 use mathlib.Core.List.{List, [], _∷_, _++_, map, flatten}
 use mathlib.Core.Bool.{Bool, true, false, cond, _&&_, not}
 use lib.ListN.{length}
@@ -75,9 +75,14 @@ extremesRight g =
     (eqb (g .sum) 0 && (eqb (g .least) unbound && eqb (g .greatest) unbound))
     (isNumber (g .least) && (isNumber (g .greatest) && leb (valueRank (g .least)) (valueRank (g .greatest))))
 
+-- the rows that a record with so many keys counts at least: with no key there is one group always, even of no rows
+abbrev pub leastRows : ℕ → ℕ
+leastRows zero = 0
+leastRows (suc n) = 1
+
 unfoldable pub groupRight : Group → Bool
 groupRight g =
-    all isValue (g .keys) && (leb 1 (g .rows) && (leb (g .numbers) (g .rows) && extremesRight g))
+    all isValue (g .keys) && (leb (leastRows (length (g .keys))) (g .rows) && (leb (g .numbers) (g .rows) && extremesRight g))
 
 unfoldable pub listRight : Ending → List ℕ → Bool
 listRight (rows vs) ws = false

@@ -6,5 +6,6 @@ pub mod Groups
 pub mod Gathering
 pub mod Space
 pub mod Delivering
+pub mod Closing
 pub mod Thresholds
 pub mod Computing

@@ -2,6 +2,7 @@
 use mathlib.Core.Path.{_≡_, refl}
 use mathlib.Core.List.{[], _∷_, flatten}
 use Rattle.words.specs.Words.{name, number, text, unbound}
+use Rattle.lists.specs.Groups.{ofNothing}
 use Rattle.turns.specs.declared.TurnEnding.the-variants.{Spent}
 use Rattle.print_lines.specs.Lines.{rowLine, groupLine, turnLine, listLine}
 use Rattle.print_lines.specs.Computing.{computing}
@@ -18,6 +19,12 @@ group-example : groupLine (record { keys = []; rows = 3; numbers = 3; sum = 665;
     ∷ 48 ∷ 10 ∷ []
 unfolding computing flatten
 group-example = refl
+
+-- group 0 0 0 - -
+nothing-example : groupLine ofNothing
+    ≡ 103 ∷ 114 ∷ 111 ∷ 117 ∷ 112 ∷ 32 ∷ 48 ∷ 32 ∷ 48 ∷ 32 ∷ 48 ∷ 32 ∷ 45 ∷ 32 ∷ 45 ∷ 10 ∷ []
+unfolding computing flatten
+nothing-example = refl
 
 -- turn 1 steps 4 spent
 turn-example : turnLine 1 4 Spent

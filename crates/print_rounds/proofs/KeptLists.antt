@@ -16,12 +16,13 @@ use Rattle.lists.specs.Groups.{totalsWidth}
 use Rattle.lists.specs.Gathering.{width, listRight}
 use Rattle.lists.proofs.Gatherings.{Valid}
 use Rattle.cuts.specs.Accepting.{Accepted}
-use Rattle.cuts.proofs.Accepting.{opening-accepts, accepted-gathering, accepted-values}
+use Rattle.cuts.proofs.Accepting.{opening-accepts}
+use Rattle.cuts.proofs.KeptValid.{kept-valid}
 use Rattle.queries.specs.declared.Keeping.the-variants.{Merged}
 use Rattle.queries.specs.declared.Played.{Played}
 use Rattle.queries.specs.declared.Played.the-variants.{Finished, Unfinished, Stopped, Refused}
 use Rattle.queries.specs.Stepping.{keptOf}
-use Rattle.queries.specs.Playing.{keptAfter, Leaves, IsWhole}
+use Rattle.queries.specs.Playing.{partAfter, Leaves, IsWhole}
 use Rattle.queries.proofs.Showing.{kept-at-end}
 use Rattle.print_writing.specs.FileQueries.{fileTables, filePlan, fileQuantum, IsAccepted, outputRoom, keptRoom}
 use Rattle.print_writing.specs.Shown.{mostTurns, CanOpen, by-turns, LeftToShow}
@@ -40,7 +41,7 @@ kept-whole t plan list o w =
     let a : Accepted t plan = opening-accepts t plan (o .0) (o .1) in
     ap (λ l. length l % width (planOf plan .ending)) (w .listed)
     ∙ valid-whole (planOf plan .ending) _
-    (accepted-gathering t plan a .valid _ _ (accepted-values t plan a (w .steps)))
+    (kept-valid t plan a (w .steps))
 
 -- what the rounds of an opened query leave, as the printer shows it
 module _ (bytes : List ℕ) (a : IsAccepted bytes) (o : CanOpen (fileTables bytes) (filePlan bytes)) (before state kept : List ℕ)
@@ -50,7 +51,7 @@ module _ (bytes : List ℕ) (a : IsAccepted bytes) (o : CanOpen (fileTables byte
       → LeftToShow bytes kept r
   left-to-show (Finished words) f =
       let h = f .list in
-      let long = length-over (keptAfter Merged (fileTables bytes) (filePlan bytes) (f .steps)) before (omega (arith, h .counted, h .room)) in (
+      let long = length-over (partAfter Merged (fileTables bytes) (filePlan bytes) (f .steps)) before (omega (arith, h .counted, h .room)) in (
         omega (arith, h .room, ap length (h .whole), long),
         kept-at-end Merged (fileTables bytes) (filePlan bytes) (fileQuantum bytes) mostTurns (outputRoom (filePlan bytes)) before kept words f,
       )

@@ -4,8 +4,8 @@ use native.Mathlib.Omega.{arith}
 use native.Mathlib.Nat.{zero-mod, mul-mod-left}
 use mathlib.Core.Path.{_≡_, refl, _∙_, ap}
 use mathlib.Core.Bool.{Bool, true, false}
-use mathlib.Core.List.{List, map}
-use lib.ListN.{length}
+use mathlib.Core.List.{List, [], map}
+use lib.ListN.{length, drop}
 use Rattle.words.specs.Bindings.{Bindings}
 use Rattle.words.proofs.Booleans.{absurd-true}
 use Rattle.tables.specs.Tables.{Tables}
@@ -13,13 +13,16 @@ use Rattle.plans.specs.declared.Last.the-variants.{Rows}
 use Rattle.plans.specs.Endings.{Ending, rows, top, group}
 use Rattle.plans.specs.Plans.{planOf}
 use Rattle.plans.specs.Reading.{lastIn}
+use Rattle.steps.specs.Steps.{after}
 use Rattle.lists.specs.Rows.{project}
 use Rattle.lists.specs.Gathering.{width, gathered}
+use Rattle.lists.specs.Closing.{listAt}
 use Rattle.lists.proofs.Records.{wide-project, length-flatten}
+use Rattle.lists.proofs.Closing.{rows-at}
 use Rattle.turns.specs.declared.TurnEnding.{TurnEnding}
 use Rattle.turns.specs.declared.TurnEnding.the-variants.{Done, Spent, Full, Refused}
 use Rattle.turns.specs.declared.Turned.{Turned}
-use Rattle.turns.specs.Turns.{TurnInput, turnOf}
+use Rattle.turns.specs.Turns.{isOver, TurnInput, turnOf}
 use Rattle.turns.proofs.Refusals.{turn-refusals}
 use Rattle.queries.specs.Stepping.{isServed}
 use Rattle.queries.specs.Playing.{Shows}
@@ -45,14 +48,20 @@ module _ (i : TurnInput) where
   listed-room = by-serving (isServed (turnOf i .answer .ending)) refl
 
 -- ---- and is whole rows
-rows-whole : (e : Ending) → lastIn e ≡ Rows → (threshold : List ℕ) (bs : List Bindings) → length (gathered e threshold bs) % width e ≡ 0
+gathered-whole : (vs threshold : List ℕ) (bs : List Bindings) → length (gathered (rows vs) threshold bs) % length vs ≡ 0
 unfolding gathered
-rows-whole (rows vs) h threshold bs =
+gathered-whole vs threshold bs =
     ap (λ n. n % length vs) (length-flatten (length vs) (map (project vs) bs) (wide-project vs bs)) ∙ mul-mod-left (length (map (project vs) bs)) (length vs)
-rows-whole (top k vs keys) h threshold bs = let z : _≡_ {A = ℕ} 0 1 = cc in absurd (omega arith)
-rows-whole (group vs m) h threshold bs = let z : _≡_ {A = ℕ} 0 1 = cc in absurd (omega arith)
+
+rows-whole : (e : Ending) → lastIn e ≡ Rows → (threshold : List ℕ) (done : Bool) (bs : List Bindings)
+    → length (listAt e threshold done bs) % width e ≡ 0
+rows-whole (rows vs) h threshold done bs = ap (λ l. length l % length vs) (rows-at vs threshold done bs) ∙ gathered-whole vs threshold bs
+rows-whole (top k vs keys) h threshold done bs = let z : _≡_ {A = ℕ} 0 1 = cc in absurd (omega arith)
+rows-whole (group vs m) h threshold done bs = let z : _≡_ {A = ℕ} 0 1 = cc in absurd (omega arith)
 
 pub shown-whole : (t : Tables) (plan : List ℕ) (quantum room number : ℕ) (turned : Turned) (list : List ℕ)
     → Shows t plan quantum room number turned list → lastIn (planOf plan .ending) ≡ Rows → length list % width (planOf plan .ending) ≡ 0
 shown-whole t plan quantum room number turned list s h =
-    ap (λ l. length l % width (planOf plan .ending)) (s .listed) ∙ rows-whole (planOf plan .ending) h _ _
+    let run = after t (planOf plan) in
+    ap (λ l. length l % width (planOf plan .ending)) (s .listed)
+    ∙ rows-whole (planOf plan .ending) h [] (isOver (run (s .to) .state)) (drop (length (run (s .from) .delivered)) (run (s .to) .delivered))

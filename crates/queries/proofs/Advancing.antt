@@ -4,40 +4,34 @@ use native.Mathlib.Omega.{arith}
 use mathlib.Core.Path.{_≡_, refl, sym, _∙_, ap, ap₂, subst, subst⁻¹}
 use mathlib.Core.Bool.{Bool, true, false, cond}
 use mathlib.Core.Option.{Option, none, some}
-use mathlib.Core.List.{List, [], _∷_, _++_, append-assoc, append-nil}
+use mathlib.Core.List.{List, [], _∷_, _++_, append-nil}
 use lib.ListN.{length, take, drop, length-append, take-append-drop}
-use Rattle.words.specs.Bindings.{Bindings}
-use Rattle.words.specs.Sequences.{all, over}
-use Rattle.words.proofs.Booleans.{absurd-true, and-right}
+use Rattle.words.specs.Sequences.{over}
+use Rattle.words.proofs.Booleans.{absurd-true}
 use Rattle.words.proofs.Buffers.{take-over, length-over, over-over}
 use Rattle.tables.specs.Tables.{Tables}
-use Rattle.plans.specs.Branches.{branchRight, binds}
-use Rattle.plans.specs.Endings.{Ending, rows, endingRight}
 use Rattle.plans.specs.Plans.{Plan, planOf}
 use Rattle.steps.specs.Steps.{State, after}
 use Rattle.steps.specs.Saved.{savedWords, stateWords}
-use Rattle.lists.specs.Gathering.{gathered, thresholdRight}
 use Rattle.lists.specs.Thresholds.{absent}
 use Rattle.turns.specs.declared.TurnEnding.{TurnEnding}
 use Rattle.turns.specs.declared.TurnEnding.the-variants as ending
-use Rattle.turns.specs.Turns.{TurnInput, TurnResult, turnOf}
+use Rattle.turns.specs.Turns.{isDone, TurnInput, TurnResult, turnOf}
 use Rattle.turns.proofs.Follows.{follows}
 use Rattle.turns.proofs.OnTheRun.{keeps-lengths}
-use Rattle.turn_runs.proofs.Growing.{Grows, grows}
-use Rattle.cuts.specs.Histories.{Event, turns, Phone, ServedTurn, servedIn, stepsIn, doneIn, isDone, turnInputOf, servedOf, afterServed, afterTurn}
+use Rattle.cuts.specs.Histories.{Event, turns, Phone, ServedTurn, servedIn, stepsIn, doneIn, turnInputOf, servedOf, afterServed, afterTurn}
 use Rattle.cuts.specs.Histories.{afterTaking, happens, history}
 use Rattle.cuts.specs.Premises.{Asked, Premises}
-use Rattle.cuts.specs.Uncut.{AsUncut, runList, runFits}
+use Rattle.cuts.specs.Uncut.{AsUncut, keptAfter, runFits}
 use Rattle.cuts.specs.Accepting.{Accepted, Passed}
-use Rattle.cuts.proofs.Accepting.{accepted-form}
-use Rattle.cuts.proofs.Chains.{steps-more, done-more, Piece}
+use Rattle.cuts.proofs.Chains.{steps-more, done-more}
 use Rattle.cuts.proofs.Turning.{Kept}
-use Rattle.cuts.proofs.Taking.{next-piece}
 use Rattle.cuts.proofs.AnyCut.{history-keeps, as-uncut}
 use Rattle.queries.specs.declared.Keeping.{Keeping}
 use Rattle.queries.specs.Stepping.{isServed, keeps, keptOf}
 use Rattle.queries.proofs.UnderWay.{UnderWay}
 use Rattle.queries.proofs.Taking.{is-served}
+use Rattle.queries.proofs.Lengths.{no-shorter}
 
 -- ---- one call more
 module _ (t : Tables) (plan : List ℕ) where
@@ -51,20 +45,6 @@ module _ (t : Tables) (plan : List ℕ) where
   unfolding history
   premises-more [] h e p a = (a, tt)
   premises-more (x ∷ es) h e p a = (p .0, premises-more es (happens t plan h x) e (p .1) a)
-
--- ---- more rows make no shorter list
-pub longer-by : (e : Ending) → Grows e [] → (bs cs : List Bindings) → length (gathered e [] bs) ≤ length (gathered e [] (bs ++ cs))
-longer-by e g bs [] = omega (arith, ap (λ l. length (gathered e [] l)) (append-nil bs))
-longer-by e g bs (c ∷ cs) =
-    omega (arith, g .longer bs c, longer-by e g (bs ++ (c ∷ [])) cs, ap (λ l. length (gathered e [] l)) (append-assoc bs (c ∷ []) cs))
-
--- the list of an accepted plan
-pub list-grows : (t : Tables) (plan : List ℕ) → Accepted t plan → Grows (planOf plan .ending) []
-unfolding thresholdRight
-list-grows t plan a =
-    let q = planOf plan in
-    grows (binds (q .branches)) (q .ending) [] (accepted-form t plan a .ending)
-    (and-right (all branchRight (q .branches)) (endingRight (binds (q .branches)) (q .ending)) (a .variables)) refl
 
 -- a served turn leaves what its result says
 served-after : (h : Phone) (quantum : ℕ) (r : TurnResult) (e : TurnEnding) → isServed e ≡ true → afterTurn h quantum r e ≡ afterServed h quantum r
@@ -180,9 +160,6 @@ module _ (keep : Keeping) (t : Tables) (plan : List ℕ) (a : Accepted t plan) (
         pub turned-keeps : Kept t q turned
         turned-keeps = subst (Kept t q) calls-reach (history-keeps t plan a calls first k calls-premises)
 
-        piece : Piece t q (stepsIn (h .taken)) x
-        piece = next-piece t plan a turned turned-keeps x [] one-waits
-
         -- the list of that turn is taken by one call more
         module _ (e : Event) (asked : Asked t plan turned e) (list : List ℕ) (taken : happens t plan turned e ≡ afterTaking turned x [] list) where
           abbrev now : Phone
@@ -197,15 +174,13 @@ module _ (keep : Keeping) (t : Tables) (plan : List ℕ) (a : Accepted t plan) (
           pub now-keeps : Kept t q now
           now-keeps = subst (Kept t q) more-reach (history-keeps t plan a (calls ++ (e ∷ [])) first k more-premises)
 
-          pub now-list : list ≡ runList (q .ending) (after t q (stepsIn (h .taken) + x .steps))
-          now-list = now-keeps .list ∙ ap (λ d. runList (q .ending) (after t q d)) (steps-more (h .taken) x)
+          pub now-list : list ≡ keptAfter t q (stepsIn (h .taken) + x .steps)
+          now-list = now-keeps .list ∙ ap (keptAfter t q) (steps-more (h .taken) x)
 
-          pub no-shorter : length (part (h .kept)) ≤ length (part list)
-          no-shorter =
-              let rows = after t q (stepsIn (h .taken)) .delivered in
-              let new : list ≡ gathered (q .ending) [] (rows ++ piece .rows) = now-list ∙ ap (gathered (q .ending) []) (piece .more) in
+          pub kept-shorter : length (part (h .kept)) ≤ length (part list)
+          kept-shorter =
               kept-longer (keeps keep (q .ending)) (h .kept) list
-              (omega (arith, ap length new, ap length (held-keeps .list), longer-by (q .ending) (list-grows t plan a) rows (piece .rows)))
+              (omega (arith, ap length now-list, ap length (held-keeps .list), no-shorter t plan a (stepsIn (h .taken)) (x .steps)))
 
           module _ (fits : runFits (q .ending) (after t q (stepsIn (h .taken) + x .steps)) ≡ true)
               (new : List ℕ) (words : ℕ) (whole : new ≡ over (part list) kept) (counted : words ≡ length (part list))
@@ -234,7 +209,7 @@ module _ (keep : Keeping) (t : Tables) (plan : List ℕ) (a : Accepted t plan) (
                     state-count = s .state .counted ∙ ap length (sym (s .state .front));
                     state-room = omega (arith, keeps-lengths i (is-served i served) .state, u .state-room);
                     fits = ap (λ d. runFits (q .ending) (after t q d)) (steps-more (h .taken) x) ∙ fits;
-                    list = whole ∙ over-over (part list) (part (h .kept)) before kept no-shorter (u .list);
+                    list = whole ∙ over-over (part list) (part (h .kept)) before kept kept-shorter (u .list);
                     words = counted;
                     room = omega (arith, kept-length, room);
                   },

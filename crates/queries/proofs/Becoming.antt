@@ -13,9 +13,9 @@ use Rattle.tables.specs.Tables.{Tables}
 use Rattle.plans.specs.Plans.{Plan, planOf}
 use Rattle.turns.specs.declared.TurnEnding.{TurnEnding}
 use Rattle.turns.specs.declared.TurnEnding.the-variants as ending
-use Rattle.turns.specs.Turns.{TurnInput, turnOf}
+use Rattle.turns.specs.Turns.{isDone, TurnInput, turnOf}
 use Rattle.merges.specs.Merging.{MergeResult}
-use Rattle.cuts.specs.Histories.{Phone, ServedTurn, stepsIn, isDone, servedOf}
+use Rattle.cuts.specs.Histories.{Phone, ServedTurn, stepsIn, servedOf}
 use Rattle.cuts.specs.Accepting.{Accepted}
 use Rattle.cuts.proofs.Turning.{Kept}
 use Rattle.queries.specs.declared.Keeping.{Keeping}

@@ -25,9 +25,9 @@ use Rattle.queries.specs.declared.Played.{Played}
 use Rattle.queries.specs.declared.Played.the-variants.{Finished, Unfinished, Stopped, Refused}
 use Rattle.queries.specs.Stepping.{keeps}
 use Rattle.queries.specs.Rounds.{Lent}
-use Rattle.queries.specs.Playing.{listAfter, keptAfter, Holds, InLimits, Turns, none-made, one-more, Finishes, Pauses}
+use Rattle.queries.specs.Playing.{listAfter, partAfter, Holds, InLimits, Turns, none-made, one-more, Finishes, Pauses}
 use Rattle.queries.specs.Playing.{Cause, output-short, quantum-wrong, list-left, Stops, Leaves, OpeningRefused, Plays}
-use Rattle.queries.proofs.Room.{rows-later, no-shorter}
+use Rattle.queries.proofs.Lengths.{rows-later, no-shorter}
 use Rattle.queries.proofs.Totals.{fits-first}
 use Rattle.queries.proofs.Once.{not-past, turn-once, turns-once, no-further, turns-grow}
 
@@ -74,7 +74,7 @@ module _ (keep : Keeping) (t : Tables) (plan : List ℕ) (a : Accepted t plan) (
       let long = no-shorter t plan a m (n - m) in
       go fits (omega (arith, long, ap (λ j. length (listAfter t plan j)) d, h .counted, ap length (all-kept n), h .room)) x c
     where
-      all-kept : (j : ℕ) → keptAfter keep t plan j ≡ listAfter t plan j
+      all-kept : (j : ℕ) → partAfter keep t plan j ≡ listAfter t plan j
       all-kept j = rw b
 
       go : runFits (q .ending) (after t q m) ≡ true → length (listAfter t plan m) ≤ length before
@@ -125,8 +125,8 @@ module _ (keep : Keeping) (t : Tables) (plan : List ℕ) (a : Accepted t plan) (
         → Holds keep t plan m before kept words → Holds keep t plan n before kept₁ words₁
         → (words ≡ words₁) × (kept ≡ kept₁)
     same-list m n e kept kept₁ words words₁ h k = (
-      h .counted ∙ ap (λ j. length (keptAfter keep t plan j)) e ∙ sym (k .counted),
-      h .whole ∙ ap (λ j. over (keptAfter keep t plan j) before) e ∙ sym (k .whole),
+      h .counted ∙ ap (λ j. length (partAfter keep t plan j)) e ∙ sym (k .counted),
+      h .whole ∙ ap (λ j. over (partAfter keep t plan j) before) e ∙ sym (k .whole),
     )
 
     finished-or-paused : (kept : List ℕ) (words : ℕ) → Finishes keep t plan quantum most room before kept words

@@ -3,6 +3,7 @@ pub mod Rounds
 pub mod Beside
 pub mod Refusing
 pub mod UnderWay
+pub mod Lengths
 pub mod Advancing
 pub mod Making
 pub mod Leaving

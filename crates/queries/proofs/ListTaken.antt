@@ -15,13 +15,13 @@ use Rattle.tables.specs.Tables.{Tables}
 use Rattle.plans.specs.Endings.{Ending, rows, top, group}
 use Rattle.plans.specs.Plans.{Plan, planOf}
 use Rattle.steps.specs.Steps.{after}
-use Rattle.turns.specs.Turns.{TurnInput, turnOf}
+use Rattle.turns.specs.Turns.{isDone, TurnInput, turnOf}
 use Rattle.merges.specs.Merging.{MergeInput, MergeResult, mergeOf}
 use Rattle.merges.proofs.Refusals as refusals
 use Rattle.merges.proofs.Writes.{merge-writes}
-use Rattle.cuts.specs.Histories.{merges, joins, Phone, ServedTurn, servedIn, stepsIn, doneIn, isDone, servedOf, mergeInputOf, afterServed, afterTaking}
+use Rattle.cuts.specs.Histories.{merges, joins, Phone, ServedTurn, servedIn, stepsIn, doneIn, servedOf, mergeInputOf, afterServed, afterTaking}
 use Rattle.cuts.specs.Histories.{afterMerge, afterMerging, afterJoin, afterJoining, happens}
-use Rattle.cuts.specs.Uncut.{runList, runFits, MergesLists, NotTaken, no-room}
+use Rattle.cuts.specs.Uncut.{keptAfter, runFits, MergesLists, NotTaken, no-room}
 use Rattle.cuts.specs.Accepting.{Accepted}
 use Rattle.cuts.proofs.Turning.{Kept}
 use Rattle.cuts.proofs.MergeRefusals as merging
@@ -123,7 +123,7 @@ module _ (keep : Keeping) (t : Tables) (plan : List ℕ) (a : Accepted t plan) (
             ap₂ (λ b d. cond b (cond (isRows d) (rowsTaken keep kept used (x .list)) (mergeOf j)) (leftAsIs kept used)) served e
 
         -- the rows of both are the uncut run's up to the end of the turn
-        run-length : length both ≡ length (runList (q .ending) (after t q (n + x .steps)))
+        run-length : length both ≡ length (keptAfter t q (n + x .steps))
         run-length =
             ap length (advancing.now-list keep t plan a first k before count state saved kept used u quantum output served joins tt both joins-made)
 

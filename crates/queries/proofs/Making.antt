@@ -2,7 +2,7 @@
 use Prim.Native.Nat.{ℕ, _+_, _-_, _≤_, _<_}
 use native.Mathlib.Omega.{arith}
 use native.Mathlib.Decide.{decLt}
-use mathlib.Core.Path.{_≡_, refl, sym, _∙_, ap}
+use mathlib.Core.Path.{_≡_, refl, sym, _∙_, ap, ap₂}
 use mathlib.Core.Option.{none, some}
 use mathlib.Core.List.{[], _∷_, _++_}
 use lib.ListN.{length, drop}
@@ -17,10 +17,12 @@ use Rattle.steps.specs.Saved.{stateWords, stateIn}
 use Rattle.steps.proofs.Runs.{from-add, after-state, after-rows, done-stays, first-delivers}
 use Rattle.steps.proofs.AcceptedStates.{loads-back}
 use Rattle.lists.specs.Gathering.{gathered}
+use Rattle.lists.specs.Closing.{listAt}
 use Rattle.lists.proofs.Room.{no-space-longer}
+use Rattle.lists.proofs.Closing.{at-longer}
 use Rattle.turns.specs.declared.TurnEnding.{TurnEnding}
 use Rattle.turns.specs.declared.TurnEnding.the-variants.{Done, Spent, Full, Refused}
-use Rattle.turns.specs.Turns.{TurnInput, givenState, givenPlan, turnOf}
+use Rattle.turns.specs.Turns.{isOver, TurnInput, givenState, givenPlan, turnOf}
 use Rattle.turns.specs.Refusals.{Served}
 use Rattle.turns.specs.Follows.{givenRun, turnRun}
 use Rattle.turns.proofs.Follows.{follows}
@@ -55,19 +57,30 @@ module _ (i : TurnInput) (a : Accepted (i .tables) (i .plan)) (n : ℕ) (s : Sta
   start : stateIn (givenState i) ≡ s
   start = ap stateIn words ∙ loads-back t (i .plan) q (a .tables) (a .read) n s passes
 
-  -- the rows from there on are those of the run from the given state
-  list-between : (d : ℕ) → listBetween t (i .plan) n (n + d) ≡ gathered (q .ending) [] (givenRun i d .delivered)
-  list-between d =
-      ap (gathered (q .ending) [])
-      (ap (drop (length (after t q n .delivered))) (after-rows t q n d s passes)
+  state-is : (d : ℕ) → after t q (n + d) .state ≡ givenRun i d .state
+  state-is d = after-state t q n d s passes ∙ sym (ap (λ u. runFrom t q u d .state) start)
+
+  rows-are : (d : ℕ) → drop (length (after t q n .delivered)) (after t q (n + d) .delivered) ≡ givenRun i d .delivered
+  rows-are d =
+      ap (drop (length (after t q n .delivered))) (after-rows t q n d s passes)
       ∙ drop-append-seam (after t q n .delivered) (runFrom t q s d .delivered)
-      ∙ sym (ap (λ u. runFrom t q u d .delivered) start))
+      ∙ sym (ap (λ u. runFrom t q u d .delivered) start)
+
+  -- the list from there on is that of the run from the given state
+  list-between : (d : ℕ) → listBetween t (i .plan) n (n + d) ≡ listAt (q .ending) [] (isOver (givenRun i d .state)) (givenRun i d .delivered)
+  list-between d = ap₂ (λ o bs. listAt (q .ending) [] (isOver o) bs) (state-is d) (rows-are d)
+
+  -- and the one that the turn leaves in its output
+  pub list-made : outputList (turnOf i) ≡ listBetween t (i .plan) n (n + m)
+  list-made =
+      follows i serve .output .front
+      ∙ ap (λ th. listAt (q .ending) th (isOver (turnRun i .state)) (turnRun i .delivered)) none-sent
+      ∙ sym (list-between m)
 
   fits : length (listBetween t (i .plan) n (n + m)) ≤ length (i .output)
   fits =
       let f = follows i serve in
-      let same = ap (λ th. length (gathered (q .ending) th (turnRun i .delivered))) none-sent in
-      omega (arith, f .room, f .output .counted, same, ap length (list-between m))
+      omega (arith, f .room, f .output .counted, ap length (sym (f .output .front) ∙ list-made))
 
   no-more : IsFull i → length (i .output) < length (listBetween t (i .plan) n (n + m + 1))
   no-more f =
@@ -76,10 +89,13 @@ module _ (i : TurnInput) (a : Accepted (i .tables) (i .plan)) (n : ℕ) (s : Sta
       let long = no-space-longer (q .ending) [] (length (i .output)) (givenRun i m .delivered) (z .row) (z .no-space) in
       let far : n + m + 1 ≡ n + (m + 1) = omega arith in
       let list = ap (listBetween t (i .plan) n) far ∙ list-between (m + 1) in
-      omega (arith, long, ap (λ l. length (gathered (q .ending) [] l)) rows, ap length list)
-
-  state-is : (d : ℕ) → after t q (n + d) .state ≡ givenRun i d .state
-  state-is d = after-state t q n d s passes ∙ sym (ap (λ u. runFrom t q u d .state) start)
+      omega (
+        arith,
+        long,
+        ap (λ l. length (gathered (q .ending) [] l)) rows,
+        at-longer (q .ending) [] (isOver (givenRun i (m + 1) .state)) (givenRun i (m + 1) .delivered),
+        ap length list,
+      )
 
   -- a run that is over with the turn was not over before
   ends-there : turnRun i .state ≡ none → EndsAt t q (n + m)
@@ -119,10 +135,3 @@ module _ (i : TurnInput) (a : Accepted (i .tables) (i .plan)) (n : ℕ) (s : Sta
   pub ending-made : turn-made .ending ≡ turnOf i .answer .ending
   unfolding turn-made
   ending-made = refl
-
-  -- and its list is in the output
-  pub list-made : outputList (turnOf i) ≡ listBetween t (i .plan) n (n + m)
-  list-made =
-      follows i serve .output .front
-      ∙ ap (λ th. gathered (q .ending) th (turnRun i .delivered)) none-sent
-      ∙ sym (list-between m)

@@ -4,20 +4,21 @@ use Prim.Native.Nat.{ℕ, _+_, _-_, _≤_, _<_}
 use native.Mathlib.Omega.{arith}
 use native.Mathlib.Decide.{decLt}
 use mathlib.Core.Path.{_≡_, refl, sym, _∙_, ap, subst}
+use mathlib.Core.Bool.{false}
+use mathlib.Core.Option.{Option, none, some}
 use mathlib.Core.List.{List, []}
 use lib.ListN.{length, drop, length-append}
-use lib.Seq.{drop-append-le}
 use Rattle.tables.specs.Tables.{Tables}
 use Rattle.plans.specs.Plans.{Plan, planOf}
-use Rattle.steps.specs.Steps.{Run, after}
+use Rattle.steps.specs.Steps.{State, Run, after}
 use Rattle.steps.proofs.Runs.{done-later}
-use Rattle.lists.specs.Gathering.{gathered}
+use Rattle.lists.specs.Closing.{listAt}
 use Rattle.turns.specs.declared.TurnEnding.{TurnEnding}
+use Rattle.turns.specs.Turns.{isOver}
 use Rattle.cuts.specs.Uncut.{EndsAt}
 use Rattle.cuts.specs.Accepting.{Accepted}
 use Rattle.queries.specs.Playing.{listBetween, TurnEnds, spent, full, done, Turn, Turns, none-made, one-more}
-use Rattle.queries.proofs.Advancing.{longer-by, list-grows}
-use Rattle.queries.proofs.Room.{rows-later}
+use Rattle.queries.proofs.Lengths.{rows-later, list-later}
 
 module _ (t : Tables) (plan : List ℕ) (a : Accepted t plan) where
   abbrev q : Plan
@@ -26,31 +27,37 @@ module _ (t : Tables) (plan : List ℕ) (a : Accepted t plan) where
   -- more steps make no shorter list
   between-grows : (from m n : ℕ) → from ≤ m → length (listBetween t plan from m) ≤ length (listBetween t plan from (m + n))
   between-grows from m n l =
-      let k = length (after t q from .delivered) in
-      let rows = after t q m .delivered in
       let first = rows-later t plan a from (m - from) in
-      let more = rows-later t plan a m n in
       let d : from + (m - from) ≡ m = omega arith in
       let f = ap length (first .1) ∙ length-append (after t q from .delivered) (first .0) in
-      let long : k ≤ length rows = omega (arith, ap (λ j. length (after t q j .delivered)) d, f) in
-      let e = ap (λ rs. gathered (q .ending) [] (drop k rs)) (more .1) ∙ ap (gathered (q .ending) []) (drop-append-le k rows (more .0) long) in
-      omega (arith, ap length e, longer-by (q .ending) (list-grows t plan a) (drop k rows) (more .0))
+      list-later t plan a (length (after t q from .delivered)) m n (omega (arith, ap (λ j. length (after t q j .delivered)) d, f))
 
   module _ (quantum room : ℕ) where
-    -- no turn goes past the end of the run
-    pub not-past : (m from n : ℕ) → EndsAt t q m → m < n → Turn t plan quantum room from n → ⊥
-    not-past m from n e l y = go (y .ending) (y .ends)
+    -- no turn goes on where the run is over
+    past-over : (m from n : ℕ) → after t q m .state ≡ none → m < n → Turn t plan quantum room from n → ⊥
+    past-over m from n e l y = go (y .ending) (y .ends)
       where
         stays : (j : ℕ) → m ≤ j → after t q j ≡ after t q m
-        stays j g = done-later t q m j g (e .over)
+        stays j g = done-later t q m j g e
 
         go : (k : TurnEnding) → TurnEnds t plan quantum room from n k → ⊥
-        go k (spent g f) = f (ap (λ (r : Run). r .state) (stays n (omega arith)) ∙ e .over)
+        go k (spent g f) = f (ap (λ (r : Run). r .state) (stays n (omega arith)) ∙ e)
         go k (full g f) =
             let j = length (after t q from .delivered) in
             let same = stays (n + 1) (omega arith) ∙ sym (stays n (omega arith)) in
-            omega (arith, f, y .fits, ap (λ (r : Run). length (gathered (q .ending) [] (drop j (r .delivered)))) same)
-        go k (done g) = g .not-before m l (e .over)
+            omega (arith, f, y .fits, ap (λ (r : Run). length (listAt (q .ending) [] (isOver (r .state)) (drop j (r .delivered)))) same)
+        go k (done g) = g .not-before m l e
+
+    pub not-past : (m from n : ℕ) → EndsAt t q m → m < n → Turn t plan quantum room from n → ⊥
+    not-past m from n e l y = past-over m from n (e .over) l y
+
+    -- so it goes on where a turn begins
+    pub turn-going : (from to : ℕ) → Turn t plan quantum room from to → isOver (after t q from .state) ≡ false
+    turn-going from to y = go (after t q from .state) refl
+      where
+        go : (o : Option State) → after t q from .state ≡ o → isOver (after t q from .state) ≡ false
+        go none e = absurd (past-over from from to e (y .further) y)
+        go (some s) e = ap isOver e
 
     -- and none ends before another from the same place
     not-sooner : (from m n : ℕ) → Turn t plan quantum room from m → Turn t plan quantum room from n → m < n → ⊥

@@ -21,7 +21,7 @@ use Rattle.turns.specs.declared.TurnEnding.the-variants.{Refused}
 use Rattle.turns.specs.Turns.{TurnInput, givenState, givenPlan, ownTests, turnTests, mostSteps, turnOf}
 use Rattle.turns.specs.Refusals.{Served}
 use Rattle.turns.proofs.Refusals.{turn-refusals}
-use Rattle.turns.proofs.Progress.{turn-limits}
+use Rattle.turns.proofs.Limits.{turn-limits}
 use Rattle.cuts.specs.Uncut.{totals-pass, no-room}
 use Rattle.cuts.specs.Accepting.{Accepted, Passed}
 use Rattle.cuts.proofs.States.{accepted-when-passed}

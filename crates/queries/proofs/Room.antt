@@ -2,48 +2,36 @@
 use Prim.Native.Nat.{ℕ, _+_, _-_, _≤_}
 use native.Mathlib.Omega.{arith}
 use native.Mathlib.Decide.{decLt}
-use mathlib.Core.Path.{_≡_, refl, ap}
-use mathlib.Core.List.{List, [], _++_}
+use mathlib.Core.Path.{_≡_, ap}
+use mathlib.Core.List.{List}
 use lib.ListN.{length}
-use Rattle.words.specs.Bindings.{Bindings}
 use Rattle.tables.specs.Tables.{Tables}
 use Rattle.plans.specs.Plans.{Plan, planOf}
-use Rattle.steps.specs.Steps.{after}
 use Rattle.steps.proofs.Runs as runs
-use Rattle.lists.specs.Gathering.{gathered}
 use Rattle.cuts.specs.Uncut.{EndsAt, runList, totals-pass, no-room}
 use Rattle.cuts.specs.Accepting.{Accepted}
-use Rattle.cuts.proofs.Accepting.{opening-accepts}
+use Rattle.cuts.proofs.Accepting.{opening-accepts, accepted-form}
+use Rattle.cuts.proofs.Chains.{kept-some}
+use Rattle.cuts.proofs.AnyCut.{end-later}
 use Rattle.turns.specs.Opening.{Opens}
 use Rattle.queries.specs.declared.Keeping.{Keeping}
 use Rattle.queries.specs.Playing.{listAfter, Cause, output-short, quantum-wrong, list-left, Stops}
-use Rattle.queries.proofs.Advancing.{longer-by, list-grows}
+use Rattle.queries.proofs.Lengths.{no-shorter}
 
 module _ (t : Tables) (plan : List ℕ) (a : Accepted t plan) where
   abbrev q : Plan
   q = planOf plan
 
-  -- more steps only add rows
-  pub rows-later : (m n : ℕ) → (cs : List Bindings) × (after t q (m + n) .delivered ≡ after t q m .delivered ++ cs)
-  rows-later = runs.rows-later t q
-
-  -- and make no shorter list
-  pub no-shorter : (m n : ℕ) → length (listAfter t plan m) ≤ length (listAfter t plan (m + n))
-  no-shorter m n =
-      let more = rows-later m n in
-      omega (
-        arith,
-        ap (λ l. length (gathered (q .ending) [] l)) (more .1),
-        longer-by (q .ending) (list-grows t plan a) (after t q m .delivered) (more .0),
-      )
-
-  -- and none is longer than the whole one
+  -- no list is longer than the whole one
   pub whole-longest : (n : ℕ) → EndsAt t q n → (m : ℕ) → length (listAfter t plan m) ≤ length (listAfter t plan n)
   whole-longest n e m =
       elim (decLt n m) [
-        | yes f ↦ omega (arith, ap (λ r. length (runList (q .ending) r)) (runs.done-later t q n m (omega arith) (e .over)))
+        | yes f ↦ let same = runs.done-later t q n m (omega arith) (e .over) in
+            let first = kept-some t q (accepted-form t plan a .ending) n (end-later t plan a n e) in
+            let later = kept-some t q (accepted-form t plan a .ending) m (omega arith) in
+            omega (arith, ap length first, ap length later, ap (λ r. length (runList (q .ending) r)) same)
         | no f ↦ let d : n ≡ m + (n - m) = omega arith in
-            omega (arith, no-shorter m (n - m), ap (λ k. length (listAfter t plan k)) d)
+            omega (arith, no-shorter t plan a m (n - m), ap (λ k. length (listAfter t plan k)) d)
       ]
 
 -- a play that was opened, over a kept buffer with room for the whole list of the uncut run, is stopped by no 14

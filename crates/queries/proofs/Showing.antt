@@ -1,6 +1,6 @@
 -- What is shown of a query: each turn is the uncut run's, its lists taken one after another make the run's list, and what is kept at the end is
 -- whole.
-use Prim.Native.Nat.{ℕ, _+_, _-_, _≤_}
+use Prim.Native.Nat.{ℕ, _+_, _-_}
 use native.Mathlib.Omega.{arith}
 use mathlib.Core.Path.{_≡_, refl, sym, _∙_, ap, ap₂}
 use mathlib.Core.Bool.{true}
@@ -13,17 +13,21 @@ use Rattle.tables.specs.Tables.{Tables}
 use Rattle.plans.specs.Plans.{planOf}
 use Rattle.steps.specs.Steps.{State, after}
 use Rattle.steps.specs.Saved.{savedWords}
-use Rattle.lists.specs.Gathering.{gathered, takenInto}
+use Rattle.lists.specs.Gathering.{takenInto}
+use Rattle.lists.specs.Closing.{listAt}
 use Rattle.lists.proofs.TopLists.{fine-none}
-use Rattle.turns.specs.Turns.{TurnInput, givenPlan, turnOf}
+use Rattle.lists.proofs.Closing.{at-adds}
+use Rattle.turns.specs.Turns.{isOver, TurnInput, givenPlan, turnOf}
 use Rattle.cuts.specs.Accepting.{Accepted}
-use Rattle.cuts.proofs.Accepting.{accepted-gathering}
+use Rattle.cuts.proofs.Accepting.{accepted-form}
+use Rattle.cuts.proofs.Chains.{kept-going, kept-some}
 use Rattle.queries.specs.declared.Keeping.{Keeping}
 use Rattle.queries.specs.Stepping.{isServed, outputList}
-use Rattle.queries.specs.Playing.{listAfter, keptAfter, listBetween, StandsAfter, Finishes, Shows, IsWhole}
+use Rattle.queries.specs.Playing.{listAfter, partAfter, listBetween, Turn, StandsAfter, Finishes, Shows, IsWhole}
 use Rattle.queries.proofs.Taking.{is-served}
 use Rattle.queries.proofs.Making.{turn-made, ending-made, list-made}
-use Rattle.queries.proofs.Room.{rows-later}
+use Rattle.queries.proofs.Lengths.{rows-later}
+use Rattle.queries.proofs.Once.{turn-going}
 
 some-state : (o : Option State) → ¬ (o ≡ none) → (s : State) × (o ≡ some s)
 some-state none f = absurd (f refl)
@@ -51,18 +55,22 @@ shows i a none-sent count s served =
     }
 
 -- the list up to a turn and the list of the turn make the list up to its end: rows joined, any other merged
-pub shown-adds : (t : Tables) (plan : List ℕ) → Accepted t plan → (from to : ℕ) → from ≤ to
+pub shown-adds : (t : Tables) (plan : List ℕ) → Accepted t plan → (quantum room from to : ℕ) → Turn t plan quantum room from to
     → takenInto (planOf plan .ending) (listAfter t plan from) (listBetween t plan from to) ≡ listAfter t plan to
-shown-adds t plan a from to l =
-    let e = planOf plan .ending in
-    let rows = after t (planOf plan) from .delivered in
-    let d : from + (to - from) ≡ to = omega arith in
+shown-adds t plan a quantum room from to x =
+    let q = planOf plan in
+    let e = q .ending in
+    let form = accepted-form t plan a .ending in
+    let rows = after t q from .delivered in
+    let over = isOver (after t q to .state) in
+    let d : from + (to - from) ≡ to = omega (arith, x .further) in
     let more = rows-later t plan a from (to - from) in
-    let all : after t (planOf plan) to .delivered ≡ rows ++ more .0 = ap (λ n. after t (planOf plan) n .delivered) (sym d) ∙ more .1 in
+    let all : after t q to .delivered ≡ rows ++ more .0 = ap (λ n. after t q n .delivered) (sym d) ∙ more .1 in
     let new = ap (drop (length rows)) all ∙ drop-append-seam rows (more .0) in
-    ap (λ bs. takenInto e (gathered e [] rows) (gathered e [] bs)) new
-    ∙ accepted-gathering t plan a .adds [] rows (more .0) (fine-none e rows)
-    ∙ ap (gathered e []) (sym all)
+    ap₂ (λ l bs. takenInto e l (listAt e [] over bs)) (kept-going t q form from (turn-going t plan a quantum room from to x)) new
+    ∙ at-adds e form [] over rows (more .0) (fine-none e rows)
+    ∙ ap (listAt e [] over) (sym all)
+    ∙ sym (kept-some t q form to (omega (arith, x .further)))
 
 -- what a finished play keeps
 pub kept-at-end : (keep : Keeping) (t : Tables) (plan : List ℕ) (quantum most room : ℕ) (before kept : List ℕ) (words : ℕ)
@@ -71,5 +79,5 @@ kept-at-end keep t plan quantum most room before kept words f =
     record {
       steps = f .steps;
       ends = f .ends;
-      listed = ap₂ take (f .list .counted) (f .list .whole) ∙ take-over (keptAfter keep t plan (f .steps)) before;
+      listed = ap₂ take (f .list .counted) (f .list .whole) ∙ take-over (partAfter keep t plan (f .steps)) before;
     }

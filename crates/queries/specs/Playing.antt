@@ -13,39 +13,41 @@ use Rattle.tables.specs.Tables.{Tables}
 use Rattle.plans.specs.Plans.{planOf}
 use Rattle.steps.specs.Steps.{after}
 use Rattle.steps.specs.Saved.{savedWords}
-use Rattle.lists.specs.Gathering.{gathered, leastOutput}
+use Rattle.lists.specs.Gathering.{leastOutput}
+use Rattle.lists.specs.Closing.{listAt}
 use Rattle.turns.specs.declared.TurnEnding.{TurnEnding}
 use Rattle.turns.specs.declared.TurnEnding.the-variants as ending
 use Rattle.turns.specs.declared.Turned.{Turned}
 use Rattle.turns.specs.Opening.{openOf, Opens}
-use Rattle.turns.specs.Turns.{mostSteps}
-use Rattle.cuts.specs.Uncut.{EndsAt, runList, runFits, NotTaken}
+use Rattle.turns.specs.Turns.{isOver, mostSteps}
+use Rattle.cuts.specs.Uncut.{EndsAt, keptAfter, runFits, NotTaken}
 use Rattle.queries.specs.declared.Keeping.{Keeping}
 use Rattle.queries.specs.declared.Played.{Played}
 use Rattle.queries.specs.declared.Played.the-variants.{Finished, Unfinished, Stopped, Refused}
 use Rattle.queries.specs.Stepping.{keeps, keptOf}
 use Rattle.queries.specs.Rounds.{Lent, playOf}
 
--- the rows, best-of list or groups of the uncut run after so many steps
+-- the rows, best-of list or groups of the uncut run, whose lists are taken up to so many steps
 abbrev pub listAfter : Tables → List ℕ → ℕ → List ℕ
-listAfter t plan steps = runList (planOf plan .ending) (after t (planOf plan) steps)
+listAfter t plan steps = keptAfter t (planOf plan) steps
 
--- what is kept of that list
-abbrev pub keptAfter : Keeping → Tables → List ℕ → ℕ → List ℕ
-keptAfter keep t plan steps = keptOf keep (planOf plan .ending) (listAfter t plan steps)
+-- the part of that list that is to be kept
+abbrev pub partAfter : Keeping → Tables → List ℕ → ℕ → List ℕ
+partAfter keep t plan steps = keptOf keep (planOf plan .ending) (listAfter t plan steps)
 
 -- a buffer holds what is kept over what it held before: no total of the list passes 2^64 - 1, and so many words are kept
 pub record Holds (keep : Keeping) (t : Tables) (plan : List ℕ) (steps : ℕ) (before now : List ℕ) (words : ℕ) : Type 0 where
   pub fits : runFits (planOf plan .ending) (after t (planOf plan) steps) ≡ true
-  pub whole : now ≡ over (keptAfter keep t plan steps) before
-  pub counted : words ≡ length (keptAfter keep t plan steps)
+  pub whole : now ≡ over (partAfter keep t plan steps) before
+  pub counted : words ≡ length (partAfter keep t plan steps)
   pub room : words ≤ length before
 
 -- ---- the turns
--- the list of the rows that the uncut run delivers between two numbers of steps
+-- the list of the rows that the uncut run delivers between two numbers of steps, closed where it is over with them
 abbrev pub listBetween : Tables → List ℕ → ℕ → ℕ → List ℕ
 listBetween t plan from to =
-    gathered (planOf plan .ending) [] (drop (length (after t (planOf plan) from .delivered)) (after t (planOf plan) to .delivered))
+    listAt (planOf plan .ending) [] (isOver (after t (planOf plan) to .state))
+    (drop (length (after t (planOf plan) from .delivered)) (after t (planOf plan) to .delivered))
 
 -- tests 7 and 8 of a turn: its output has the words that its ending needs, and its quantum is in its range
 pub record InLimits (plan : List ℕ) (quantum room : ℕ) : Type 0 where
@@ -160,7 +162,7 @@ pub record Shows (t : Tables) (plan : List ℕ) (quantum room number : ℕ) (tur
 pub record IsWhole (keep : Keeping) (t : Tables) (plan list : List ℕ) : Type 0 where
   pub steps : ℕ
   pub ends : EndsAt t (planOf plan) steps
-  pub listed : list ≡ keptAfter keep t plan steps
+  pub listed : list ≡ partAfter keep t plan steps
 
 -- ---- the start
 -- the state buffer is as a served opening left it

@@ -9,7 +9,10 @@ use Rattle.tables.specs.Tables.{Tables}
 use Rattle.plans.specs.Endings.{Ending, group}
 use Rattle.plans.specs.Plans.{planOf}
 use Rattle.steps.specs.Steps.{after}
+use Rattle.lists.specs.Gathering.{gathered}
+use Rattle.lists.specs.Closing.{closed, listAt}
 use Rattle.turns.specs.Opening.{openOf, Opens}
+use Rattle.turns.specs.Turns.{isOver}
 use Rattle.cuts.specs.Histories.{Event, Phone, servedIn, stepsIn, doneIn, history, fresh}
 use Rattle.cuts.specs.Premises.{Premises}
 use Rattle.cuts.specs.TurnRows.{deliveredIn}
@@ -30,7 +33,10 @@ use Rattle.sparql_finished.specs.Finished.{SparqlAnswer, FinishedBy}
 pub run-answers : (t : Tables) (plan : List ℕ) → Accepted t plan → (steps : ℕ) → EndsAt t (planOf plan) steps
     → runFits (planOf plan .ending) (after t (planOf plan) steps) ≡ true
     → (list : List ℕ) → list ≡ runList (planOf plan .ending) (after t (planOf plan) steps) → SparqlAnswer t plan steps list
-run-answers t plan a steps ends fits list e =
+run-answers t plan a steps ends fits list l =
+    let q = planOf plan in
+    let rows = after t q steps .delivered in
+    let e : list ≡ closed (q .ending) (gathered (q .ending) [] rows) = l ∙ ap (λ o. listAt (q .ending) [] (isOver o) rows) (ends .over) in
     record {
       ends = ends;
       run = solutions t plan (planOf plan) (a .tables) (a .read) (a .variables) steps (ends .over);

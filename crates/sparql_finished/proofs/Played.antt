@@ -6,7 +6,10 @@ use mathlib.Core.List.{List}
 use lib.ListN.{take, drop}
 use Rattle.words.proofs.Buffers.{take-over, drop-over}
 use Rattle.tables.specs.Tables.{Tables}
-use Rattle.cuts.proofs.Accepting.{opening-accepts}
+use Rattle.plans.specs.Plans.{planOf}
+use Rattle.cuts.proofs.Accepting.{opening-accepts, accepted-form}
+use Rattle.cuts.proofs.Chains.{kept-some}
+use Rattle.cuts.proofs.AnyCut.{end-later}
 use Rattle.queries.specs.declared.Keeping.the-variants.{All}
 use Rattle.queries.specs.declared.Played.the-variants as played
 use Rattle.queries.specs.Rounds.{Lent, playOf}
@@ -20,11 +23,14 @@ by-plays : (t : Tables) (plan : List ℕ) (quantum most : ℕ) (before left : Le
 by-plays t plan quantum most before left words p =
     let n = p .1 .steps in
     let l = p .1 .list in
+    let a = opening-accepts t plan (before .state) (p .0) in
     record {
       steps = n;
       front =
-          run-answers t plan (opening-accepts t plan (before .state) (p .0)) n (p .1 .ends) (l .fits) (take words (left .kept))
-          (ap₂ take (l .counted) (l .whole) ∙ take-over (listAfter t plan n) (before .kept));
+          run-answers t plan a n (p .1 .ends) (l .fits) (take words (left .kept))
+          (ap₂ take (l .counted) (l .whole)
+          ∙ take-over (listAfter t plan n) (before .kept)
+          ∙ kept-some t (planOf plan) (accepted-form t plan a .ending) n (end-later t plan a n (p .1 .ends)));
       rest =
           ap₂ drop (l .counted) (l .whole)
           ∙ drop-over (listAfter t plan n) (before .kept)

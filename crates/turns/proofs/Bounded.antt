@@ -16,7 +16,7 @@ use Rattle.steps.specs.Machines.{Step, moves, delivers, ends, Machine, Run, ste
 use Rattle.steps.proofs.MachineRuns.{from-next}
 use Rattle.turns.specs.declared.TurnEnding.{TurnEnding}
 use Rattle.turns.specs.declared.TurnEnding.the-variants.{Done, Spent, Full, Refused}
-use Rattle.turns.specs.Bounded.{Progress, going, stopped, stepsOf, leftOf, rowsOf, tried, tryStep, progress}
+use Rattle.turns.specs.Bounded.{Progress, going, stopped, endingOf, stepsOf, leftOf, rowsOf, isDone, isOver, tried, tryStep, progress}
 
 module _ {S R : Type 0} (f : Machine S R) (fits : List R → Bool) where
   -- the next step would deliver a row that does not fit with those so far
@@ -50,6 +50,14 @@ module _ {S R : Type 0} (f : Machine S R) (fits : List R → Bool) where
     -- the rows fit
     pub fitted : fits [] ≡ true → fits (rowsOf p) ≡ true
     pub how : How k p
+
+  -- it is done exactly where no state is left
+  pub done-over : (k : ℕ) (p : Progress S R) → How k p → isDone (endingOf p) ≡ isOver (leftOf p)
+  done-over k (going n u bs) h = refl
+  done-over k (stopped Done n o bs) h = sym (ap isOver (h .0))
+  done-over k (stopped Full n o bs) h = sym (ap isOver (h .1 .here))
+  done-over k (stopped Spent n o bs) h = absurd h
+  done-over k (stopped (Refused x) n o bs) h = absurd h
 
   -- ---- after each attempt
   module _ (s : S) where

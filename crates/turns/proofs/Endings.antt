@@ -4,23 +4,24 @@ use native.Mathlib.Omega.{arith}
 use mathlib.Core.Path.{_≡_, refl, sym, _∙_, ap, subst, subst⁻¹}
 use mathlib.Core.Logic.{_↔_}
 use mathlib.Core.Option.{Option, none, some}
-use mathlib.Core.List.{[], _∷_, _++_}
+use mathlib.Core.List.{List, [], _∷_, _++_}
 use lib.ListN.{length}
 use Rattle.words.specs.Bindings.{Bindings}
 use Rattle.words.proofs.Testing.{none-some, some-injective}
 use Rattle.steps.specs.Steps.{State, delivers, step, Run}
 use Rattle.steps.specs.Saved.{positionWords, savedWords, stateIn}
+use Rattle.lists.specs.Gathering.{gathered}
 use Rattle.lists.specs.Space.{NoSpaceFor}
 use Rattle.lists.proofs.Room.{no-space-longer, longer-no-space}
 use Rattle.turns.specs.declared.TurnEnding.{TurnEnding}
 use Rattle.turns.specs.declared.TurnEnding.the-variants.{Done, Spent, Full, Refused}
 use Rattle.turns.specs.Turns.{Progress, going, stopped, endingOf, stepsOf, leftOf, rowsOf, TurnInput, givenState, givenPlan, served, turnOf}
 use Rattle.turns.specs.Refusals.{Served}
-use Rattle.turns.specs.Follows.{givenRun, turnRun, listOf}
+use Rattle.turns.specs.Follows.{givenRun, turnRun}
 use Rattle.turns.specs.Endings.{NoSpace, IsDone, IsSpent, IsFull, ExactlyOne, first, second, third, Endings}
 use Rattle.turns.proofs.Stepping.{GoesOn, AfterAttempts, roomFor, has-room, lacks-room, served-attempts}
-use Rattle.turns.proofs.Follows.{follows, served-steps, served-ending, served-run}
-use Rattle.turns.proofs.Progress.{turn-limits}
+use Rattle.turns.proofs.Follows.{follows, served-steps, served-ending, served-run, rows-fit}
+use Rattle.turns.proofs.Limits.{turn-limits}
 
 -- ---- no two at once
 done-spent : (i : TurnInput) → IsDone i → IsSpent i → ⊥
@@ -51,9 +52,9 @@ data Ended (i : TurnInput) : Type 0 where
   full : turnOf i .answer .ending ≡ Full → IsFull i → Ended i
 
 module _ (i : TurnInput) (serve : Served i) where
-  -- the rows of the turn's steps have room
-  rows-fit : length (listOf i (turnRun i .delivered)) ≤ length (i .output)
-  rows-fit = let f = follows i serve in omega (arith, f .room, f .output .counted)
+  -- the list of some rows, before done
+  abbrev rowsList : List Bindings → List ℕ
+  rowsList bs = gathered (givenPlan i .ending) (i .threshold) bs
 
   ended-as : (p : Progress) → AfterAttempts (i .tables) (givenPlan i) (roomFor i) (stateIn (givenState i)) (i .quantum) p
       → turnOf i .answer .steps ≡ stepsOf p → turnOf i .answer .ending ≡ endingOf p
@@ -70,8 +71,8 @@ module _ (i : TurnInput) (serve : Served i) where
       })
   ended-as (stopped Full n o bs) h s e r =
       let b = h .how .1 in
-      let longer : length (i .output) < length (listOf i (turnRun i .delivered ++ (b .row ∷ []))) =
-      subst⁻¹ (λ (x : Run). length (i .output) < length (listOf i (x .delivered ++ (b .row ∷ [])))) r
+      let longer : length (i .output) < length (rowsList (turnRun i .delivered ++ (b .row ∷ []))) =
+      subst⁻¹ (λ (x : Run). length (i .output) < length (rowsList (x .delivered ++ (b .row ∷ [])))) r
       (lacks-room i (bs ++ (b .row ∷ [])) (b .unfit)) in
       full e
       (record {
@@ -83,7 +84,7 @@ module _ (i : TurnInput) (serve : Served i) where
           here = ap (λ (x : Run). x .state) r ∙ b .here;
           would-deliver = b .would-deliver;
           no-space = longer-no-space (givenPlan i .ending) (i .threshold) (length (i .output)) (turnRun i .delivered) (b .row)
-              (turn-limits i serve .output-room) rows-fit longer;
+              (turn-limits i serve .output-room) (rows-fit i serve) longer;
         };
       })
   ended-as (stopped Spent n o bs) h s e r = absurd (h .how)

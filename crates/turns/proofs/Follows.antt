@@ -13,14 +13,18 @@ use Rattle.tables.specs.Tables.{Tables}
 use Rattle.plans.specs.Plans.{planOf}
 use Rattle.steps.specs.Steps.{Run, startOf, after}
 use Rattle.steps.specs.Saved.{positionWords, upperWords, leastStateWords, stateWords, savedWords}
+use Rattle.lists.specs.Gathering.{gathered}
+use Rattle.lists.specs.Closing.{listAt}
 use Rattle.lists.proofs.OneRow.{gathered-nil}
+use Rattle.lists.proofs.Closing.{at-room}
 use Rattle.turns.specs.Opening.{Opened, openOf, Opens}
 use Rattle.turns.specs.Turns.{Progress, going, stopped, endingOf, stepsOf, leftOf, rowsOf, TurnInput, TurnResult, resultOf, givenPlan}
-use Rattle.turns.specs.Turns.{turnList, finished, served, turnOf}
+use Rattle.turns.specs.Turns.{isOver, turnList, finished, served, turnOf}
 use Rattle.turns.specs.Refusals.{Served}
 use Rattle.turns.specs.Follows.{givenRun, turnRun, listOf, Follows, StartsRun}
-use Rattle.turns.proofs.Stepping.{has-room, served-attempts}
+use Rattle.turns.proofs.Stepping.{has-room, served-attempts, done-over}
 use Rattle.turns.proofs.Refusals.{open-passed, opened-so, turned-so}
+use Rattle.turns.proofs.Limits.{turn-limits}
 
 -- the result of some progress, by its parts
 pub by-parts : (i : TurnInput) (p : Progress)
@@ -31,7 +35,7 @@ by-parts i (stopped e n s bs) = refl
 module _ (i : TurnInput) (serve : Served i) where
   -- the parts of a served turn's result
   pub served-parts : turnOf i
-      ≡ resultOf i (endingOf (served i)) (stepsOf (served i)) (savedWords (leftOf (served i))) (listOf i (rowsOf (served i)))
+      ≡ resultOf i (endingOf (served i)) (stepsOf (served i)) (savedWords (leftOf (served i))) (turnList i (endingOf (served i)) (rowsOf (served i)))
   served-parts = turned-so i serve ∙ by-parts i (served i)
 
   pub served-steps : turnOf i .answer .steps ≡ stepsOf (served i)
@@ -44,29 +48,38 @@ module _ (i : TurnInput) (serve : Served i) where
   pub served-run : turnRun i ≡ record { state = leftOf (served i); delivered = rowsOf (served i) }
   served-run = ap (givenRun i) served-steps ∙ served-attempts i .run
 
-  -- the result in terms of that run
+  -- the result in terms of that run: its list is closed where the run is over
   served-result : turnOf i
-      ≡ resultOf i (endingOf (served i)) (stepsOf (served i)) (savedWords (turnRun i .state)) (listOf i (turnRun i .delivered))
+      ≡ resultOf i (endingOf (served i)) (stepsOf (served i)) (savedWords (turnRun i .state)) (listOf i (turnRun i))
   served-result =
       served-parts
-      ∙ ap (λ (u : Run). resultOf i (endingOf (served i)) (stepsOf (served i)) (savedWords (u .state)) (listOf i (u .delivered)))
+      ∙ ap (λ d. resultOf i (endingOf (served i)) (stepsOf (served i)) (savedWords (leftOf (served i)))
+      (listAt (givenPlan i .ending) (i .threshold) d (rowsOf (served i)))) (done-over i)
+      ∙ ap (λ (u : Run). resultOf i (endingOf (served i)) (stepsOf (served i)) (savedWords (u .state)) (listOf i u))
       (sym served-run)
 
   -- no rows have room, and so have the rows of each step that was taken
-  rows-fit : length (listOf i (rowsOf (served i))) ≤ length (i .output)
+  pub rows-fit : length (gathered (givenPlan i .ending) (i .threshold) (turnRun i .delivered)) ≤ length (i .output)
   rows-fit =
-      let h : length (listOf i []) ≤ length (i .output) =
+      let h : length (gathered (givenPlan i .ending) (i .threshold) []) ≤ length (i .output) =
       let e = ap length (gathered-nil (givenPlan i .ending) (i .threshold)) in omega arith in
-      has-room i (rowsOf (served i)) .0 (served-attempts i .fitted (has-room i [] .1 h))
+      subst⁻¹ (λ (u : Run). length (gathered (givenPlan i .ending) (i .threshold) (u .delivered)) ≤ length (i .output)) served-run
+      (has-room i (rowsOf (served i)) .0 (served-attempts i .fitted (has-room i [] .1 h)))
+
+  -- and so has the list of them that is closed, by test 7
+  list-fits : length (listOf i (turnRun i)) ≤ length (i .output)
+  list-fits =
+      at-room (givenPlan i .ending) (i .threshold) (isOver (turnRun i .state)) (turnRun i .delivered) (length (i .output))
+      (turn-limits i serve .output-room) rows-fit
 
   pub follows : Follows i
   follows =
       record {
         state = subst⁻¹ (λ (r : TurnResult). Overwritten (savedWords (turnRun i .state)) (i .state) (r .state) (r .answer .saved))
             served-result (overwritten (savedWords (turnRun i .state)) (i .state));
-        output = subst⁻¹ (λ (r : TurnResult). Overwritten (listOf i (turnRun i .delivered)) (i .output) (r .output) (r .answer .listed))
-            served-result (overwritten (listOf i (turnRun i .delivered)) (i .output));
-        room = subst⁻¹ (λ (r : TurnResult). r .answer .listed ≤ length (i .output)) served-parts rows-fit;
+        output = subst⁻¹ (λ (r : TurnResult). Overwritten (listOf i (turnRun i)) (i .output) (r .output) (r .answer .listed))
+            served-result (overwritten (listOf i (turnRun i)) (i .output));
+        room = subst⁻¹ (λ (r : TurnResult). r .answer .listed ≤ length (i .output)) served-result list-fits;
       }
 
 -- ---- opening

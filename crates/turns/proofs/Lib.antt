@@ -1,7 +1,9 @@
 pub mod Bounded
 pub mod Stepping
 pub mod Refusals
+pub mod Limits
 pub mod Follows
+pub mod Closes
 pub mod Progress
 pub mod Endings
 pub mod OnTheRun

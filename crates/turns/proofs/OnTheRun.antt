@@ -25,7 +25,7 @@ use Rattle.turns.specs.Follows.{turnRun, listOf}
 use Rattle.turns.specs.OnTheRun.{OnTheRun, KeepsLengths}
 use Rattle.turns.proofs.Refusals.{turn-passed}
 use Rattle.turns.proofs.Follows.{follows}
-use Rattle.turns.proofs.Progress.{turn-limits}
+use Rattle.turns.proofs.Limits.{turn-limits}
 
 module _ (i : TurnInput) (serve : Served i) where
   pub given-form : PlanForm (givenPlan i)
@@ -68,5 +68,5 @@ module _ (i : TurnInput) (serve : Served i) where
       (right-from (i .tables) (givenPlan i) given-form (stateIn (givenState i)) (turnOf i .answer .steps) given-right) in
       record {
         state = ap length (f .state .whole) ∙ length-over (savedWords (turnRun i .state)) (i .state) (omega (arith, turn-limits i serve .state-room));
-        output = ap length (f .output .whole) ∙ length-over (listOf i (turnRun i .delivered)) (i .output) (omega (arith, f .room, f .output .counted));
+        output = ap length (f .output .whole) ∙ length-over (listOf i (turnRun i)) (i .output) (omega (arith, f .room, f .output .counted));
       }

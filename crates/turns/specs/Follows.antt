@@ -3,16 +3,15 @@
 use Prim.Native.Nat.{ℕ, _≤_}
 use mathlib.Core.List.{List}
 use lib.ListN.{length}
-use Rattle.words.specs.Bindings.{Bindings}
 use Rattle.words.specs.Answers.{wordsIn}
 use Rattle.words.specs.Buffers.{Overwritten}
 use Rattle.tables.specs.Tables.{Tables}
 use Rattle.plans.specs.Plans.{planOf}
 use Rattle.steps.specs.Steps.{Run, runFrom, after}
 use Rattle.steps.specs.Saved.{savedWords, stateIn}
-use Rattle.lists.specs.Gathering.{gathered}
+use Rattle.lists.specs.Closing.{listAt}
 use Rattle.turns.specs.Opening.{openOf}
-use Rattle.turns.specs.Turns.{TurnInput, givenState, givenPlan, turnOf}
+use Rattle.turns.specs.Turns.{TurnInput, givenState, givenPlan, isOver, turnOf}
 
 -- the run from the state that a turn was given
 abbrev pub givenRun : TurnInput → ℕ → Run
@@ -22,15 +21,15 @@ givenRun i n = runFrom (i .tables) (givenPlan i) (stateIn (givenState i)) n
 abbrev pub turnRun : TurnInput → Run
 turnRun i = givenRun i (turnOf i .answer .steps)
 
--- the list that a turn's ending makes of some rows
-abbrev pub listOf : TurnInput → List Bindings → List ℕ
-listOf i bs = gathered (givenPlan i .ending) (i .threshold) bs
+-- the list that a turn makes of a run: of the rows delivered, and closed where the run is over
+abbrev pub listOf : TurnInput → Run → List ℕ
+listOf i r = listAt (givenPlan i .ending) (i .threshold) (isOver (r .state)) (r .delivered)
 
 pub record Follows (i : TurnInput) : Type 0 where
   -- the state buffer: the words of the state that many steps on, none at the run's end, over what it held
   pub state : Overwritten (savedWords (turnRun i .state)) (i .state) (turnOf i .state) (turnOf i .answer .saved)
-  -- the output: the list of the rows of those steps, over what it held
-  pub output : Overwritten (listOf i (turnRun i .delivered)) (i .output) (turnOf i .output) (turnOf i .answer .listed)
+  -- the output: the list of the rows of those steps, closed at the run's end, over what it held
+  pub output : Overwritten (listOf i (turnRun i)) (i .output) (turnOf i .output) (turnOf i .answer .listed)
   -- which has room for it
   pub room : turnOf i .answer .listed ≤ length (i .output)
 

@@ -3,6 +3,7 @@ pub mod Opening
 pub mod Turns
 pub mod Refusals
 pub mod Follows
+pub mod Closes
 pub mod Endings
 pub mod OnTheRun
 pub mod AfterDone

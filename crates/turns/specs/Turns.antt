@@ -14,11 +14,12 @@ use Rattle.plans.specs.Plans.{Plan, planOf, planTests}
 use Rattle.steps.specs.Steps.{State, step}
 use Rattle.steps.specs.Saved.{stateIn, savedWords, leastStateWords, shapeRight, placesRight}
 use Rattle.lists.specs.Gathering.{gathered, leastOutput, thresholdRight}
+use Rattle.lists.specs.Closing.{listAt}
 use Rattle.turns.specs.declared.TurnEnding.{TurnEnding}
 use Rattle.turns.specs.declared.TurnEnding.the-variants.{Done, Spent, Full, Refused}
 use Rattle.turns.specs.declared.Turned.{Turned}
 use Rattle.turns.specs.Bounded as bounded
-pub use Rattle.turns.specs.Bounded.{going, stopped, endingOf, stepsOf, leftOf, rowsOf, tried}
+pub use Rattle.turns.specs.Bounded.{going, stopped, endingOf, stepsOf, leftOf, rowsOf, isDone, isOver, tried}
 
 -- the number of the test that refused a turn, 0 where it was served
 abbrev pub refusalOf : TurnEnding → ℕ
@@ -118,9 +119,9 @@ resultOf i e n saved list =
       output = over list (i .output);
     }
 
--- the list that a turn writes at its ending: done adds nothing to what was gathered
+-- the list that a turn writes at its ending: of its own rows, and closed when done
 abbrev pub turnList : TurnInput → TurnEnding → List Bindings → List ℕ
-turnList i e bs = gathered (givenPlan i .ending) (i .threshold) bs
+turnList i e bs = listAt (givenPlan i .ending) (i .threshold) (isDone e) bs
 
 -- a turn still under way after its quantum is spent
 abbrev pub finished : TurnInput → Progress → TurnResult

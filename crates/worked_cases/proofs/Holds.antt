@@ -21,12 +21,12 @@ unfolding words.computing tables.computing plans.computing conditions.computing 
     uploads.computing flatten
 computing = tt
 
--- the starred cases of the rules (docs/RULES.md, 11), and those of k = 0
+-- the starred cases of the rules (docs/RULES.md, 11), those of k = 0 and of the record of no rows
 pub starred-hold : Hold starred
 unfolding computing
 starred-hold =
     refl & refl & refl & refl & refl & refl & refl & refl & refl & refl & refl & refl & refl & refl & refl & refl & refl & refl
-    & (refl & refl & refl & refl & refl & refl & refl & refl & all)
+    & (refl & refl & refl & refl & refl & refl & refl & refl & refl & refl & refl & refl & refl & refl & refl & refl & refl & refl & all)
 
 -- cases for each refusal
 pub tables-hold : Hold ofTables

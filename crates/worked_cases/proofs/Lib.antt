@@ -5,6 +5,7 @@ pub mod ConditionsHold
 pub mod FormatsHold
 pub mod LimitsHold
 pub mod FaultsHold
+pub mod ClosingsHold
 pub mod SizesHold
 pub mod StepsHold
 pub mod UploadsHold

@@ -10,12 +10,12 @@ use Rattle.words.specs.Tests.{firstFailing}
 use Rattle.tables.specs.Tables.{Tables}
 use Rattle.plans.specs.Plans.{planOf}
 use Rattle.steps.specs.Steps.{State, after}
-use Rattle.lists.specs.Gathering.{gathered}
 use Rattle.turns.specs.declared.TurnEnding.{TurnEnding}
 use Rattle.turns.specs.declared.TurnEnding.the-variants as ending
 use Rattle.turns.specs.Opening.{Opened, openOf}
 use Rattle.turns.specs.Turns.{TurnInput, TurnResult, turnTests, turnOf, resultOf}
 use Rattle.merges.specs.Merging.{MergeInput, MergeResult, mergeOf}
+use Rattle.cuts.specs.Uncut.{runList}
 use Rattle.uploads.specs.declared.Made.the-variants as answer
 use Rattle.uploads.specs.Making.{MakeInput, MakeResult, makeOf}
 
@@ -43,7 +43,7 @@ resultFor (turning i) = turned (turnOf i)
 resultFor (merging i) = merged (mergeOf i)
 resultFor (making i) = made (makeOf i)
 resultFor (running t plan n) =
-    ran (after t (planOf plan) n .state) (gathered (planOf plan .ending) [] (after t (planOf plan) n .delivered))
+    ran (after t (planOf plan) n .state) (runList (planOf plan .ending) (after t (planOf plan) n))
 resultFor (testing i) = tested (firstFailing (turnTests i))
 
 abbrev pub Case : Type 0

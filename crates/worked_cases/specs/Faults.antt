@@ -119,6 +119,10 @@ totalsOf r s n m x y least greatest = r ∷ s ∷ n ∷ m ∷ x ∷ y ∷ least 
 abbrev pub plainRow : List ℕ
 plainRow = totalsOf 1 0 0 0 0 0 0xC0000000 0xC0000000
 
+-- the record of no rows
+abbrev pub nothing : List ℕ
+nothing = totalsOf 0 0 0 0 0 0 0xC0000000 0xC0000000
+
 abbrev pub groupFaults : List Case
 groupFaults =
     flatten
@@ -140,8 +144,16 @@ groupFaults =
     ∷ faulty groupsPlan (0x40000005 ∷ (plainRow ++ (0x00000009 ∷ plainRow)))
     ∷ faulty groupsPlan (0x80000000 ∷ (plainRow ++ (0x40000005 ∷ plainRow)))
     ∷ faulty oneGroupPlan (plainRow ++ plainRow)
-    -- rows 0; 2^32 rows are not 0
-    ∷ faulty oneGroupPlan (totalsOf 0 0 0 0 0 0 0xC0000000 0xC0000000)
+    -- rows 0: one such record passes, and only without keys; 2^32 rows are not 0
+    ∷ mergesWell oneGroupPlan nothing
+    ∷ faulty groupsPlan (0x00000001 ∷ nothing)
+    ∷ faulty groupsPlan (0xC0000000 ∷ nothing)
+    ∷ faulty oneGroupPlan (totalsOf 0 0 1 0 5 0 0x40000005 0x40000005)
+    ∷ faulty oneGroupPlan (totalsOf 0 0 0 0 1 0 0xC0000000 0xC0000000)
+    ∷ faulty oneGroupPlan (totalsOf 0 0 0 0 0 0 0x40000000 0xC0000000)
+    ∷ faulty oneGroupPlan (totalsOf 0 0 0 0 0 0 0x00000000 0x00000000)
+    ∷ faulty oneGroupPlan (totalsOf 0 0 0 0 0 0 0xC0000000 0x40000000)
+    ∷ faulty oneGroupPlan (nothing ++ nothing)
     ∷ mergesWell oneGroupPlan (totalsOf 0 1 0 0 0 0 0xC0000000 0xC0000000)
     -- numbers above rows, in the low word and in the high one
     ∷ mergesWell oneGroupPlan (totalsOf 2 0 2 0 5 0 0x40000000 0x40000005)

@@ -11,5 +11,6 @@ pub mod Orders
 pub mod States
 pub mod Limits
 pub mod Faults
+pub mod Closings
 pub mod Sizes
 pub mod Uploads

@@ -111,7 +111,7 @@ ofMerges =
     ∷ notMerged (mergeCall planTop [] 8 (stem 1 45 ++ stem 2 45)) 12
     ∷ notMerged (mergeCall (planWith always (topFalling 2)) [] 8 (stem 1 45 ++ stem 2 310)) 12
     ∷ notMerged (record { plan = planTop; kept = replicate 8 4; given = 9; list = [] }) 12
-    ∷ wrongRecord (totals 0 0 0 unbound unbound)
+    ∷ wrongRecord (totals 0 0 0 (number 0) (number 0))
     ∷ wrongRecord (totals 1 2 0 (number 0) (number 0))
     ∷ wrongRecord (totals 1 0 1 unbound unbound)
     ∷ wrongRecord (totals 1 0 0 (number 0) unbound)

@@ -1,14 +1,14 @@
--- The starred cases of "The three-stem wood", and those of a best-of list of no given number, as one table.
+-- The starred cases of "The three-stem wood", those of a best-of list of no given number and of the record of no rows, as one table.
 use Prim.Native.Nat.{ℕ}
 use mathlib.Core.List.{List, [], _∷_, _++_, map}
 use mathlib.Core.Option.{none, some}
 use lib.ListN.{length, take, replicate}
 use Rattle.words.specs.declared.Written.the-variants.{Words}
-use Rattle.words.specs.Words.{number}
+use Rattle.words.specs.Words.{name, number}
 use Rattle.words.specs.Sequences.{over}
 use Rattle.turns.specs.declared.TurnEnding.the-variants.{Done, Spent, Full}
 use Rattle.worked_cases.specs.Wood.{wood, noRows, withOsp, notError, orError, rows01, planWith, planA, planTwice, planTop, planGroup}
-use Rattle.worked_cases.specs.Wood.{always, topFalling, topDiameters, stateAt, start, stem}
+use Rattle.worked_cases.specs.Wood.{always, atLeast1000, topFalling, topDiameters, group1, groups0, stateAt, start, nothing, threeStems, stem}
 use Rattle.worked_cases.specs.Calls.{opening, opened, merging, merged, running, ran, Case, turnCall, turnCase, notTurned}
 use Rattle.worked_cases.specs.Calls.{mergeCall, keptBuffer, notMerged}
 
@@ -28,9 +28,9 @@ abbrev pub tenDiameters : List ℕ
 tenDiameters = map number (20 ∷ 19 ∷ 18 ∷ 17 ∷ 16 ∷ 15 ∷ 14 ∷ 13 ∷ 12 ∷ 11 ∷ [])
 
 -- a list merged into another, and what is then kept
-abbrev pub merges : List ℕ → List ℕ → List ℕ → Case
-merges kept list result = (
-  merging (mergeCall unnumberedDiameters kept 16 list),
+abbrev pub merges : List ℕ → List ℕ → List ℕ → List ℕ → Case
+merges plan kept list result = (
+  merging (mergeCall plan kept 16 list),
   merged (record { answer = Words (length result); kept = over result (keptBuffer 16 kept) }),
 )
 
@@ -57,9 +57,23 @@ starred =
     -- ending top 1, ?1 falling: n2 i310
     ∷ whole planTop 10 (stem 2 310)
     -- condition "true", group of no variable measuring ?1: rows 3, numbers 3, sum 665, least i45, greatest i310
-    ∷ whole planGroup 10 (3 ∷ 0 ∷ 3 ∷ 0 ∷ 665 ∷ 0 ∷ number 45 ∷ number 310 ∷ [])
+    ∷ whole planGroup 10 threeStems
     -- no rows in the tables: done after 1 step
     ∷ turnCase (turnCall noRows planA start 100 [] 128) Done 1 [] []
+    -- that group, and no rows in the tables: done after 1 step, with the record of no rows; by one variable there is none
+    ∷ turnCase (turnCall noRows planGroup start 1 [] 8) Done 1 [] nothing
+    ∷ turnCase (turnCall noRows (planWith always groups0) start 1 [] 9) Done 1 [] []
+    -- a condition false on every row, cut at 9: the first list is empty, the last the record of no rows; merged, one record
+    ∷ turnCase (turnCall wood (planWith atLeast1000 group1) start 9 [] 8) Spent 9 (stateAt (3 ∷ [])) []
+    ∷ turnCase (turnCall wood (planWith atLeast1000 group1) (stateAt (3 ∷ [])) 9 [] 8) Done 1 [] nothing
+    ∷ merges (planWith atLeast1000 group1) [] nothing nothing
+    -- condition "true", cut at 9: the first list is the record of the three stems, the last that of no rows; merged, the first
+    ∷ turnCase (turnCall wood planGroup start 9 [] 8) Spent 9 (stateAt (3 ∷ [])) threeStems
+    ∷ turnCase (turnCall wood planGroup (stateAt (3 ∷ [])) 9 [] 8) Done 1 [] nothing
+    ∷ merges planGroup threeStems nothing threeStems
+    -- a record of rows 0 with a key is refused by 12, kept or of a turn
+    ∷ notMerged (mergeCall (planWith always groups0) (name 1 ∷ nothing) 16 []) 12
+    ∷ notMerged (mergeCall (planWith always groups0) [] 16 (name 1 ∷ nothing)) 12
     -- not(n1 < i5) keeps nothing; or(i1 = i1, n1 < i5) keeps all
     ∷ whole (planWith notError rows01) 10 []
     ∷ whole (planWith orError rows01) 10 (stem 1 45 ++ (stem 2 310 ++ stem 3 310))
@@ -71,8 +85,8 @@ starred =
     -- merging with k = 0: eleven kept rows are refused by 12, as are eleven of a turn; ten are merged; ten kept and one more leave ten
     ∷ notMerged (mergeCall unnumberedDiameters (tenDiameters ++ (number 10 ∷ [])) 16 []) 12
     ∷ notMerged (mergeCall unnumberedDiameters [] 16 (tenDiameters ++ (number 10 ∷ []))) 12
-    ∷ merges tenDiameters [] tenDiameters
-    ∷ merges [] tenDiameters tenDiameters
-    ∷ merges tenDiameters (number 30 ∷ []) (number 30 ∷ take 9 tenDiameters)
-    ∷ merges tenDiameters (number 10 ∷ []) tenDiameters
+    ∷ merges unnumberedDiameters tenDiameters [] tenDiameters
+    ∷ merges unnumberedDiameters [] tenDiameters tenDiameters
+    ∷ merges unnumberedDiameters tenDiameters (number 30 ∷ []) (number 30 ∷ take 9 tenDiameters)
+    ∷ merges unnumberedDiameters tenDiameters (number 10 ∷ []) tenDiameters
     ∷ []

@@ -3,7 +3,7 @@ use Prim.Native.Nat.{ℕ}
 use mathlib.Core.List.{List, [], _∷_, _++_, map}
 use lib.ListN.{length}
 use Rattle.words.specs.Words.{name, number, variable, word, positionWord, placeWord, headKind, branchKind, trueKind, orKind, notKind, comparisonKind}
-use Rattle.words.specs.Words.{equalTo, lessThan, atLeast, rowsKind, topKind, risingKind, fallingKind, groupKind}
+use Rattle.words.specs.Words.{unbound, equalTo, lessThan, atLeast, rowsKind, topKind, risingKind, fallingKind, groupKind}
 use Rattle.tables.specs.Tables.{Tables}
 
 -- ---- tables
@@ -44,6 +44,10 @@ always = word trueKind 0 ∷ []
 abbrev pub atLeast70 : List ℕ
 atLeast70 = word comparisonKind atLeast ∷ variable 1 ∷ number 70 ∷ []
 
+-- ?1 ≥ i1000, false on every row
+abbrev pub atLeast1000 : List ℕ
+atLeast1000 = word comparisonKind atLeast ∷ variable 1 ∷ number 1000 ∷ []
+
 -- n1 < i5, an error
 abbrev pub wrongKinds : List ℕ
 wrongKinds = word comparisonKind lessThan ∷ name 1 ∷ number 5 ∷ []
@@ -68,9 +72,12 @@ topRising k = word topKind k ∷ (rows01 ++ (word risingKind 1 ∷ []))
 abbrev pub topDiameters : ℕ → List ℕ
 topDiameters k = word topKind k ∷ word rowsKind 1 ∷ variable 1 ∷ word fallingKind 1 ∷ []
 
--- one group, measuring ?1
+-- one group, measuring ?1; a group for each ?0
 abbrev pub group1 : List ℕ
 group1 = word groupKind 0 ∷ variable 1 ∷ []
+
+abbrev pub groups0 : List ℕ
+groups0 = word groupKind 1 ∷ variable 0 ∷ variable 1 ∷ []
 
 abbrev pub planWith : List ℕ → List ℕ → List ℕ
 planWith condition ending = word headKind 1 ∷ (branchA condition ++ ending)
@@ -98,6 +105,13 @@ stateAt places = positionWord 0 (length places) ∷ map placeWord places
 
 abbrev pub start : List ℕ
 start = stateAt (0 ∷ [])
+
+-- the record of no rows, and that of the three stems
+abbrev pub nothing : List ℕ
+nothing = 0 ∷ 0 ∷ 0 ∷ 0 ∷ 0 ∷ 0 ∷ unbound ∷ unbound ∷ []
+
+abbrev pub threeStems : List ℕ
+threeStems = 3 ∷ 0 ∷ 3 ∷ 0 ∷ 665 ∷ 0 ∷ number 45 ∷ number 310 ∷ []
 
 -- a row of a stem and its diameter
 abbrev pub stem : ℕ → ℕ → List ℕ

@@ -14,8 +14,9 @@ use crate::inputs::random::Random;
 use crate::lending;
 use crate::libraries::{Library, Made, Turned, Written};
 
-/// How many queries there are, each with damaged calls, made-up ones and a history.
+/// How many queries there are, each with damaged calls, made-up ones and a history, and how many more whose conditions keep no row.
 const QUERIES: u64 = 80;
+const FELLED: u64 = 12;
 /// The most rows of a query's tables, steps of its run, and turns of its history.
 const ROWS: usize = 12;
 const STEPS: usize = 300;
@@ -261,9 +262,13 @@ impl Calls for Vectors {
 
 /// Short queries: damaged and made-up calls, and a history.
 fn short(to: &mut Vectors) {
-    for seed in 0..QUERIES {
+    let rows = [0, ROWS / 2, ROWS];
+    for seed in 0..QUERIES + FELLED {
         let random = &mut Random::new(seed);
-        let query: Query = plans::query(random, &[0, ROWS / 2, ROWS], STEPS, 2);
+        let query: Query = match seed < QUERIES {
+            true => plans::query(random, &rows, STEPS, 2),
+            false => plans::felled_query(random, &rows, STEPS),
+        };
         let quantum = query.run.steps().div_ceil(random.pick(&[1, 2, 4]));
         histories::play(to, random, &query, quantum, TURNS);
         damaged(to, random, &query, 2);

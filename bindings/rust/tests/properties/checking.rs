@@ -40,6 +40,13 @@ impl Tally {
         *self.0.borrow_mut().entry(what).or_default() += 1;
     }
 
+    /// Counts a written list that is the total of nothing.
+    fn note_nothing(&self, list: &[u32], by: &str) {
+        if list == lists::NOTHING {
+            *self.0.borrow_mut().entry(format!("nothing {by}")).or_default() += 1;
+        }
+    }
+
     /// Tests that these came often enough, unless a setting changed the number of cases.
     pub fn came(&self, whats: &[&str], at_least: u32) {
         println!("{:?}", self.0.borrow());
@@ -92,7 +99,10 @@ pub fn check_turn(tally: &Tally, base: &Query, call: &Turn) -> Option<(Answer, V
         _ => "full",
     };
     tally.note(&right.0, ending);
-    right.0.ok().map(|answer| (answer, right.1, right.2))
+    right.0.ok().map(|answer| {
+        tally.note_nothing(&right.2[..answer.3], ending);
+        (answer, right.1, right.2)
+    })
 }
 
 /// A merge; the words of the merged list, and the kept buffer at exit, if it was served.
@@ -104,13 +114,16 @@ pub fn check_merge(tally: &Tally, call: &Merge) -> Option<(usize, Vec<u32>)> {
         guarded::merge(call)
     );
     tally.note(&right.0, "merged");
-    right.0.ok().map(|words| (words, right.1))
+    right.0.ok().map(|words| {
+        tally.note_nothing(&right.1[..words], "merged");
+        (words, right.1)
+    })
 }
 
 /// The list of the whole run.
 pub fn whole_list(query: &Query) -> Vec<u32> {
     let delivered: Vec<&[u32]> = query.run.delivered.iter().flatten().map(|row| &row[..]).collect();
-    lists::list(&query.plan, &delivered, &[])
+    lists::last_list(&query.plan, &delivered, &[])
 }
 
 /// Runs a query from its opening to its end, each list taken as it comes, and compares with the uncut run.

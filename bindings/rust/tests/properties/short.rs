@@ -16,6 +16,7 @@ fn every_cut_adds_up_to_the_uncut_run() {
         }
     });
     tally.came(&["done", "spent", "full", "merged"], 1000);
+    tally.came(&["nothing done", "nothing merged"], 500);
 }
 
 #[test]
@@ -28,6 +29,7 @@ fn turns_go_on_from_every_state_of_the_run() {
         }
     });
     tally.came(&["done", "spent", "full"], 1000);
+    tally.came(&["nothing done"], 500);
 }
 
 #[test]
@@ -40,6 +42,7 @@ fn merges_add_up_lists_that_no_run_made() {
         }
     });
     tally.came(&["merged", "refused by 12", "refused by 13", "refused by 14"], 1000);
+    tally.came(&["nothing merged"], 100);
 }
 
 #[test]

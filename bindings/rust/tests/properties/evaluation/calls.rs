@@ -183,11 +183,12 @@ pub fn turn(query: &Query, call: &Turn) -> (Result<Answer, u32>, Vec<u32>, Vec<u
         .flatten()
         .map(|row| &row[..])
         .collect();
-    let list = lists::list(&query.plan, &rows, &call.threshold);
-    let saved = if how == How::Done {
-        Vec::new()
-    } else {
-        query.run.saved(start + steps)
+    let (list, saved) = match how {
+        How::Done => (lists::last_list(&query.plan, &rows, &call.threshold), Vec::new()),
+        _ => (
+            lists::list(&query.plan, &rows, &call.threshold),
+            query.run.saved(start + steps),
+        ),
     };
     let answer = (steps as u32, how, saved.len(), list.len());
     (Ok(answer), written(&call.state, &saved), written(&call.output, &list))

@@ -25,6 +25,9 @@ struct Totals {
     values: Option<(u32, u32)>,
 }
 
+/// The totals of no rows.
+pub const NOTHING: [u32; 8] = [0, 0, 0, 0, 0, 0, UNBOUND, UNBOUND];
+
 /// Groups by the ranks of their keys, with the keys.
 type Groups = BTreeMap<Vec<(u32, u32)>, (Vec<u32>, Totals)>;
 
@@ -54,8 +57,8 @@ impl Totals {
         };
     }
 
-    /// The totals of the last eight words of a record, unless test 12 refuses them.
-    fn read(words: &[u32]) -> Option<Totals> {
+    /// The totals of the last eight words of a record with so many keys, unless test 12 refuses them: rows 0 are for one without keys.
+    fn read(keys: usize, words: &[u32]) -> Option<Totals> {
         let wide = |at: usize| u128::from(words[at]) + (u128::from(words[at + 1]) << 32);
         let (rows, numbers, sum, least, greatest) = (wide(0), wide(2), wide(4), words[6], words[7]);
         let values = match numbers {
@@ -64,7 +67,8 @@ impl Totals {
             _ if term_kind(least) == NUMBER && term_kind(greatest) == NUMBER && least <= greatest => Some((least, greatest)),
             _ => return None,
         };
-        (rows > 0 && numbers <= rows).then_some(Totals {
+        let enough = rows > 0 || keys == 0;
+        (enough && numbers <= rows).then_some(Totals {
             rows,
             numbers,
             sum,
@@ -101,6 +105,14 @@ fn record_words(groups: &Groups) -> Vec<u32> {
         .collect()
 }
 
+/// The list of a turn that is done: that of its rows; without a group variable it has a record always, of nothing if there are none.
+pub fn last_list(plan: &Plan, delivered: &[&[u32]], threshold: &[u32]) -> Vec<u32> {
+    match &plan.ending {
+        Ending::Group(by, _) if by.is_empty() && delivered.is_empty() => NOTHING.to_vec(),
+        _ => list(plan, delivered, threshold),
+    }
+}
+
 /// The list that delivered rows make.
 pub fn list(plan: &Plan, delivered: &[&[u32]], threshold: &[u32]) -> Vec<u32> {
     match &plan.ending {
@@ -128,7 +140,7 @@ fn read_groups(keys: usize, list: &[u32]) -> Option<Vec<(&[u32], Totals)>> {
     let records = list.chunks(keys + 8).map(|record| {
         let (named, totals) = record.split_at_checked(keys)?;
         let right = totals.len() == 8 && named.iter().all(|&word| delivered(word));
-        Some((named, Totals::read(right.then_some(totals)?)?))
+        Some((named, Totals::read(keys, right.then_some(totals)?)?))
     });
     let groups = records.collect::<Option<Vec<_>>>()?;
     let ranks: Vec<Vec<_>> = groups

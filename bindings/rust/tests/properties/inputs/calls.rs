@@ -68,8 +68,12 @@ pub fn turn(random: &mut Random, query: &Query) -> Turn {
     }
 }
 
-fn totals(random: &mut Random) -> Vec<u32> {
+/// Totals of one row or many, and where there are no keys often of none.
+fn totals(random: &mut Random, keys: &[u32]) -> Vec<u32> {
     let halves = |wide: u64| [wide as u32, (wide >> 32) as u32];
+    if keys.is_empty() && random.chance(35) {
+        return lists::NOTHING.to_vec();
+    }
     let rows = random.pick(&[1, 1, 2, 3, u32::MAX.into(), 1 << 32, 1 << 62, 1 << 63, u64::MAX - 1, u64::MAX]);
     let numbers = random.pick(&[0, 1, rows, rows, rows / 2]);
     let sum = random.pick(&[0, 1, 45, u32::MAX.into(), 1 << 32, 1 << 63, u64::MAX - 45, u64::MAX]);
@@ -87,7 +91,8 @@ fn list(random: &mut Random, query: &Query, pool: &[Vec<u32>]) -> Vec<u32> {
             let mut keys = random.some(pool, 0, pool.len());
             keys.sort_by_key(|keys| keys.iter().map(|&word| rank(word)).collect::<Vec<_>>());
             keys.dedup();
-            keys.into_iter().flat_map(|keys| [keys, totals(random)].concat()).collect()
+            let record = |keys: Vec<u32>| [&keys[..], &totals(random, &keys)].concat();
+            keys.into_iter().flat_map(record).collect()
         }
         _ => {
             let many = random.below(2 * pool.len() + 1);

@@ -3,6 +3,7 @@
 use super::plans::{some_constant, tree};
 use super::random::Random;
 use crate::evaluation::calls::{Merge, Open, Query, Turn};
+use crate::evaluation::lists;
 use crate::evaluation::plan::{Branch, Condition, Ending, Plan};
 use crate::evaluation::tables::Tables;
 use crate::evaluation::words::*;
@@ -254,6 +255,15 @@ pub fn turn(random: &mut Random, query: &Query, call: &mut Turn) {
     }
 }
 
+/// A record of a list with the totals of nothing for its own, which is right only where it has no keys.
+fn empty_record(random: &mut Random, width: usize, list: &mut [u32]) {
+    let records = list.len() / width;
+    if records > 0 {
+        let end = width * (1 + random.below(records));
+        list[end - lists::NOTHING.len()..end].copy_from_slice(&lists::NOTHING);
+    }
+}
+
 pub fn merge(random: &mut Random, query: &Query, call: &mut Merge) {
     let word = random.pick(&[
         0,
@@ -267,8 +277,11 @@ pub fn merge(random: &mut Random, query: &Query, call: &mut Merge) {
         name(3),
     ]);
     let given = call.given.min(call.kept.len());
-    match random.small(8) {
+    let (groups, width) = (matches!(query.plan.ending, Ending::Group(..)), query.plan.width());
+    match random.small(9) {
         0 => plan_damage(random, query, &mut call.plan),
+        8 if groups && random.chance(50) => empty_record(random, width, &mut call.list),
+        8 if groups => empty_record(random, width, &mut call.kept[..given]),
         1 => call.given = random.pick(&[0, 1, given.saturating_sub(1), given + 1, call.kept.len() + 1, usize::MAX]),
         2 => call.list = call.list.repeat(random.pick(&[2, 2, 12])),
         3 => call.kept.truncate(given),

@@ -130,7 +130,29 @@ pub fn query(random: &mut Random, rows: &[usize], most: usize, deliveries: usize
     }
 }
 
+/// A wood and a plan of fewer steps than `most` whose conditions keep no row, as a stand has that was clear-felled: mostly a total.
+pub fn felled_query(random: &mut Random, rows: &[usize], most: usize) -> Query {
+    loop {
+        let most_rows = random.pick(rows);
+        let tables = wood(random, most_rows);
+        let mut plan = plan(random, &tables);
+        for branch in &mut plan.branches {
+            branch.condition = Condition::Compare(1, number(0), number(0));
+        }
+        if random.chance(60) {
+            plan.ending = Ending::Group(Vec::new(), plan.columns()[0]);
+        }
+        if let Ok(Some(query)) = calls::query(&tables, &plan.words(), most) {
+            return query;
+        }
+    }
+}
+
 pub fn short_query(random: &mut Random) -> Query {
     let (few, deliveries) = (random.below(13), random.pick(&[0, 1, 4, 20]));
-    query(random, &[0, few, few, 25, 60, 150], 3_000, deliveries)
+    let rows = [0, few, few, 25, 60, 150];
+    match random.chance(10) {
+        true => felled_query(random, &rows, 3_000),
+        false => query(random, &rows, 3_000, deliveries),
+    }
 }

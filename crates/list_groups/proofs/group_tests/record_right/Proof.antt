@@ -1,6 +1,6 @@
 -- `record_right` meets its contract.
 use borrow.Author.Needs.{needs}
-use mathlib.Core.Path.{sym, _∙_, ap}
+use mathlib.Core.Path.{sym, _∙_, ap₂}
 use borrow.Author.Tests.{not-true, not-false}
 use Rattle.list_groups.proofs.GroupTesting.{right-parts}
 use Rattle.list_groups.specs.GroupTests.{totalsRight}
@@ -34,6 +34,9 @@ returns c =
     let v = sym (c .before .is-values .ensures) ∙ not-true (c .before .is-values .result) (c .if1 .taken) in
     sym (right-parts (s .args .g) (s .args .list .now) (s .args .at) (s .pre .1) ∙ rw v)
 
+least-rows-requires : tie.Need-least-rows-requires
+least-rows-requires c κs = search needs
+
 mul-read-totals : tie.Need-mul-read-totals
 mul-read-totals c = search needs
 
@@ -54,10 +57,10 @@ totals-right-requires c κs = search needs
 
 returns-2 : tie.Need-returns-2
 returns-2 c =
-    let s = c .before .before .before .before .before .before .before in
-    let v = sym (c .before .before .before .before .is-values .ensures) ∙ not-false (c .before .before .before .before .is-values .result)
-    (c .before .before .before .if1 .left) in
-    c .totals-right .ensures ∙ ap totalsRight (c .before .read-totals .ensures)
+    let i = c .before .before .before .before in
+    let s = i .before .before .before .before in
+    let v = sym (i .before .is-values .ensures) ∙ not-false (i .before .is-values .result) (i .if1 .left) in
+    c .totals-right .ensures ∙ ap₂ totalsRight (c .before .before .before .least-rows .ensures) (c .before .read-totals .ensures)
     ∙ sym (right-parts (s .args .g) (s .args .list .now) (s .args .at) (s .pre .1) ∙ rw v)
 
 pub record-right-spec : {M : Type 1} → statement M
@@ -72,6 +75,7 @@ record-right-spec =
     part-is-values-end
     is-values-requires
     returns
+    least-rows-requires
     mul-read-totals
     sub-read-totals
     part-read-totals-start

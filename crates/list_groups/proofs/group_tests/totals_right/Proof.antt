@@ -6,21 +6,22 @@ use Rattle.list_groups.proofs.group_tests.totals_right.Tie as tie
 
 returns : tie.Need-returns
 returns c =
-    let t = c .before .before .args .t in
-    rw (lt-leb 1 (t .rows) (c .if1 .taken))
+    let s = c .before .before .args in
+    rw (lt-leb (s .least) (s .t .rows) (c .if1 .taken))
 
 returns-2 : tie.Need-returns-2
 returns-2 c =
-    let t = c .before .before .before .before .args .t in
-    rw (le-leb 1 (t .rows) (c .before .before .if1 .left), lt-leb (t .numbers) (t .rows) (c .if2 .taken))
+    let s = c .before .before .before .before .args in
+    rw (le-leb (s .least) (s .t .rows) (c .before .before .if1 .left), lt-leb (s .t .numbers) (s .t .rows) (c .if2 .taken))
 
 extremes-right-requires : tie.Need-extremes-right-requires
 extremes-right-requires c κs = search needs
 
 returns-3 : tie.Need-returns-3
 returns-3 c =
-    let t = c .before .before .before .before .before .args .t in
-    rw (le-leb 1 (t .rows) (c .before .before .before .if1 .left), le-leb (t .numbers) (t .rows) (c .before .if2 .left)) (c .extremes-right .ensures)
+    let s = c .before .before .before .before .before .args in
+    rw (le-leb (s .least) (s .t .rows) (c .before .before .before .if1 .left), le-leb (s .t .numbers) (s .t .rows) (c .before .if2 .left))
+    (c .extremes-right .ensures)
 
 pub totals-right-spec : {M : Type 1} → statement M
 totals-right-spec = tie.close (tie.spec returns returns-2 extremes-right-requires returns-3)
