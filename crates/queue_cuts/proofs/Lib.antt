@@ -1,0 +1,3 @@
+pub mod FrontTurns
+pub mod InStep
+pub mod Independent

@@ -1,0 +1,192 @@
+-- Joining by places: the entry's words, and the end of the list that it goes to.
+use Prim.Native.Nat.{ℕ, zero, suc, _+_, _-_, _<_, _≤_}
+use native.Mathlib.Omega.{arith}
+use mathlib.Core.Path.{_≡_, refl, sym, _∙_, ap, subst}
+use mathlib.Core.Bool.{Bool, true, false, cond, _&&_, _||_, not}
+use mathlib.Core.Option.{Option, none}
+use mathlib.Core.List.{List, [], _∷_, _++_}
+use lib.Dec.{leb, ltb, eqb}
+use lib.ListN.{length, take, drop, getD, replicate, length-append, take-append-drop}
+use lib.Seq.{take-length, length-take-le, paste}
+use borrow.Author.Tests.{leb-true}
+use Rattle.words.specs.Sequences.{all, member}
+use Rattle.words.specs.Tests.{firstFailing, numberOf, AllPass}
+use Rattle.words.proofs.Booleans.{absurd-true}
+use Rattle.words.proofs.Numbering.{none-fails, one-fails}
+use Rattle.words.proofs.Testing.{passes-all, test-passed}
+use Rattle.tables.specs.Tables.{Tables}
+use Rattle.plans.specs.Branches.{readBranches}
+use Rattle.plans.specs.Plans.{Plan, mostPlanWords, branchCount, withEnding, readPlan, hasForm}
+use Rattle.steps.specs.Saved.{leastStateWords}
+use Rattle.state_saving.proofs.Loads.{whole}
+use Rattle.queues.specs.declared.Entry.{Entry}
+use Rattle.queues.specs.declared.Queued.the-variants.{Lists}
+use Rattle.queues.specs.Lists.{Lent, lentAs, lineOf, asideOf, ownersIn, owners, filled, placed, planRoom, stateRoom}
+use Rattle.queues.specs.Joining.{Joining, joinTests, joinTestsBy, entryOf, joinedAs, joinOf, listsWith}
+use Rattle.queues.specs.ToppingUp.{topUpTestsBy}
+use Rattle.queue_entries.specs.declared.Seen.{Seen}
+use Rattle.queue_entries.specs.Seeing.{SeenOf}
+use Rattle.queue_entries.proofs.Standing.{member-both}
+use Rattle.queue_entries.proofs.Placing.{settled-added}
+use Rattle.queue_tests.specs.Changes.{roomBy, firstOf, queryTests, refusedBy, admittedBy, Decides}
+use Rattle.queue_tests.proofs.Following.{numbers-follow}
+use Rattle.queue_tests.proofs.Seeing.{seen-entries, seen-room, seen-line, seen-aside, Roomy, roomy}
+
+-- ---- an entry's words
+drop-zeros : (k n : ℕ) → drop {A = ℕ} k (replicate n 0) ≡ replicate (n - k) 0
+drop-zeros zero n = ap (λ (m : ℕ). replicate {A = ℕ} m 0) (let z : n ≡ n - 0 = omega arith in z)
+drop-zeros (suc k) zero = ap (λ (m : ℕ). replicate {A = ℕ} m 0) (let z : 0 ≡ 0 - suc k = omega arith in z)
+drop-zeros (suc k) (suc n) = drop-zeros k n ∙ ap (λ (m : ℕ). replicate {A = ℕ} m 0) (let z : n - k ≡ suc n - suc k = omega arith in z)
+
+pub pasted : (n : ℕ) (ws : List ℕ) → paste (replicate n 0) 0 ws (length ws) ≡ filled n ws
+pasted n ws = λ i. take-length ws i ++ (ap (λ (k : ℕ). drop {A = ℕ} k (replicate n 0)) (let z : 0 + length ws ≡ length ws = omega arith in z)
+    ∙ drop-zeros (length ws) n) i
+
+-- a plan that has the form is short enough
+plan-short : (ws : List ℕ) → hasForm (readPlan ws) ≡ true → length ws ≤ mostPlanWords
+unfolding readPlan
+plan-short ws h =
+    by-test (leb (length ws) mostPlanWords) (not (eqb (branchCount (getD ws 0 0)) 0))
+    (withEnding (drop 1 ws) (readBranches (branchCount (getD ws 0 0)) (drop 1 ws))) refl h
+  where
+    by-test : (a b : Bool) (x : Option Plan) → leb (length ws) mostPlanWords ≡ a → hasForm (cond (a && b) x none) ≡ true → length ws ≤ mostPlanWords
+    by-test true b x e f = leb-true (length ws) mostPlanWords e
+    by-test false b x e f = absurd-true f refl
+
+-- ---- tests
+not-either : (a b : Bool) → not (a || b) ≡ (not a && not b)
+not-either true b = refl
+not-either false b = refl
+
+module _ (t : Tables) (line : List Entry) (given : ℕ) (aside : List Entry) (kept : ℕ) (j : Joining) (seen : Seen)
+    (is : SeenOf (lentAs line given aside kept) (j .owner) seen) where
+  abbrev l : Lent
+  l = lentAs line given aside kept
+
+  abbrev entries : Bool
+  entries = (seen .lined && seen .rested) && (not (ltb (seen .place) (seen .waiting)) && not (ltb (seen .found) (seen .resting)))
+
+  abbrev room : Bool
+  room = roomBy (seen .room) (seen .spare) given kept 1
+
+  free : (not (ltb (seen .place) (seen .waiting)) && not (ltb (seen .found) (seen .resting))) ≡ not (member (j .owner) (owners l))
+  free =
+      (λ i. not (seen-line line given aside kept (j .owner) seen is i) && not (seen-aside line given aside kept (j .owner) seen is i))
+      ∙ sym (not-either (member (j .owner) (ownersIn (take given line))) (member (j .owner) (ownersIn (take kept aside))))
+      ∙ ap not (sym (member-both (j .owner) (ownersIn (take given line)) (ownersIn (take kept aside))))
+
+  same-tests : firstFailing (joinTestsBy t (j .plan) (j .state) entries room) ≡ firstFailing (joinTests t l j)
+  same-tests =
+      λ i. firstFailing (joinTestsBy t (j .plan) (j .state) (seen-entries line given aside kept (j .owner) seen is i && free i)
+      (seen-room line given aside kept (j .owner) seen is 1 i))
+
+  pub join-refuses : (n : ℕ) → n ≡ numberOf (firstFailing (joinTestsBy t (j .plan) (j .state) entries room)) → (n ≡ 0 → ⊥)
+      → Decides l (refusedBy n) (joinOf t l j)
+  unfolding joinOf
+  join-refuses n e h =
+      record {
+        line = ((λ z. absurd (omega arith)), (λ z. absurd-true z refl));
+        aside = ((λ z. absurd (omega arith)), (λ z. absurd-true z refl));
+        result = sym (ap (joinedAs l j) (sym same-tests ∙ one-fails (firstFailing (joinTestsBy t (j .plan) (j .state) entries room)) n e h));
+      }
+
+-- the number that the code puts together
+pub join-number : (t : Tables) (plan state : List ℕ) (entries room : Bool) (n query late : ℕ) → n ≡ firstOf query late
+    → query ≡ numberOf (firstFailing (queryTests t plan state)) → late ≡ numberOf (firstFailing (topUpTestsBy entries room))
+    → n ≡ numberOf (firstFailing (joinTestsBy t plan state entries room))
+unfolding all
+join-number t plan state entries room n query late e f g =
+    e ∙ (λ i. firstOf (f i) (g i)) ∙ numbers-follow (queryTests t plan state) (topUpTestsBy entries room) refl
+
+-- ---- a call that passes its tests
+module _ (t : Tables) (plan state : List ℕ) (entries : Bool) (seen : Seen) (given kept : ℕ)
+    (passed : numberOf (firstFailing (joinTestsBy t plan state entries (roomBy (seen .room) (seen .spare) given kept 1))) ≡ 0) where
+  all-pass : AllPass (joinTestsBy t plan state entries (roomBy (seen .room) (seen .spare) given kept 1))
+  unfolding all
+  all-pass = passes-all _ (none-fails (joinTestsBy t plan state entries (roomBy (seen .room) (seen .spare) given kept 1)) refl passed)
+
+  pub joined-none : firstFailing (joinTestsBy t plan state entries (roomBy (seen .room) (seen .spare) given kept 1)) ≡ none
+  unfolding all
+  joined-none = none-fails (joinTestsBy t plan state entries (roomBy (seen .room) (seen .spare) given kept 1)) refl passed
+
+  pub joined-room : Roomy (seen .room) (seen .spare) given kept 1
+  joined-room =
+      roomy (seen .room) (seen .spare) given kept 1
+      (test-passed 18 (joinTestsBy t plan state entries (roomBy (seen .room) (seen .spare) given kept 1)) all-pass)
+
+  form : hasForm (readPlan plan) ≡ true
+  form = test-passed 5 (joinTestsBy t plan state entries (roomBy (seen .room) (seen .spare) given kept 1)) all-pass
+
+  pub joined-short : (length plan ≤ planRoom) × (length state ≤ stateRoom)
+  joined-short =
+      let w = whole plan state form (test-passed 9 (joinTestsBy t plan state entries (roomBy (seen .room) (seen .spare) given kept 1)) all-pass) in
+      let f : length state ≤ leastStateWords = w .few in
+      (plan-short plan form, omega arith)
+
+-- ---- where the entry goes
+stays : (es : List Entry) (n : ℕ) → n ≤ length es → placed (take n es) es ≡ es
+stays es n h = ap (λ (k : ℕ). take n es ++ drop k es) (length-take-le n es h) ∙ take-append-drop n es
+
+module _ (line : List Entry) (given : ℕ) (aside : List Entry) (kept : ℕ) (e : Entry) (line-long : given < length line)
+    (aside-long : kept < length aside) where
+  abbrev lent : Lent
+  lent = lentAs line given aside kept
+
+  one-more : (es : List Entry) (n : ℕ) → n < length es → n + 1 ≡ length (take n es ++ (e ∷ []))
+  one-more es n h = sym (length-append (take n es) (e ∷ []) ∙ ap (λ (k : ℕ). k + 1) (length-take-le n es (let z : n ≤ length es = omega arith in z)))
+
+  as-many : (es : List Entry) (n : ℕ) → n < length es → n ≡ length (take n es)
+  as-many es n h = sym (length-take-le n es (let z : n ≤ length es = omega arith in z))
+
+  goes : (b : Bool)
+      → Decides lent
+      (cond b (record {
+        answer = Lists given (kept + 1);
+        line = record { gap = 0; last = 0; adds = false };
+        aside = record { gap = kept; last = kept; adds = true };
+        entry = e;
+      })
+      (record {
+        answer = Lists (given + 1) kept;
+        line = record { gap = given; last = given; adds = true };
+        aside = record { gap = 0; last = 0; adds = false };
+        entry = e;
+      }))
+      (cond b (listsWith lent (lineOf lent) (asideOf lent ++ (e ∷ []))) (listsWith lent (lineOf lent ++ (e ∷ [])) (asideOf lent)))
+  goes true =
+      record {
+        line = ((λ z. absurd (omega arith)), (λ z. absurd-true z refl));
+        aside = ((λ z. absurd (omega arith)), (λ z. aside-long));
+        result = λ i. record {
+          answer = Lists (as-many line given line-long i) (one-more aside kept aside-long i);
+          line = sym (stays line given (let z : given ≤ length line = omega (arith, line-long) in z)) i;
+          aside = settled-added aside e kept aside-long i;
+        };
+      }
+  goes false =
+      record {
+        line = ((λ z. absurd (omega arith)), (λ z. line-long));
+        aside = ((λ z. absurd (omega arith)), (λ z. absurd-true z refl));
+        result = λ i. record {
+          answer = Lists (one-more line given line-long i) (as-many aside kept aside-long i);
+          line = settled-added line e given line-long i;
+          aside = sym (stays aside kept (let z : kept ≤ length aside = omega (arith, aside-long) in z)) i;
+        };
+      }
+
+module _ (t : Tables) (line : List Entry) (given : ℕ) (aside : List Entry) (kept : ℕ) (j : Joining) (seen : Seen)
+    (is : SeenOf (lentAs line given aside kept) (j .owner) seen)
+    (passed : numberOf
+    (firstFailing (joinTestsBy t (j .plan) (j .state) (entries t line given aside kept j seen is) (room t line given aside kept j seen is))) ≡ 0) where
+  pub join-accepts : Decides (lentAs line given aside kept) (admittedBy (entryOf j) given kept) (joinOf t (lentAs line given aside kept) j)
+  unfolding joinOf
+  join-accepts =
+      let r = joined-room t (j .plan) (j .state) (entries t line given aside kept j seen is) seen given kept passed in
+      let a : seen .room ≡ length line = is .room in
+      let b : seen .spare ≡ length aside = is .spare in
+      let f = r .line in let g = r .aside in let h = r .entries in
+      subst (λ (o : Option ℕ). Decides (lentAs line given aside kept) (admittedBy (entryOf j) given kept) (joinedAs (lentAs line given aside kept) j o))
+      (sym (joined-none t (j .plan) (j .state) (entries t line given aside kept j seen is) seen given kept passed)
+      ∙ same-tests t line given aside kept j seen is)
+      (goes line given aside kept (entryOf j) (let z : given < length line = omega arith in z) (let z : kept < length aside = omega arith in
+      z) (eqb (j .allowance) 0))

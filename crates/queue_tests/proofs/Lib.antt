@@ -1,0 +1,6 @@
+pub mod Rooms
+pub mod Numbering
+pub mod Following
+pub mod Seeing
+pub mod TopUps
+pub mod Joins

@@ -1,0 +1,121 @@
+// Joining: tests 1 to 6, 9, 10, 17 and 18, and the new entry to the end of one of the lists.
+use crate::Queueing;
+use crate::changes::appended;
+use crate::changes::first_of;
+use crate::changes::lists_number;
+use crate::changes::refused;
+use crate::changes::room_right;
+use crate::changes::unchanged;
+use queue_entries::Seen;
+use queues::Entry;
+use queues::Queued;
+use words::Term;
+ghost use mathlib.Core.Path.{_≡_};
+ghost use mathlib.Core.Bool.{_&&_, not};
+ghost use mathlib.Core.List.{List};
+ghost use Prim.Native.Nat.{_+_, _<_, _≤_};
+ghost use lib.Dec.{ltb};
+ghost use lib.ListN.{length};
+ghost use Rattle.words.specs.Tests.{firstFailing, numberOf};
+ghost use Rattle.tables.specs.Tables.{tablesOf};
+ghost use Rattle.queues.specs.declared.Entry.{Entry};
+ghost use Rattle.queues.specs.Lists.{mostEntries, planRoom, stateRoom, lentAs};
+ghost use Rattle.queues.specs.Joining.{entryOf, joinOf};
+ghost use Rattle.queue_entries.specs.Seeing.{SeenOf};
+ghost use Rattle.queue_tests.specs.Changes.{Decides, queryTests, admittedBy};
+
+// The number of the first of tests 1 to 6, 9 and 10 that a query fails, or 0.
+fn query_number(rows: &[u32], pos: &[u32], osp: &[u32], plan: &[u32], state: &[u32]) -> u32
+    ensures { λ r. ⌜ r ≡ numberOf (firstFailing (queryTests (tablesOf (now (rows .entry)) (now (pos .entry)) (now (osp .entry)))
+        (now (plan .entry)) (now (state .entry)))) ⌝ }
+{
+    let number = turn_tests::check(rows, pos, osp, plan);
+    if number != 0 {
+        return number;
+    }
+    let mut bound = [Term::UNBOUND; 16];
+    state_loading::load(rows, pos, osp, plan, state, &mut bound).refused
+}
+
+// Test 17 with the joining entry.
+fn join_right(seen: Seen) -> bool
+    ensures { λ r. ⌜ r ≡ (seen .lined && seen .rested) && (not (ltb (seen .place) (seen .waiting)) && not (ltb (seen .found) (seen .resting))) ⌝ }
+{
+    if !seen.lined {
+        return false;
+    }
+    if !seen.rested {
+        return false;
+    }
+    if seen.place < seen.waiting {
+        return false;
+    }
+    seen.found >= seen.resting
+}
+
+// The entry of a query that joins.
+fn entry_of(owner: u32, allowance: u64, plan: &[u32], state: &[u32]) -> Entry
+    requires { ⌜ (length (now plan) ≤ planRoom) × (length (now state) ≤ stateRoom) ⌝ }
+    ensures { λ r. ⌜ r ≡ entryOf (record { owner = owner; allowance = allowance; plan = now (plan .entry); state = now (state .entry) }) ⌝ }
+{
+    let mut words = [0u32; 256];
+    words::copy_in(&mut words, 0, plan);
+    let mut saved = [0u32; 11];
+    words::copy_in(&mut saved, 0, state);
+    Entry {
+        allowance: allowance,
+        owner: owner,
+        planned: plan.len() as u32,
+        saved: state.len() as u32,
+        plan: words,
+        state: saved,
+    }
+}
+
+// An entry goes to the end of the line, and to the end of the list set aside if it has no steps.
+fn admitted(e: Entry, given: usize, kept: usize) -> Queueing
+    requires { ⌜ given + kept < mostEntries ⌝ }
+    ensures { λ r. ⌜ r ≡ admittedBy e given kept ⌝ }
+{
+    if e.allowance == 0 {
+        return Queueing {
+            answer: Queued::Lists(given, kept + 1),
+            line: unchanged(),
+            aside: appended(kept),
+            entry: e,
+        };
+    }
+    Queueing {
+        answer: Queued::Lists(given + 1, kept),
+        line: appended(given),
+        aside: unchanged(),
+        entry: e,
+    }
+}
+
+// How both lists change by a query that joins.
+pub fn join(
+    rows: &[u32],
+    pos: &[u32],
+    osp: &[u32],
+    seen: Seen,
+    given: usize,
+    kept: usize,
+    owner: u32,
+    allowance: u64,
+    plan: &[u32],
+    state: &[u32],
+) -> Queueing
+    ensures { λ r. ⌜ ((line aside : List Entry) → SeenOf (lentAs line given aside kept) owner seen
+        → Decides (lentAs line given aside kept) r (joinOf (tablesOf (now (rows .entry)) (now (pos .entry)) (now (osp .entry)))
+        (lentAs line given aside kept)
+        (record { owner = owner; allowance = allowance; plan = now (plan .entry); state = now (state .entry) }))) ⌝ }
+{
+    let room = room_right(seen.room, seen.spare, given, kept, 1);
+    let late = lists_number(join_right(seen), room);
+    let number = first_of(query_number(rows, pos, osp, plan, state), late);
+    if number != 0 {
+        return refused(number);
+    }
+    admitted(entry_of(owner, allowance, plan, state), given, kept)
+}

@@ -1,0 +1,3 @@
+pub mod Numbering
+pub mod Plans
+pub mod Bounds

@@ -1,0 +1,28 @@
+-- `empty_number` meets its contract: the tables, then the quantum.
+use borrow.Author.Needs.{needs}
+use mathlib.Core.Path.{_∙_}
+use Rattle.tables.specs.Tables.{tablesOf}
+use Rattle.queue_tests.specs.Changes.{firstOf}
+use Rattle.queue_turns.proofs.Numbering.{tables-then}
+use Rattle.queue_turns.proofs.numbers.empty_number.Statement.{statement}
+use Rattle.queue_turns.proofs.numbers.empty_number.Tie as tie
+
+check-requires : tie.Need-check-requires
+check-requires c κs = search needs
+
+quantum-number-requires : tie.Need-quantum-number-requires
+quantum-number-requires c κs = search needs
+
+first-of-requires : tie.Need-first-of-requires
+first-of-requires c κs = search needs
+
+returns : tie.Need-returns
+returns c =
+    let q = c .before in
+    let t = q .before in
+    let a = t .before .before .before .before .args in
+    c .first-of .ensures ∙ (λ i. firstOf (t .check .ensures i) (q .quantum-number .ensures i))
+    ∙ tables-then (tablesOf (a .rows .now) (a .pos .now) (a .osp .now)) (a .quantum)
+
+pub empty-number-spec : {M : Type 1} → statement M
+empty-number-spec = tie.close (tie.spec check-requires quantum-number-requires first-of-requires returns)

@@ -1,0 +1,106 @@
+// The numbers that refuse serving: by the front entry, by an empty line, and by both lists.
+use queue_tests::first_of;
+use queues::Entry;
+use words::Term;
+ghost use mathlib.Core.Path.{_≡_};
+ghost use mathlib.Core.Bool.{_&&_, not};
+ghost use mathlib.Core.List.{List, []};
+ghost use Prim.Native.Nat.{_≤_};
+ghost use lib.Dec.{leb, eqb};
+ghost use lib.ListN.{length};
+ghost use Rattle.words.specs.Tests.{firstFailing, numberOf};
+ghost use Rattle.tables.specs.Tables.{tablesOf};
+ghost use Rattle.turns.specs.Turns.{turnTests};
+ghost use Rattle.queues.specs.Serving.{entryTurn, frontTests, quantumTests, listTestsBy};
+ghost use Rattle.queues.specs.Lists.{planRoom, stateRoom};
+ghost use Rattle.queue_turns.specs.Services.{plannedIn};
+
+// The tests that serving makes besides those of a turn, by their numbers.
+pub const ENTRIES: u32 = 17;
+
+pub const SPACE: u32 = 18;
+
+pub const EMPTY: u32 = 19;
+
+// The most steps of a turn, and the test of the quantum.
+pub const MOST_STEPS: u32 = 1000000;
+
+pub const QUANTUM: u32 = 8;
+
+// The number of the first of tests 17, 18 and 19 that fails, or 0.
+pub fn list_number(entries: bool, room: bool, waiting: usize) -> u32
+    ensures { λ r. ⌜ r ≡ numberOf (firstFailing (listTestsBy entries room (not (eqb waiting 0)))) ⌝ }
+{
+    if !entries {
+        return ENTRIES;
+    }
+    if !room {
+        return SPACE;
+    }
+    if waiting == 0 {
+        return EMPTY;
+    }
+    0
+}
+
+// The number of the test of the quantum, or 0.
+fn quantum_number(quantum: u32) -> u32
+    ensures { λ r. ⌜ r ≡ numberOf (firstFailing (quantumTests quantum)) ⌝ }
+{
+    if quantum == 0 {
+        return QUANTUM;
+    }
+    if quantum > MOST_STEPS {
+        return QUANTUM;
+    }
+    0
+}
+
+// The number of the first test that fails with no front entry: those of the tables and of the quantum; or 0.
+pub fn empty_number(rows: &[u32], pos: &[u32], osp: &[u32], quantum: u32) -> u32
+    ensures { λ r. ⌜ r ≡ numberOf (firstFailing (frontTests (tablesOf (now (rows .entry)) (now (pos .entry)) (now (osp .entry)))
+        (record { quantum = quantum; threshold = []; output = [] }) [])) ⌝ }
+{
+    first_of(table_tests::check(rows, pos, osp), quantum_number(quantum))
+}
+
+// The words of an entry's plan: none where its count passes the array.
+pub fn planned(e: Entry) -> usize
+    ensures { λ r. ⌜ (r ≡ plannedIn e) × ((length (e .plan) ≡ planRoom) × (length (e .state) ≡ stateRoom)) ⌝ }
+{
+    if e.planned > 256 {
+        return 0;
+    }
+    e.planned as usize
+}
+
+// The number of the first of tests 1 to 11 that a turn of an entry fails, or 0.
+pub fn front_number(
+    rows: &[u32],
+    pos: &[u32],
+    osp: &[u32],
+    e: Entry,
+    quantum: u32,
+    threshold: &[u32],
+    output: &[u32],
+) -> u32
+    ensures { λ r. ⌜ r ≡ numberOf (firstFailing (turnTests (entryTurn (tablesOf (now (rows .entry)) (now (pos .entry)) (now (osp .entry)))
+        (record { quantum = quantum; threshold = now (threshold .entry); output = now (output .entry) }) e quantum))) ⌝ }
+{
+    let words = e.plan;
+    let state = e.state;
+    let count = planned(e);
+    let mut bound = [Term::UNBOUND; 16];
+    turn_tests::prepare(
+        rows,
+        pos,
+        osp,
+        &words[..count],
+        &state[..],
+        e.saved as usize,
+        quantum,
+        threshold,
+        output,
+        &mut bound,
+    ).refused
+}

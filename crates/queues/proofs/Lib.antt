@@ -1,0 +1,5 @@
+pub mod Moving
+pub mod Accounting
+pub mod Fairness
+pub mod Refusals
+pub mod Case

@@ -1,0 +1,321 @@
+-- What one call does to both lists: one of a few moves of one entry, or nothing.
+use Prim.Native.Nat.{ℕ, _-_, _≤_, min}
+use native.Mathlib.Nat.{le-trans, min-le-right}
+use native.Mathlib.Omega.{arith}
+use mathlib.Core.Path.{_≡_, refl, sym, _∙_, ap, subst}
+use mathlib.Core.Bool.{Bool, true, false, cond, _&&_, _||_, not}
+use mathlib.Core.Option.{Option, none, some}
+use mathlib.Core.List.{List, [], _∷_, _++_, map}
+use lib.ListN.{length, take}
+use lib.Seq.{take-append-seam}
+use lib.Dec.{eqb, leb}
+use borrow.Author.Tests.{eqb-true, eqb-false, eq-eqb, ne-eqb}
+use Rattle.words.specs.Sequences.{all, keep, member, distinct}
+use Rattle.words.specs.Tests.{Test, firstFailing}
+use Rattle.words.proofs.Booleans.{absurd-true, and-left, and-right, or-left, or-right}
+use Rattle.words.proofs.Testing.{none-some}
+use Rattle.tables.specs.Tables.{Tables}
+use Rattle.turns.specs.declared.TurnEnding.{TurnEnding}
+use Rattle.turns.specs.declared.TurnEnding.the-variants as ending
+use Rattle.turns.specs.Turns.{TurnResult}
+use Rattle.turns.proofs.Progress.{progresses}
+use Rattle.queues.specs.declared.Entry.{Entry}
+use Rattle.queues.specs.declared.Queued.the-variants.{Refused}
+use Rattle.queues.specs.Lists.{Lent, hasSteps, hasNone, lineOf, asideOf, placed, ownersIn, owners, entriesRight, hasOwner}
+use Rattle.queues.specs.Joining.{Joining, entryOf, joinedAs, joinOf, joinTests, listsWith}
+use Rattle.queues.specs.ToppingUp.{notOwner, withAllowance, topUpTests, toppedAs, topUpOf}
+use Rattle.queues.specs.Serving.{Serving, entryTurn, ServeResult, entryAfter, goesBack, turnedTo, frontTurn, frontServed, servedAs, serveOf}
+use Rattle.queues.specs.Serving.{serveTests, serviceWith}
+use Rattle.queues.specs.Calls.{Queue, Call, join, serve, topUp, MadeCall, lentTo, Deed, grants, turns, nothing, afterQueued, afterService, afterCall}
+use Rattle.queues.specs.Calls.{granted, tookTurn, deedOf}
+
+abbrev pub queue : List Entry → List Entry → Queue
+queue line aside = record { line = line; aside = aside }
+
+pub data Moves : Queue → Queue → Deed → Type 0 where
+  stays : {q : Queue} → Moves q q nothing
+  waits : {q : Queue} (e : Entry) → Moves q (queue (q .line ++ (e ∷ [])) (q .aside)) (grants (e .owner) (e .allowance))
+  rests : {q : Queue} (e : Entry) → e .allowance ≡ 0 → Moves q (queue (q .line) (q .aside ++ (e ∷ []))) (grants (e .owner) (e .allowance))
+  returns : (line before behind : List Entry) (e : Entry) (n : ℕ) → e .allowance ≡ 0
+      → Moves (queue line (before ++ (e ∷ behind))) (queue (line ++ (withAllowance n e ∷ [])) (before ++ behind)) (grants (e .owner) n)
+  leaves : (e : Entry) (es aside : List Entry) (n : ℕ) → n ≤ e .allowance
+      → Moves (queue (e ∷ es) aside) (queue es aside) (turns (e .owner) ending.Done n (e .allowance - n))
+  goes-on : (e d : Entry) (es aside : List Entry) (x : TurnEnding) (n : ℕ) → n ≤ e .allowance → (x ≡ ending.Done → ⊥) → d .owner ≡ e .owner
+      → d .allowance ≡ e .allowance - n
+      → Moves (queue (e ∷ es) aside) (queue (es ++ (d ∷ [])) aside) (turns (e .owner) x n (e .allowance - n))
+  runs-out : (e d : Entry) (es aside : List Entry) (x : TurnEnding) (n : ℕ) → n ≤ e .allowance → (x ≡ ending.Done → ⊥) → d .owner ≡ e .owner
+      → d .allowance ≡ e .allowance - n → d .allowance ≡ 0
+      → Moves (queue (e ∷ es) aside) (queue es (aside ++ (d ∷ []))) (turns (e .owner) x n (e .allowance - n))
+
+-- ---- both lists between calls
+pub line-lent : (q : Queue) (m : MadeCall) → lineOf (lentTo q m) ≡ q .line
+line-lent q m = take-append-seam (q .line) (m .behindLine)
+
+pub aside-lent : (q : Queue) (m : MadeCall) → asideOf (lentTo q m) ≡ q .aside
+aside-lent q m = take-append-seam (q .aside) (m .behindAside)
+
+taken : (es buffer : List Entry) → take (length es) (placed es buffer) ≡ es
+taken es buffer = take-append-seam es _
+
+pub both-taken : (l : Lent) (line aside : List Entry) (line′ aside′ : List Entry) → line ≡ line′ → aside ≡ aside′
+    → queue (take (length line) (placed line (l .line))) (take (length aside) (placed aside (l .aside))) ≡ queue line′ aside′
+both-taken l line aside line′ aside′ e f = λ i. queue ((taken line (l .line) ∙ e) i) ((taken aside (l .aside) ∙ f) i)
+
+-- ---- joining
+module _ (t : Tables) (q : Queue) (m : MadeCall) where
+  abbrev l : Lent
+  l = lentTo q m
+
+  join-moves : (j : Joining) (o : Option ℕ) → firstFailing (joinTests t l j) ≡ o
+      → Moves q (afterQueued q (joinedAs l j o) (joinedAs l j o .answer)) (granted (j .owner) (j .allowance) (joinedAs l j o .answer))
+  join-moves j (some x) e = stays
+  join-moves j none e = by-steps (eqb (j .allowance) 0) refl
+    where
+      d : Entry
+      d = entryOf j
+
+      -- whichever list it goes to
+      by-steps : (b : Bool) → eqb (j .allowance) 0 ≡ b
+          → Moves q (afterQueued q (cond b (listsWith l (lineOf l) (asideOf l ++ (d ∷ []))) (listsWith l (lineOf l ++ (d ∷ [])) (asideOf l)))
+          (cond b (listsWith l (lineOf l) (asideOf l ++ (d ∷ []))) (listsWith l (lineOf l ++ (d ∷ [])) (asideOf l)) .answer))
+          (granted (j .owner) (j .allowance)
+          (cond b (listsWith l (lineOf l) (asideOf l ++ (d ∷ []))) (listsWith l (lineOf l ++ (d ∷ [])) (asideOf l)) .answer))
+      by-steps true z =
+          subst (λ (x : Queue). Moves q x (grants (j .owner) (j .allowance)))
+          (sym (both-taken l (lineOf l) (asideOf l ++ (d ∷ [])) (q .line) (q .aside ++ (d ∷ [])) (line-lent q m)
+          (ap (λ es. es ++ (d ∷ [])) (aside-lent q m))))
+          (rests d (eqb-true (j .allowance) 0 z))
+      by-steps false z =
+          subst (λ (x : Queue). Moves q x (grants (j .owner) (j .allowance)))
+          (sym (both-taken l (lineOf l ++ (d ∷ [])) (asideOf l) (q .line ++ (d ∷ [])) (q .aside) (ap (λ es. es ++ (d ∷ [])) (line-lent q m))
+          (aside-lent q m)))
+          (waits d)
+
+-- ---- topping up
+pub distinct-right : (xs ys : List ℕ) → distinct (xs ++ ys) ≡ true → distinct ys ≡ true
+unfolding distinct
+distinct-right [] ys d = d
+distinct-right (x ∷ xs) ys d = distinct-right xs ys (and-right (not (member x (xs ++ ys))) (distinct (xs ++ ys)) d)
+
+pub same-either-way : (a b : ℕ) (c : Bool) → eqb a b ≡ c → eqb b a ≡ c
+same-either-way a b true e = rw (eqb-true a b e) (eq-eqb b b refl)
+same-either-way a b false e = ne-eqb b a (λ f. eqb-false a b e (sym f))
+
+-- no entry of the owner's: none is kept out
+pub kept-none : (owner : ℕ) (es : List Entry) → member owner (ownersIn es) ≡ false
+    → (keep (hasOwner owner) es ≡ []) × (keep (notOwner owner) es ≡ es)
+unfolding member keep
+kept-none owner [] h = (refl, refl)
+kept-none owner (e ∷ es) h =
+    let other = same-either-way owner (e .owner) false (or-left (eqb owner (e .owner)) (member owner (ownersIn es)) h) in
+    let rest = kept-none owner es (or-right (eqb owner (e .owner)) (member owner (ownersIn es)) h) in
+    (rw other (rest .0), rw other (ap (λ (xs : List Entry). e ∷ xs) (rest .1)))
+
+pub record Found (owner : ℕ) (es : List Entry) : Type 0 where
+  pub before : List Entry
+  pub entry : Entry
+  pub behind : List Entry
+  pub whole : es ≡ before ++ (entry ∷ behind)
+  pub its : entry .owner ≡ owner
+  pub nothing-left : entry .allowance ≡ 0
+  pub taken-out : keep (hasOwner owner) es ≡ entry ∷ []
+  pub others : keep (notOwner owner) es ≡ before ++ behind
+
+pub found : (owner : ℕ) (es : List Entry) → member owner (ownersIn es) ≡ true → distinct (ownersIn es) ≡ true → all hasNone es ≡ true
+    → Found owner es
+unfolding member distinct keep all
+found owner [] h d z = absurd-true h refl
+found owner (e ∷ es) h d z =
+    by-owner (λ m. found owner es m (and-right (not (member (e .owner) (ownersIn es))) (distinct (ownersIn es)) d) (and-right (hasNone e) (all hasNone es) z))
+    (eqb (e .owner) owner) refl
+  where
+    by-owner : (member owner (ownersIn es) ≡ true → Found owner es) → (b : Bool) → eqb (e .owner) owner ≡ b → Found owner (e ∷ es)
+    by-owner again true same =
+        let none-behind : member owner (ownersIn es) ≡ false = rw (← eqb-true (e .owner) owner same)
+        (not-member (member (e .owner) (ownersIn es)) (and-left (not (member (e .owner) (ownersIn es))) (distinct (ownersIn es)) d)) in
+        record {
+          before = [];
+          entry = e;
+          behind = es;
+          whole = refl;
+          its = eqb-true (e .owner) owner same;
+          nothing-left = eqb-true (e .allowance) 0 (and-left (hasNone e) (all hasNone es) z);
+          taken-out = rw same (ap (λ (xs : List Entry). e ∷ xs) (kept-none owner es none-behind .0));
+          others = rw same (kept-none owner es none-behind .1);
+        }
+      where
+        not-member : (b : Bool) → not b ≡ true → b ≡ false
+        not-member true f = sym f
+        not-member false f = refl
+    by-owner again false other =
+        let rest = again (or-second (same-either-way (e .owner) owner false other) h) in
+        record {
+          before = e ∷ rest .before;
+          entry = rest .entry;
+          behind = rest .behind;
+          whole = ap (λ (xs : List Entry). e ∷ xs) (rest .whole);
+          its = rest .its;
+          nothing-left = rest .nothing-left;
+          taken-out = rw other (rest .taken-out);
+          others = rw other (ap (λ (xs : List Entry). e ∷ xs) (rest .others));
+        }
+      where
+        or-second : {a b : Bool} → a ≡ false → (a || b) ≡ true → b ≡ true
+        or-second {a} {b} f g = rw f at g
+
+pub first-passes : (b : Bool) (x : ℕ) (xs : List Test) → firstFailing ((x, b) ∷ xs) ≡ none → b ≡ true
+unfolding firstFailing
+first-passes true x xs h = refl
+first-passes false x xs h = absurd (none-some (sym h))
+
+module _ (q : Queue) (m : MadeCall) where
+  abbrev lent : Lent
+  lent = lentTo q m
+
+  pub topped-up : (owner n : ℕ) → firstFailing (topUpTests lent owner n) ≡ none → Found owner (q .aside)
+  topped-up owner n e = f
+    where
+      right : entriesRight lent && (leb 1 n && member owner (ownersIn (asideOf lent))) ≡ true
+      right = first-passes _ 17 _ e
+
+      all-owners : Bool
+      all-owners = distinct (owners lent)
+
+      allowances : Bool
+      allowances = all hasSteps (lineOf lent) && all hasNone (asideOf lent)
+
+      f : Found owner (q .aside)
+      f =
+          let entries = and-left (entriesRight lent) (leb 1 n && member owner (ownersIn (asideOf lent))) right in
+          let named = and-right (leb 1 n) (member owner (ownersIn (asideOf lent)))
+          (and-right (entriesRight lent) (leb 1 n && member owner (ownersIn (asideOf lent))) right) in
+          let apart = distinct-right (ownersIn (lineOf lent)) (ownersIn (asideOf lent)) (and-left all-owners allowances entries) in
+          let rest = and-right (all hasSteps (lineOf lent)) (all hasNone (asideOf lent)) (and-right all-owners allowances entries) in
+          subst (λ (es : List Entry). Found owner es) (aside-lent q m) (found owner (asideOf lent) named apart rest)
+
+  top-up-moves : (owner n : ℕ) (o : Option ℕ) → firstFailing (topUpTests lent owner n) ≡ o
+      → Moves q (afterQueued q (toppedAs lent owner n o) (toppedAs lent owner n o .answer)) (granted owner n (toppedAs lent owner n o .answer))
+  top-up-moves owner n (some x) e = stays
+  top-up-moves owner n none e =
+      subst (λ (x : Queue). Moves q x (grants owner n))
+      (sym (both-taken lent (lineOf lent ++ map (withAllowance n) (keep (hasOwner owner) (asideOf lent))) (keep (notOwner owner) (asideOf lent))
+      (q .line ++ (withAllowance n (topped-up owner n e .entry) ∷ [])) (topped-up owner n e .before ++ topped-up owner n e .behind)
+      (λ i. line-lent q m i ++ map (withAllowance n) ((ap (λ es. keep (hasOwner owner) es) (aside-lent q m) ∙ topped-up owner n e .taken-out) i))
+      (ap (λ es. keep (notOwner owner) es) (aside-lent q m) ∙ topped-up owner n e .others)))
+      (subst (λ (x : ℕ). Moves q
+      (queue (q .line ++ (withAllowance n (topped-up owner n e .entry) ∷ [])) (topped-up owner n e .before ++ topped-up owner n e .behind))
+      (grants x n)) (topped-up owner n e .its)
+      (subst (λ (x : List Entry). Moves (queue (q .line) x)
+      (queue (q .line ++ (withAllowance n (topped-up owner n e .entry) ∷ [])) (topped-up owner n e .before ++ topped-up owner n e .behind))
+      (grants (topped-up owner n e .entry .owner) n)) (sym (topped-up owner n e .whole))
+      (returns (q .line) (topped-up owner n e .before) (topped-up owner n e .behind) (topped-up owner n e .entry) n (topped-up owner n e .nothing-left))))
+
+-- ---- serving
+module _ (t : Tables) (q : Queue) (m : MadeCall) (s : Serving) where
+  abbrev held : Lent
+  held = lentTo q m
+
+  module _ (e : Entry) (es : List Entry) (line-is : lineOf held ≡ e ∷ es) where
+    abbrev r : TurnResult
+    r = frontTurn t s e
+
+    abbrev n : ℕ
+    n = r .answer .steps
+
+    -- a turn that is not refused takes no more steps than are left
+    within : ((x : ℕ) → r .answer .ending ≡ ending.Refused x → ⊥) → n ≤ e .allowance
+    within h = le-trans (progresses (entryTurn t s e (min (s .quantum) (e .allowance))) h .within) (min-le-right (s .quantum) (e .allowance))
+
+    front : q .line ≡ e ∷ es
+    front = sym (line-lent q m) ∙ line-is
+
+    from-front : {after : Queue} {d : Deed} → Moves (queue (e ∷ es) (q .aside)) after d → Moves q after d
+    from-front {after} {d} h = subst (λ (es′ : List Entry). Moves (queue es′ (q .aside)) after d) (sym front) h
+
+    -- both lists, and the deed, of a turn that ended so
+    to-lists : (line aside line′ aside′ : List Entry) (x : TurnEnding) → r .answer .ending ≡ x → line ≡ line′ → aside ≡ aside′
+        → Moves q (queue line′ aside′) (turns (e .owner) x n (e .allowance - n))
+        → ((y : ServeResult) (z : TurnEnding) → z ≡ x
+        → Moves q (queue (take (y .answer .waiting) (y .line)) (take (y .answer .resting) (y .aside)))
+        (turns (y .answer .owner) x (y .answer .turned .steps) (y .answer .left))
+        → Moves q (afterService q y z) (tookTurn y z))
+        → Moves q (afterService q (serviceWith held e r line aside) (r .answer .ending)) (tookTurn (serviceWith held e r line aside) (r .answer .ending))
+    to-lists line aside line′ aside′ x is f g h k =
+        k (serviceWith held e r line aside) (r .answer .ending) is
+        (subst (λ (y : Queue). Moves q y (turns (e .owner) x n (e .allowance - n))) (sym (both-taken held line aside line′ aside′ f g)) h)
+
+    done : (y : ServeResult) (z : TurnEnding) → z ≡ ending.Done
+        → Moves q (queue (take (y .answer .waiting) (y .line)) (take (y .answer .resting) (y .aside)))
+        (turns (y .answer .owner) ending.Done (y .answer .turned .steps) (y .answer .left))
+        → Moves q (afterService q y z) (tookTurn y z)
+    done y z is h = subst (λ (x : TurnEnding). Moves q (afterService q y x) (tookTurn y x)) (sym is) h
+
+    spent : (y : ServeResult) (z : TurnEnding) → z ≡ ending.Spent
+        → Moves q (queue (take (y .answer .waiting) (y .line)) (take (y .answer .resting) (y .aside)))
+        (turns (y .answer .owner) ending.Spent (y .answer .turned .steps) (y .answer .left))
+        → Moves q (afterService q y z) (tookTurn y z)
+    spent y z is h = subst (λ (x : TurnEnding). Moves q (afterService q y x) (tookTurn y x)) (sym is) h
+
+    full : (y : ServeResult) (z : TurnEnding) → z ≡ ending.Full
+        → Moves q (queue (take (y .answer .waiting) (y .line)) (take (y .answer .resting) (y .aside)))
+        (turns (y .answer .owner) ending.Full (y .answer .turned .steps) (y .answer .left))
+        → Moves q (afterService q y z) (tookTurn y z)
+    full y z is h = subst (λ (x : TurnEnding). Moves q (afterService q y x) (tookTurn y x)) (sym is) h
+
+    back : (x : TurnEnding) → r .answer .ending ≡ x → (x ≡ ending.Done → ⊥) → ((y : ℕ) → x ≡ ending.Refused y → ⊥)
+        → ((y : ServeResult) (z : TurnEnding) → z ≡ x
+        → Moves q (queue (take (y .answer .waiting) (y .line)) (take (y .answer .resting) (y .aside)))
+        (turns (y .answer .owner) x (y .answer .turned .steps) (y .answer .left))
+        → Moves q (afterService q y z) (tookTurn y z))
+        → Moves q (afterService q (goesBack held e es r) (goesBack held e es r .answer .turned .ending))
+        (tookTurn (goesBack held e es r) (goesBack held e es r .answer .turned .ending))
+    back x is not-done served k = by-left (eqb (e .allowance - n) 0) refl
+      where
+        d : Entry
+        d = entryAfter e r
+
+        few : n ≤ e .allowance
+        few = within (λ y h. served y (sym is ∙ h))
+
+        choose : Bool → ServeResult
+        choose b = cond b (serviceWith held e r es (asideOf held ++ (d ∷ []))) (serviceWith held e r (es ++ (d ∷ [])) (asideOf held))
+
+        by-left : (b : Bool) → eqb (e .allowance - n) 0 ≡ b
+            → Moves q (afterService q (choose b) (choose b .answer .turned .ending)) (tookTurn (choose b) (choose b .answer .turned .ending))
+        by-left true z =
+            to-lists es (asideOf held ++ (d ∷ [])) es (q .aside ++ (d ∷ [])) x is refl (ap (λ (ds : List Entry). ds ++ (d ∷ [])) (aside-lent q m))
+            (from-front (runs-out e d es (q .aside) x n few not-done refl refl (eqb-true (e .allowance - n) 0 z))) k
+        by-left false z =
+            to-lists (es ++ (d ∷ [])) (asideOf held) (es ++ (d ∷ [])) (q .aside) x is refl (aside-lent q m)
+            (from-front (goes-on e d es (q .aside) x n few not-done refl refl)) k
+
+    by-ending : (x : TurnEnding) → r .answer .ending ≡ x
+        → Moves q (afterService q (turnedTo held s e es r x) (turnedTo held s e es r x .answer .turned .ending))
+        (tookTurn (turnedTo held s e es r x) (turnedTo held s e es r x .answer .turned .ending))
+    by-ending ending.Done is =
+        to-lists es (asideOf held) es (q .aside) ending.Done is refl (aside-lent q m)
+        (from-front (leaves e es (q .aside) n (within (λ y h. let z : _≡_ {A = ℕ} 0 1 = cc in omega arith)))) done
+    by-ending ending.Spent is = back ending.Spent is (λ h. let z : _≡_ {A = ℕ} 0 1 = cc in omega arith) (λ y h. let z : _≡_ {A = ℕ} 0 1 = cc in
+        omega arith) spent
+    by-ending ending.Full is = back ending.Full is (λ h. let z : _≡_ {A = ℕ} 0 1 = cc in omega arith) (λ y h. let z : _≡_ {A = ℕ} 0 1 = cc in
+        omega arith) full
+    by-ending (ending.Refused x) is = stays
+
+  by-line : (es : List Entry) → lineOf held ≡ es
+      → Moves q (afterService q (frontServed t held s es) (frontServed t held s es .answer .turned .ending))
+      (tookTurn (frontServed t held s es) (frontServed t held s es .answer .turned .ending))
+  by-line [] is = stays
+  by-line (e ∷ es) is = by-ending e es is (frontTurn t s e .answer .ending) refl
+
+  serve-moves : (o : Option ℕ)
+      → Moves q (afterService q (servedAs t held s o) (servedAs t held s o .answer .turned .ending))
+      (tookTurn (servedAs t held s o) (servedAs t held s o .answer .turned .ending))
+  serve-moves (some x) = stays
+  serve-moves none = by-line (lineOf held) refl
+
+-- what one call does
+pub call-moves : (t : Tables) (q : Queue) (m : MadeCall) (c : Call) → Moves q (afterCall t q (lentTo q m) c) (deedOf t (lentTo q m) c)
+unfolding joinOf topUpOf serveOf
+call-moves t q m (join j) = join-moves t q m j (firstFailing (joinTests t (lentTo q m) j)) refl
+call-moves t q m (serve s) = serve-moves t q m s (firstFailing (serveTests t (lentTo q m) s))
+call-moves t q m (topUp owner n) = top-up-moves q m owner n (firstFailing (topUpTests (lentTo q m) owner n)) refl

@@ -1,0 +1,74 @@
+-- Joining: its tests in order, its answer, and both lists at exit. Assumes nothing: these are definitions.
+use Prim.Native.Nat.{ℕ}
+use mathlib.Core.Bool.{Bool, cond, _&&_, not}
+use mathlib.Core.Option.{Option, none, some}
+use mathlib.Core.List.{List, [], _∷_, _++_}
+use lib.ListN.{length}
+use lib.Dec.{eqb}
+use Rattle.words.specs.Sequences.{member}
+use Rattle.words.specs.Tests.{Test, firstFailing}
+use Rattle.tables.specs.Tables.{Tables, tableTests}
+use Rattle.plans.specs.Plans.{planOf, planTests}
+use Rattle.steps.specs.Saved.{shapeRight, placesRight}
+use Rattle.queues.specs.declared.Entry.{Entry}
+use Rattle.queues.specs.declared.Queued.{Queued}
+use Rattle.queues.specs.declared.Queued.the-variants.{Lists, Refused}
+use Rattle.queues.specs.Lists.{Lent, lineOf, asideOf, planRoom, stateRoom, filled, placed, owners, entriesRight, roomRight}
+
+-- who joins, with how many steps, which plan and which state
+pub record Joining : Type 0 where
+  pub owner : ℕ
+  pub allowance : ℕ
+  pub plan : List ℕ
+  pub state : List ℕ
+
+-- 1 to 6, 9 and 10 on the plan and the state that join; then 17 and 18 of both lists with the joining entry
+abbrev pub joinTestsBy : Tables → List ℕ → List ℕ → Bool → Bool → List Test
+joinTestsBy t plan state entries room =
+    tableTests t
+    ++ (planTests plan
+    ++ ((9, shapeRight (planOf plan) state)
+    ∷ (10, placesRight t (planOf plan) state)
+    ∷ (17, entries)
+    ∷ (18, room)
+    ∷ []))
+
+abbrev pub joinTests : Tables → Lent → Joining → List Test
+joinTests t l j = joinTestsBy t (j .plan) (j .state) (entriesRight l && not (member (j .owner) (owners l))) (roomRight 1 l)
+
+abbrev pub entryOf : Joining → Entry
+entryOf j =
+    record {
+      allowance = j .allowance;
+      owner = j .owner;
+      planned = length (j .plan);
+      saved = length (j .state);
+      plan = filled planRoom (j .plan);
+      state = filled stateRoom (j .state);
+    }
+
+-- what joining and topping up leave
+pub record QueuedResult : Type 0 where
+  pub answer : Queued
+  pub line : List Entry
+  pub aside : List Entry
+
+abbrev pub listsWith : Lent → List Entry → List Entry → QueuedResult
+listsWith l line aside =
+    record { answer = Lists (length line) (length aside); line = placed line (l .line); aside = placed aside (l .aside) }
+
+-- a refusal changes no entry
+abbrev pub listsAsWere : Lent → ℕ → QueuedResult
+listsAsWere l x = record { answer = Refused x; line = l .line; aside = l .aside }
+
+-- an entry goes to the end of the line, and to the end of the list set aside if it has no steps
+abbrev pub admitted : Lent → Entry → QueuedResult
+admitted l e =
+    cond (eqb (e .allowance) 0) (listsWith l (lineOf l) (asideOf l ++ (e ∷ []))) (listsWith l (lineOf l ++ (e ∷ [])) (asideOf l))
+
+abbrev pub joinedAs : Lent → Joining → Option ℕ → QueuedResult
+joinedAs l j (some x) = listsAsWere l x
+joinedAs l j none = admitted l (entryOf j)
+
+unfoldable pub joinOf : Tables → Lent → Joining → QueuedResult
+joinOf t l j = joinedAs l j (firstFailing (joinTests t l j))
