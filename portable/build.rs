@@ -18,7 +18,7 @@ use std::{env, fs, process};
 /// The crate of the calls: it and all that it uses are the library.
 const CALLS: &str = "sotjarn";
 /// The crate of the turn printer, whose `print_path` the program `turns` calls: it and what it uses beside the library.
-const PRINTER: &str = "print_rounds";
+const PRINTER: &str = "print_files";
 /// Rattle's own crates, which only the printer uses; src/bin/turns/ has modules of these names that stand in for them.
 const KIT: [&str; 3] = ["io", "os", "libc"];
 /// The library's name, for paths from the program.

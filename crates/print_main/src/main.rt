@@ -11,5 +11,5 @@ fn main() {
         );
         return;
     }
-    print_rounds::print_path(&path[..length]);
+    print_files::print_path(&path[..length]);
 }

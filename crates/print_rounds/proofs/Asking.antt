@@ -14,7 +14,7 @@ use Rattle.print_writing.specs.declared.Listing.{Listing}
 use Rattle.print_writing.specs.Listings.{ListsOf}
 use Rattle.print_writing.specs.FileQueries.{fileTables, filePlan, fileQuantum, Asks, stateRoom, outputRoom, keptRoom}
 use Rattle.print_writing.specs.Shown.{mostTurns, CanOpen, TurnShown, RefusedBy, by-opening, LeftToShow}
-use Rattle.print_rounds.proofs.KeptLists.{left-to-show}
+use Rattle.print_showing.proofs.KeptLists.{left-to-show}
 
 module _ (bytes rows pos osp plan : List ℕ) (quantum : ℕ) (a : Asks bytes rows pos osp plan quantum) where
   abbrev t : Tables

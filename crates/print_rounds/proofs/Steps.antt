@@ -15,7 +15,7 @@ use Rattle.queries.specs.Playing.{StandsAfter, Shows}
 use Rattle.queries.proofs.Taking.{step-turned, step-output}
 use Rattle.queries.proofs.Showing.{shows}
 use Rattle.print_writing.specs.Shown.{CanOpen}
-use Rattle.print_rounds.proofs.TurnLists.{listed-room}
+use Rattle.print_showing.proofs.TurnLists.{listed-room}
 
 module _ (i : TurnInput) (kept : List ℕ) (used : ℕ) (r : Step) (state out left : List ℕ)
     (h : record { answer = r; state = state; output = out; kept = left } ≡ takeTurnOf Merged i kept used) where

@@ -1,8 +1,93 @@
-// A whole query, played over lent buffers: opened, run turn by turn, and the list of each turn taken.
-mod playing;
-mod stepping;
+// A whole query, played over lent buffers, from its opening on: turns of one quantum, each list taken, until it is done or so many turns are made.
+use queries::Keeping;
+use queries::Played;
+use queries::Went;
+use query_turns::advance;
+use words::Written;
+ghost use mathlib.Core.Path.{_≡_};
+ghost use Rattle.tables.specs.Tables.{tablesOf};
+ghost use Rattle.queries.specs.declared.Keeping.the-variants.{All};
+ghost use Rattle.queries.specs.Rounds.{buffers, firstPosition, rounds, resultAt, playOf};
 
-pub use playing::play;
-pub use stepping::is_served;
-pub use stepping::outcome;
-pub use stepping::take_turn;
+// Turns from an opening's state on, at most so many, and the list of each taken.
+fn go_on(
+    rows: &[u32],
+    pos: &[u32],
+    osp: &[u32],
+    plan: &[u32],
+    quantum: u32,
+    most: u64,
+    state: &mut [u32],
+    opened: usize,
+    output: &mut [u32],
+    kept: &mut [u32],
+) -> Played
+    ensures { λ r. ⌜ record { answer = r; held = buffers (now (state .exit)) (now (output .exit)) (now (kept .exit)) }
+        ≡ resultAt (rounds All (tablesOf (now (rows .entry)) (now (pos .entry)) (now (osp .entry))) (now (plan .entry)) quantum most
+        (firstPosition opened (buffers (now (state .entry)) (now (output .entry)) (now (kept .entry))))) ⌝ }
+{
+    let mut saved = opened;
+    let mut used: usize = 0;
+    let mut n: u64 = 0;
+    while n < most {
+        let went = advance(
+            rows,
+            pos,
+            osp,
+            plan,
+            state,
+            saved,
+            quantum,
+            output,
+            kept,
+            used,
+            Keeping::All,
+        );
+        match went {
+            Went::On { saved: left, words } => {
+                saved = left;
+                used = words;
+                n += 1;
+            }
+            Went::Over(words) => return Played::Finished(words),
+            Went::Stopped(x) => return Played::Stopped(x),
+        }
+    }
+    Played::Unfinished {
+        saved: saved,
+        words: used,
+    }
+}
+
+// Opens a query and plays it: at most so many turns of the quantum, each turn's list taken into the kept buffer.
+pub fn play(
+    rows: &[u32],
+    pos: &[u32],
+    osp: &[u32],
+    plan: &[u32],
+    quantum: u32,
+    most: u64,
+    state: &mut [u32],
+    output: &mut [u32],
+    kept: &mut [u32],
+) -> Played
+    ensures { λ r. ⌜ record { answer = r; held = buffers (now (state .exit)) (now (output .exit)) (now (kept .exit)) }
+        ≡ playOf All (tablesOf (now (rows .entry)) (now (pos .entry)) (now (osp .entry))) (now (plan .entry)) quantum most
+        (buffers (now (state .entry)) (now (output .entry)) (now (kept .entry))) ⌝ }
+{
+    match turn_calls::open(rows, pos, osp, plan, state) {
+        Written::Refused(x) => Played::Refused(x),
+        Written::Words(opened) => go_on(
+            rows,
+            pos,
+            osp,
+            plan,
+            quantum,
+            most,
+            state,
+            opened,
+            output,
+            kept,
+        ),
+    }
+}

@@ -12,7 +12,7 @@ fn print_argument(i: usize) {
     io::write_all(STDOUT_FILENO, b"file ");
     io::write_all(STDOUT_FILENO, &path[..length]);
     io::write_all(STDOUT_FILENO, b"\n");
-    print_rounds::print_path(&path[..length]);
+    print_files::print_path(&path[..length]);
 }
 
 fn main() {

@@ -1,0 +1,2 @@
+pub mod TurnLists
+pub mod KeptLists

@@ -1,0 +1,67 @@
+// The list of a served turn, taken: merged into the kept one, joined behind it, or left.
+use plans::Last;
+use queries::Keeping;
+use words::Written;
+ghost use mathlib.Core.Path.{_≡_};
+ghost use mathlib.Core.Bool.{true};
+ghost use Rattle.plans.specs.Plans.{readPlan, hasForm, planOf};
+ghost use Rattle.lists.specs.Gathering.{isRows};
+ghost use Rattle.queries.specs.Stepping.{joinOf, rowsTaken, listTaken};
+
+// What a join that has no room is refused by.
+pub const ROOM: u32 = 14;
+
+// Whether a plan ends in rows.
+fn is_rows(plan: &[u32]) -> bool
+    requires { ⌜ hasForm (readPlan (now plan)) ≡ true ⌝ }
+    ensures { λ r. ⌜ r ≡ isRows (planOf (now (plan .entry)) .ending) ⌝ }
+{
+    match plans::ending_kind(plans::ending_part(plan)) {
+        Last::Rows => true,
+        Last::Top => false,
+        Last::Group => false,
+        Last::Neither => false,
+    }
+}
+
+// Joins a turn's rows behind those kept, or refuses where the buffer has no room for them.
+fn join(kept: &mut [u32], used: usize, list: &[u32]) -> Written
+    ensures { λ r. ⌜ record { answer = r; kept = now (kept .exit) } ≡ joinOf (now (kept .entry)) used (now (list .entry)) ⌝ }
+{
+    if kept.len() < used {
+        return Written::Refused(ROOM);
+    }
+    if kept.len() - used < list.len() {
+        return Written::Refused(ROOM);
+    }
+    words::copy_in(kept, used, list);
+    Written::Words(used + list.len())
+}
+
+// Takes a turn's rows: joined where all lists are kept, else left in the output.
+fn take_rows(kept: &mut [u32], used: usize, list: &[u32], keeping: Keeping) -> Written
+    ensures { λ r. ⌜ record { answer = r; kept = now (kept .exit) } ≡ rowsTaken keeping (now (kept .entry)) used (now (list .entry)) ⌝ }
+{
+    match keeping {
+        Keeping::All => join(kept, used, list),
+        Keeping::Merged => Written::Words(used),
+    }
+}
+
+// Takes the list of a served turn: rows by which lists are kept, any other list merged.
+pub fn take_list(
+    plan: &[u32],
+    kept: &mut [u32],
+    used: usize,
+    list: &[u32],
+    keeping: Keeping,
+) -> Written
+    requires { ⌜ hasForm (readPlan (now plan)) ≡ true ⌝ }
+    ensures { λ r. ⌜ record { answer = r; kept = now (kept .exit) }
+        ≡ listTaken keeping (now (plan .entry)) (now (kept .entry)) used (now (list .entry)) ⌝ }
+{
+    if is_rows(plan) {
+        return take_rows(kept, used, list, keeping);
+    }
+    merges::merge(plan, kept, used, list)
+}

@@ -1,0 +1,141 @@
+-- `go_on` meets its contract: after each turn its variables and buffers are those of so many rounds.
+use borrow.Author.Needs.{needs}
+use Prim.Native.Nat.{_+_, _-_, _≤_}
+use native.Mathlib.Omega.{arith}
+use mathlib.Core.Path.{_≡_, refl, sym, _∙_, ap}
+use lib.ListN.{length}
+use Rattle.tables.specs.Tables.{tablesOf}
+use Rattle.queries.specs.declared.Keeping.the-variants.{All}
+use Rattle.queries.specs.declared.Went.the-variants.{On}
+use Rattle.queries.specs.Rounds.{firstPosition, rounds, resultAt}
+use Rattle.queries.proofs.Rounds.{rounds-none, rounds-next, rounds-made, rounds-over, rounds-stopped}
+use Rattle.query_plays.proofs.go_on.Statement.{statement}
+use Rattle.query_plays.proofs.go_on.Tie as tie
+
+abbrev Inv-loop : tie.InvT-loop
+Inv-loop rows pos osp plan quantum most state₀ opened output₀ kept₀ saved₀ used₀ n₀ state output kept saved used n =
+    (n ≤ most) × (length state ≡ length state₀) × (length output ≡ length output₀) × (length kept ≡ length kept₀)
+    × (rounds All (tablesOf rows pos osp) plan quantum n (firstPosition opened (record { state = state₀; output = output₀; kept = kept₀ }))
+    ≡ record { went = On saved used; held = record { state = state; output = output; kept = kept } })
+
+abbrev μ-loop : tie.MeasureT-loop
+μ-loop rows pos osp plan quantum most state₀ opened output₀ kept₀ saved₀ used₀ n₀ state output kept saved used n = most - n
+
+loop-holds : tie.Need-loop-holds Inv-loop μ-loop
+loop-holds c = (omega arith, refl, refl, refl, rounds-none All _ _ _ _)
+
+advance-requires : tie.Need-advance-requires Inv-loop μ-loop
+advance-requires c κs = search needs
+
+enum-known-went : tie.Need-enum-known-went Inv-loop μ-loop
+enum-known-went c = search needs
+
+add-n : tie.Need-add-n Inv-loop μ-loop
+add-n c = omega arith
+
+loop-less : tie.Need-loop-less Inv-loop μ-loop
+loop-less c = omega arith
+
+loop-again : tie.Need-loop-again Inv-loop μ-loop
+loop-again c =
+    let d = c .before .before .before .before .before .before .before .before .before in
+    let l = d .before .before .before .before .before .loop in
+    let e = rounds-next All _ _ _ _ (l .n) (l .saved) (l .used) _ (l .inv .4) (d .advance .result) _ (d .advance .ensures) _ (c .before .went .given .1) in (
+      omega arith,
+      c .before .before .before .before .before .before .before .before .state .given ∙ l .inv .1,
+      c .before .before .before .before .before .before .output .given ∙ l .inv .2,
+      c .before .before .before .before .kept .given ∙ l .inv .3,
+      e,
+    )
+
+enum-known-went-2 : tie.Need-enum-known-went-2 Inv-loop μ-loop
+enum-known-went-2 c = search needs
+
+same-length : tie.Need-same-length Inv-loop μ-loop
+same-length c =
+    let l = c .before .before .before .before .before .before .before .before .before .before .before .before .before .before in
+    c .before .before .before .before .before .before .before .before .state .given ∙ l .loop .inv .1
+
+same-length-2 : tie.Need-same-length-2 Inv-loop μ-loop
+same-length-2 c =
+    let l = c .before .before .before .before .before .before .before .before .before .before .before .before .before .before in
+    c .before .before .before .before .before .before .output .given ∙ l .loop .inv .2
+
+same-length-3 : tie.Need-same-length-3 Inv-loop μ-loop
+same-length-3 c =
+    let l = c .before .before .before .before .before .before .before .before .before .before .before .before .before .before in
+    c .before .before .before .before .kept .given ∙ l .loop .inv .3
+
+returns : tie.Need-returns Inv-loop μ-loop
+returns c =
+    let d = c .before .before .before .before .before .before .before .before .before in
+    let l = d .before .before .before .before .before .loop in
+    let e = rounds-next All _ _ _ _ (l .n) (l .saved) (l .used) _ (l .inv .4) (d .advance .result) _ (d .advance .ensures) _ (c .before .went2 .given .1) in
+    sym (ap resultAt (rounds-over All _ _ _ _ (l .n + 1) _ (omega arith) _ _ e))
+
+enum-known-went-3 : tie.Need-enum-known-went-3 Inv-loop μ-loop
+enum-known-went-3 c = search needs
+
+same-length-4 : tie.Need-same-length-4 Inv-loop μ-loop
+same-length-4 c =
+    let l = c .before .before .before .before .before .before .before .before .before .before .before .before .before .before in
+    c .before .before .before .before .before .before .before .before .state .given ∙ l .loop .inv .1
+
+same-length-5 : tie.Need-same-length-5 Inv-loop μ-loop
+same-length-5 c =
+    let l = c .before .before .before .before .before .before .before .before .before .before .before .before .before .before in
+    c .before .before .before .before .before .before .output .given ∙ l .loop .inv .2
+
+same-length-6 : tie.Need-same-length-6 Inv-loop μ-loop
+same-length-6 c =
+    let l = c .before .before .before .before .before .before .before .before .before .before .before .before .before .before in
+    c .before .before .before .before .kept .given ∙ l .loop .inv .3
+
+returns-2 : tie.Need-returns-2 Inv-loop μ-loop
+returns-2 c =
+    let d = c .before .before .before .before .before .before .before .before .before in
+    let l = d .before .before .before .before .before .loop in
+    let e = rounds-next All _ _ _ _ (l .n) (l .saved) (l .used) _ (l .inv .4) (d .advance .result) _ (d .advance .ensures) _ (c .before .went3 .given .1) in
+    sym (ap resultAt (rounds-stopped All _ _ _ _ (l .n + 1) _ (omega arith) _ _ e))
+
+same-length-7 : tie.Need-same-length-7 Inv-loop μ-loop
+same-length-7 c = c .before .loop .inv .1
+
+same-length-8 : tie.Need-same-length-8 Inv-loop μ-loop
+same-length-8 c = c .before .loop .inv .2
+
+same-length-9 : tie.Need-same-length-9 Inv-loop μ-loop
+same-length-9 c = c .before .loop .inv .3
+
+returns-3 : tie.Need-returns-3 Inv-loop μ-loop
+returns-3 c =
+    let l = c .before .loop in
+    let e : l .n ≡ c .before .before .before .before .before .before .before .before .before .args .most = omega (arith, c .loop-test .left, l .inv .0) in
+    sym (ap resultAt (rounds-made All _ _ _ _ (l .n) _ e _ (l .inv .4)))
+
+pub go-on-spec : {M : Type 1} → statement M
+go-on-spec =
+    tie.close
+    (tie.spec
+    Inv-loop
+    μ-loop
+    loop-holds
+    advance-requires
+    enum-known-went
+    add-n
+    loop-less
+    loop-again
+    enum-known-went-2
+    same-length
+    same-length-2
+    same-length-3
+    returns
+    enum-known-went-3
+    same-length-4
+    same-length-5
+    same-length-6
+    returns-2
+    same-length-7
+    same-length-8
+    same-length-9
+    returns-3)
