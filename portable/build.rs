@@ -3,7 +3,8 @@
 //!
 //! Rattle's source is Rust but for what follows, and nothing else is changed:
 //!   - contracts (`requires { .. }`, `ensures { .. }`, `ghost { .. }`) and `ghost use ..;` are left out;
-//!   - plain data is copied there without being asked: each struct and enum gets `#[derive(Clone, Copy)]`;
+//!   - plain data is copied there without being asked: each struct and enum gets `#[derive(Clone, Copy)]`, and those for C what lets Rust
+//!     compare and show them;
 //!   - crates are modules here: `crate::` and the names of the crates that a crate may use become paths to modules, all public;
 //!   - a function that is exported for C takes slices there, which rustc passes otherwise than Rattle does. Here it is a plain
 //!     function, and exports.rs gets one of the same name that takes addresses and lengths.
@@ -206,10 +207,12 @@ impl<'a> Source<'a> {
             }
             ("", "const" | "type", ..) => self.find(head, &[";"]),
             ("" | "#[repr(C)]", "struct" | "enum", name, _) => {
+                let mut derived = "Clone, Copy";
                 if !mark.is_empty() {
                     self.for_c.insert(name);
+                    derived = "Clone, Copy, Debug, PartialEq, Eq";
                 }
-                self.put(first, format!("#[derive(Clone, Copy)] {}", self.text(first)));
+                self.put(first, format!("#[derive({derived})] {}", self.text(first)));
                 self.find(head, &[";", "}"])
             }
             ("", "impl", _, "{") => self.items(head + 3),
@@ -280,7 +283,7 @@ impl<'a> Source<'a> {
     }
 
     /// The functions for C of the exported ones; `for_c` has the paths of the structs that C can have.
-    fn written_exports(&self, for_c: &BTreeMap<&str, String>) -> String {
+    fn written_exports(&self, for_c: &BTreeMap<String, String>) -> String {
         self.exports.iter().map(|export| self.written_export(export, for_c)).collect()
     }
 
@@ -288,10 +291,10 @@ impl<'a> Source<'a> {
         self.stop(export.name, &format!("the type {kind} of an exported function cannot be had in C"))
     }
 
-    fn written_export(&self, export: &Export, for_c: &BTreeMap<&str, String>) -> String {
+    fn written_export(&self, export: &Export, for_c: &BTreeMap<String, String>) -> String {
         let (name, module) = (self.text(export.name), &self.module);
-        let parts =
-            export.parameters.iter().map(|(name, kind)| parameter(name, kind).unwrap_or_else(|| self.stop_for_c(export, kind)));
+        let part = |(name, kind): &(String, String)| parameter(name, kind, for_c).unwrap_or_else(|| self.stop_for_c(export, kind));
+        let parts = export.parameters.iter().map(part);
         let (parameters, arguments): (Vec<_>, Vec<_>) = parts.unzip();
         let answer = match (&export.answer[..], for_c.get(&export.answer[..])) {
             ("", _) => String::new(),
@@ -307,9 +310,11 @@ impl<'a> Source<'a> {
     }
 }
 
-/// The parameters in C of one in Rattle, and the argument that is made of them; none where it has no such form.
-fn parameter(name: &str, kind: &str) -> Option<(String, String)> {
-    let slice = |start: &str| kind.strip_prefix(start)?.strip_suffix(']').filter(|item| SCALARS.contains(item));
+/// The parameters in C of one in Rattle, and the argument that is made of them; none where it has no such form. `for_c` has the paths of the
+/// structs that C can have.
+fn parameter(name: &str, kind: &str, for_c: &BTreeMap<String, String>) -> Option<(String, String)> {
+    let item = |item: &str| for_c.get(item).cloned().or(Some(item.to_string()).filter(|item| SCALARS.contains(&&item[..])));
+    let slice = |start: &str| kind.strip_prefix(start)?.strip_suffix(']').and_then(item);
     if let Some(item) = slice("&[") {
         return Some((format!("{name}: *const {item}, {name}_len: usize"), format!("lent({name}, {name}_len)")));
     }
@@ -374,8 +379,14 @@ fn module_of(name: &str, file: &Path) -> String {
     format!("crate::{name}{}", parts.strip_suffix("::lib").unwrap_or(&parts))
 }
 
-/// Writes the modules of a crate to a folder, and answers its functions for C.
-fn write_crate(root: &Path, name: &str, roots: &BTreeMap<String, String>, target: &Path) -> String {
+/// Writes the modules of a crate to a folder, and answers its functions for C. `for_c` gets the paths of its structs that C can have.
+fn write_crate(
+    root: &Path,
+    name: &str,
+    roots: &BTreeMap<String, String>,
+    target: &Path,
+    for_c: &mut BTreeMap<String, String>,
+) -> String {
     let within = Path::new("crates").join(name).join("src");
     println!("cargo:rerun-if-changed={}", root.join(&within).display());
     let mut files = Vec::new();
@@ -390,11 +401,14 @@ fn write_crate(root: &Path, name: &str, roots: &BTreeMap<String, String>, target
         let module = if file == Path::new("lib.rt") { PathBuf::from("mod.rs") } else { file.with_extension("rs") };
         write(&target.join(name).join(module), &source.written());
     }
-    let mut for_c = BTreeMap::new();
     for source in &sources {
-        for_c.extend(source.for_c.iter().map(|kind| (*kind, format!("{}::{kind}", source.module))));
+        for kind in &source.for_c {
+            if let Some(other) = for_c.insert(kind.to_string(), format!("{}::{kind}", source.module)) {
+                source.stop(0, &format!("{kind} for C is {other} too"));
+            }
+        }
     }
-    sources.iter().map(|source| source.written_exports(&for_c)).collect()
+    sources.iter().map(|source| source.written_exports(for_c)).collect()
 }
 
 /// Writes the modules of some crates, and modules.rs, which declares them and ends with a line of its own; answers the functions for C.
@@ -408,10 +422,12 @@ fn write_crates(
     last: &str,
 ) -> String {
     let _ = fs::remove_dir_all(target);
-    let (mut declared, mut exports) = (String::new(), String::new());
-    for name in chosen {
+    let (mut declared, mut exports, mut for_c) = (String::new(), String::new(), BTreeMap::new());
+    // The crate of the calls comes last: its functions for C may take structs of all others.
+    let (calls, others): (Vec<_>, Vec<_>) = chosen.iter().partition(|name| *name == CALLS);
+    for name in others.into_iter().chain(calls) {
         let roots = crates[name].iter().map(|other| (other.clone(), root_of(other))).collect();
-        exports += &write_crate(root, name, &roots, target);
+        exports += &write_crate(root, name, &roots, target, &mut for_c);
         declared += &format!("#[doc(hidden)]\n#[forbid(unsafe_code)]\n#[allow(dead_code, unused, clippy::all)]\npub mod {name};\n");
     }
     write(&target.join("modules.rs"), &(declared + last));

@@ -1,6 +1,6 @@
 /* The three-stem wood from C: tables made from an upload and the report of what was dropped, a row query in turns of four steps, a best-of
- * list with a threshold, totals merged turn by turn, the total of nothing, and refused calls. Each buffer comes from malloc with exactly the
- * words it needs, so that a memory checker sees every word beside it.
+ * list with a threshold, totals merged turn by turn, the total of nothing, two owners on the line, and refused calls. Each buffer comes from
+ * malloc with exactly the words it needs, so that a memory checker sees every word beside it.
  * Compiles as C99 and as C++. Prints what it does; exits with 1 where something is not as the rules say. */
 #include "sotjarn.h"
 #include "sotjarn_words.h"
@@ -291,6 +291,102 @@ static void felled(void)
     free_query(&query);
 }
 
+/* Both lists of a queue, and how many entries each has. */
+struct queue {
+    struct sotjarn_entry *line, *aside;
+    size_t line_entries, aside_entries;
+};
+
+static struct sotjarn_entry *make_entries(void)
+{
+    struct sotjarn_entry *made = (struct sotjarn_entry *)malloc(SOTJARN_MOST_ENTRIES * sizeof(struct sotjarn_entry));
+    expect(made != NULL, "there is memory");
+    memset(made, 0, SOTJARN_MOST_ENTRIES * sizeof(struct sotjarn_entry));
+    return made;
+}
+
+static struct sotjarn_queued join_queue(struct queue *q, const struct query *query, uint32_t owner, uint64_t allowance)
+{
+    struct buffer state = make_buffer(SOTJARN_STATE_WORDS);
+    struct sotjarn_written opened = open_query(query, state);
+    struct sotjarn_queued queued = sotjarn_join(
+        query->rows.words, query->rows.len, query->pos.words, query->pos.len, query->osp.words, query->osp.len,
+        q->line, SOTJARN_MOST_ENTRIES, q->line_entries, q->aside, SOTJARN_MOST_ENTRIES, q->aside_entries, owner, allowance,
+        query->plan.words, query->plan.len, state.words, opened.words);
+    expect(opened.refused == 0, "the opening is accepted");
+    if (queued.refused == 0) {
+        q->line_entries = queued.line_entries;
+        q->aside_entries = queued.aside_entries;
+    }
+    free(state.words);
+    return queued;
+}
+
+static struct sotjarn_service serve_queue(struct queue *q, const struct query *tables, uint32_t quantum, struct buffer output)
+{
+    struct sotjarn_service served = sotjarn_serve(
+        tables->rows.words, tables->rows.len, tables->pos.words, tables->pos.len, tables->osp.words, tables->osp.len,
+        q->line, SOTJARN_MOST_ENTRIES, q->line_entries, q->aside, SOTJARN_MOST_ENTRIES, q->aside_entries, quantum,
+        no_words, 0, output.words, output.len);
+    if (served.ending != SOTJARN_REFUSED) {
+        q->line_entries = served.line_entries;
+        q->aside_entries = served.aside_entries;
+        printf("owner %" PRIu32 " steps %" PRIu32 " %s, left %" PRIu64 "\n", served.owner, served.steps, ending_name(served.ending),
+               served.left);
+        print_rows(output.words, served.list_words, 2);
+    }
+    return served;
+}
+
+/* The state of a waiting entry is one like any other: a turn takes it, and delivers what is still to come. */
+static void take_waiting(const struct query *query, const struct sotjarn_entry *entry)
+{
+    struct buffer state = make_buffer(SOTJARN_STATE_ROOM), output = make_buffer(2);
+    struct sotjarn_turned turned;
+    memcpy(state.words, entry->state, SOTJARN_STATE_ROOM * sizeof(uint32_t));
+    turned = run_turn(query, state, entry->state_words, 10, no_words, 0, output);
+    expect(turned.ending == SOTJARN_DONE && turned.steps == 5 && turned.list_words == 2 && output.words[0] == NAME(3), "the rest of the rows");
+    free(state.words);
+    free(output.words);
+}
+
+/* Two owners ask for the same rows: the first has five steps and is topped up by ten, the second has a hundred. */
+static void two_owners(void)
+{
+    struct query query = make_query(plan_rows, sizeof plan_rows / sizeof *plan_rows);
+    struct queue q = {make_entries(), make_entries(), 0, 0};
+    struct buffer output = make_buffer(64 * least_output(&query));
+    struct sotjarn_queued queued;
+    struct sotjarn_service served;
+    expect(join_queue(&q, &query, 7, 5).refused == 0 && join_queue(&q, &query, 8, 100).line_entries == 2, "both join the line");
+    expect(join_queue(&q, &query, 7, 5).refused == SOTJARN_REFUSED_ENTRIES, "an owner has one entry");
+
+    served = serve_queue(&q, &query, 8, output);
+    expect(served.owner == 7 && served.ending == SOTJARN_SPENT && served.steps == 5 && served.left == 0, "owner 7 has five steps");
+    expect(served.list_words == 2 && output.words[0] == NAME(2), "its first row");
+    expect(q.aside_entries == 1 && q.aside[0].owner == 7 && q.aside[0].state_words == served.state_words, "it is set aside with its state");
+    take_waiting(&query, &q.aside[0]);
+    served = serve_queue(&q, &query, 8, output);
+    expect(served.owner == 8 && served.ending == SOTJARN_SPENT && served.left == 92, "owner 8 goes to the back");
+
+    queued = sotjarn_top_up(q.line, SOTJARN_MOST_ENTRIES, q.line_entries, q.aside, SOTJARN_MOST_ENTRIES, q.aside_entries, 7, 10);
+    expect(queued.refused == 0 && queued.line_entries == 2 && queued.aside_entries == 0, "owner 7 comes back behind owner 8");
+    q.line_entries = queued.line_entries;
+    q.aside_entries = queued.aside_entries;
+    served = serve_queue(&q, &query, 8, output);
+    expect(served.owner == 8 && served.ending == SOTJARN_DONE && served.steps == 2 && served.left == 90, "owner 8 leaves");
+    served = serve_queue(&q, &query, 8, output);
+    expect(served.owner == 7 && served.ending == SOTJARN_DONE && served.steps == 5 && served.left == 5, "5 and 10 granted, 10 taken");
+    expect(served.list_words == 2 && output.words[0] == NAME(3), "its second row, as if it had been alone");
+    served = serve_queue(&q, &query, 8, output);
+    printf("an empty line: %s by %" PRIu32 ": %s\n", ending_name(served.ending), served.refused, sotjarn_refusal_text(served.refused));
+    expect(served.refused == SOTJARN_REFUSED_EMPTY_LINE && q.line_entries == 0 && q.aside_entries == 0, "nobody waits");
+    free(q.line);
+    free(q.aside);
+    free(output.words);
+    free_query(&query);
+}
+
 /* Calls that are refused by number and change nothing: short buffers, tables out of order, a quantum of 0, merged rows, part of a plan. */
 static void refusals(void)
 {
@@ -327,6 +423,7 @@ int main(void)
     best_of();
     totals();
     felled();
+    two_owners();
     refusals();
     return 0;
 }

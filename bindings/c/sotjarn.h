@@ -1,5 +1,5 @@
 /* Sotjarn's calls for C and C++: making tables from an upload; opening a query, one turn of it, and merging a turn's list into a kept
- * one; and how long an output has to be for a plan.
+ * one; how long an output has to be for a plan; and queries of several owners in a queue: joining, serving and topping up.
  *
  * Link with libsotjarn.a, the proved library, which `rt staticlib sotjarn` writes to target/staticlib/; or with libsotjarn_portable.a,
  * the same source without its proofs, which cargo makes in portable/. `make install` installs either. No call allocates, keeps an
@@ -28,7 +28,7 @@ extern "C" {
 #endif
 
 /* The version of this header, which is that of the libraries made beside it. */
-#define SOTJARN_VERSION "0.5.0"
+#define SOTJARN_VERSION "0.6.0"
 
 /* How a turn ended. */
 enum {
@@ -48,6 +48,40 @@ enum { SOTJARN_MOST_ROWS = 65536, SOTJARN_ROW_WORDS = 3, SOTJARN_REPORT_WORDS = 
  * allocates nothing; with its frames, threads of 456 KiB were enough (tests/stack measures it). Some threads have less by default, as
  * musl's with 128 KiB. The other calls have no such arrays. */
 enum { SOTJARN_MAKE_STACK = 524288 };
+
+/* The most entries of a queue, in the line and set aside together: each of its two buffers has so many at least. The words that an entry has
+ * for its plan, as many as the longest has, and for its state. */
+enum { SOTJARN_MOST_ENTRIES = 32, SOTJARN_PLAN_ROOM = 256, SOTJARN_STATE_ROOM = 11 };
+
+/* A waiting query: its plan is the first `plan_words` words of `plan`, its state the first `state_words` words of `state`. */
+struct sotjarn_entry {
+    uint64_t allowance;   /* the steps left to it: some in the line, none set aside */
+    uint32_t owner;       /* whose it is: no owner has two entries */
+    uint32_t plan_words;
+    uint32_t state_words;
+    uint32_t plan[SOTJARN_PLAN_ROOM];
+    uint32_t state[SOTJARN_STATE_ROOM];
+};
+
+/* What joining and topping up answer. */
+struct sotjarn_queued {
+    uint32_t refused;     /* the number of the first test that failed; 0: none */
+    size_t line_entries;  /* the entries of the line; 0 if refused */
+    size_t aside_entries; /* the entries set aside; 0 if refused */
+};
+
+/* What serving answers. */
+struct sotjarn_service {
+    uint32_t ending;      /* how the turn ended: SOTJARN_DONE, _SPENT, _FULL or _REFUSED */
+    uint32_t refused;     /* the number of the first test that failed; 0 unless the ending is SOTJARN_REFUSED */
+    uint32_t steps;       /* the steps taken */
+    uint32_t owner;       /* whose turn it was */
+    uint64_t left;        /* the steps left to the owner; where the query is done, what was left */
+    size_t state_words;   /* the words of the new state, which stands in the entry; 0 when done */
+    size_t list_words;    /* the words of the turn's list, written over the front of `output` */
+    size_t line_entries;  /* the entries of the line; 0 if refused */
+    size_t aside_entries; /* the entries set aside; 0 if refused */
+};
 
 /* What opening and merging answer, and what a plan asks of an output. */
 struct sotjarn_written {
@@ -115,6 +149,42 @@ struct sotjarn_written sotjarn_merge(const uint32_t *plan, size_t plan_len,
 /* The words that test 7 asks of `output` for a plan: one row, k rows or one record. More makes fewer turns where the query ends in rows
  * or groups: a multiple of one row or record. Writes nothing. Refused by 5 and 6. */
 struct sotjarn_written sotjarn_least_output(const uint32_t *plan, size_t plan_len);
+
+/* Queries of several owners over one set of tables wait in two lists: the line, in the order in which they come to their turns, and the list
+ * set aside, of those to whom no steps are left. The line is the first `line_entries` entries of `line`, the other list the first
+ * `aside_entries` of `aside`: as many as the last call answered, none at first. The lengths are counted in entries; each buffer has
+ * SOTJARN_MOST_ENTRIES or more. An address of entries is aligned for uint64_t; all else that is said of buffers above holds of both lists. No
+ * call reads what stands behind a list, and what stands behind the list that a call leaves keeps its words. */
+
+/* An owner's query joins: with an allowance of steps at the end of the line, with none at the end of the list set aside. `plan` and `state` are
+ * whole, and such that a turn over these tables accepts them: a state that opening or a turn wrote. The entry has copies of both.
+ * Refused by 1 to 6, 9, 10, 17 and 18. */
+struct sotjarn_queued sotjarn_join(const uint32_t *rows, size_t rows_len,
+                                   const uint32_t *pos, size_t pos_len,
+                                   const uint32_t *osp, size_t osp_len,
+                                   struct sotjarn_entry *line, size_t line_len, size_t line_entries,
+                                   struct sotjarn_entry *aside, size_t aside_len, size_t aside_entries,
+                                   uint32_t owner, uint64_t allowance,
+                                   const uint32_t *plan, size_t plan_len,
+                                   const uint32_t *state, size_t state_len);
+
+/* Runs one turn of the query at the front of the line, for at most `quantum` steps and at most those left to it. Done, it leaves; unfinished, it
+ * goes to the back of the line, or to the end of the list set aside if no steps are left. `threshold` and `output` are those of the turn, for
+ * the plan of the front entry. Refused by 1 to 11 on the front entry and the call, then by 17, 18 and 19; with an empty line by 1 to 4, 8,
+ * 17, 18 and 19. */
+struct sotjarn_service sotjarn_serve(const uint32_t *rows, size_t rows_len,
+                                     const uint32_t *pos, size_t pos_len,
+                                     const uint32_t *osp, size_t osp_len,
+                                     struct sotjarn_entry *line, size_t line_len, size_t line_entries,
+                                     struct sotjarn_entry *aside, size_t aside_len, size_t aside_entries,
+                                     uint32_t quantum,
+                                     const uint32_t *threshold, size_t threshold_len,
+                                     uint32_t *output, size_t output_len);
+
+/* Brings the query of an owner who is set aside back to the end of the line; `amount` steps are left to it then. Refused by 17 and 18. */
+struct sotjarn_queued sotjarn_top_up(struct sotjarn_entry *line, size_t line_len, size_t line_entries,
+                                     struct sotjarn_entry *aside, size_t aside_len, size_t aside_entries,
+                                     uint32_t owner, uint64_t amount);
 
 #ifdef __cplusplus
 }

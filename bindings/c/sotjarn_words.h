@@ -105,7 +105,10 @@ enum {
     SOTJARN_REFUSED_TOTALS = 13,
     SOTJARN_REFUSED_KEPT_LENGTH = 14,
     SOTJARN_REFUSED_UPLOAD_LENGTH = 15,
-    SOTJARN_REFUSED_MADE_LENGTHS = 16
+    SOTJARN_REFUSED_MADE_LENGTHS = 16,
+    SOTJARN_REFUSED_ENTRIES = 17,
+    SOTJARN_REFUSED_QUEUE_ROOM = 18,
+    SOTJARN_REFUSED_EMPTY_LINE = 19
 };
 
 /* What is wrong and what to do, in a line, by the number that a call refused by. */
@@ -145,6 +148,12 @@ static inline const char *sotjarn_refusal_text(uint32_t refused)
         "most 65,536 rows",
         "a buffer is too short for the tables or the report; for n uploaded rows lend 3 n words for rows, n for each "
         "list and 2 n for the report: that is always enough",
+        "two entries have one owner, an entry is in the list that its steps do not belong to, or a top-up is 0 or for "
+        "an owner who is not set aside; lend both lists as the last call left them; let an owner join once at a time, "
+        "and top up, by at least one step, whoever is set aside",
+        "a list has no room for 32 entries, or there would be more than 32 in all; lend 32 entries for each list, and "
+        "let others join when somebody has left",
+        "the line is empty; serve again when somebody has joined or was topped up",
     };
     return refused < sizeof texts / sizeof *texts ? texts[refused] : "a number that this header does not know: the library is newer";
 }

@@ -2,10 +2,11 @@
 import faulthandler
 import os
 import subprocess
-from ctypes import CDLL, POINTER, Structure, addressof, c_size_t, c_uint32, cast, sizeof
+from ctypes import CDLL, POINTER, Structure, addressof, c_size_t, c_uint32, c_uint64, cast, sizeof
 
 from evaluation import Turned, Written
 from making import Made
+from queueing import PLAN_ROOM, STATE_ROOM, Entry, Queued, Service
 
 GUARD = 4
 GUARD_WORD = 0xA5A5C3C3
@@ -24,6 +25,20 @@ class CTurned(Structure):
 class CMade(Structure):
     _fields_ = [('refused', c_uint32), ('rows_words', c_size_t), ('pos_words', c_size_t), ('osp_words', c_size_t),
                 ('report_words', c_size_t)]
+
+
+class CEntry(Structure):
+    _fields_ = [('allowance', c_uint64), ('owner', c_uint32), ('plan_words', c_uint32), ('state_words', c_uint32),
+                ('plan', c_uint32 * PLAN_ROOM), ('state', c_uint32 * STATE_ROOM)]
+
+
+class CQueued(Structure):
+    _fields_ = [('refused', c_uint32), ('line_entries', c_size_t), ('aside_entries', c_size_t)]
+
+
+class CService(Structure):
+    _fields_ = [('ending', c_uint32), ('refused', c_uint32), ('steps', c_uint32), ('owner', c_uint32), ('left', c_uint64),
+                ('state_words', c_size_t), ('list_words', c_size_t), ('line_entries', c_size_t), ('aside_entries', c_size_t)]
 
 
 class Touched(Exception):
@@ -50,6 +65,29 @@ class Buffer:
     def unchanged(self, name):
         if self.words(name) != self.lent:
             raise Touched(name)
+
+
+GUARD_ENTRY = Entry(*(GUARD_WORD,) * 4, (GUARD_WORD,) * PLAN_ROOM, (GUARD_WORD,) * STATE_ROOM)
+ENTRIES = POINTER(CEntry)
+
+
+class EntryBuffer:
+    """Entries lent to a call, with one before and one behind."""
+
+    def __init__(self, entries):
+        self.count = len(entries)
+        self.array = (CEntry * (self.count + 2))(*(CEntry(*entry[:4], (c_uint32 * PLAN_ROOM)(*entry.plan), (c_uint32 * STATE_ROOM)(*entry.state))
+                                                   for entry in (GUARD_ENTRY, *entries, GUARD_ENTRY)))
+
+    def arguments(self):
+        return cast(addressof(self.array) + sizeof(CEntry), ENTRIES), self.count
+
+    def entries(self, name):
+        """The entries at exit."""
+        entries = tuple(Entry(e.allowance, e.owner, e.plan_words, e.state_words, tuple(e.plan), tuple(e.state)) for e in self.array)
+        if entries[0] != GUARD_ENTRY or entries[-1] != GUARD_ENTRY:
+            raise Touched(f'an entry beside {name}')
+        return entries[1:-1]
 
 
 def lent(tables, words):
@@ -89,6 +127,11 @@ class Engine:
         self.merging.restype, self.merging.argtypes = CWritten, [WORDS, c_size_t, WORDS, c_size_t, c_size_t, WORDS, c_size_t]
         self.making = library.sotjarn_make
         self.making.restype, self.making.argtypes = CMade, [WORDS, c_size_t] * 5
+        self.joining, self.serving, self.topping = library.sotjarn_join, library.sotjarn_serve, library.sotjarn_top_up
+        lists = [ENTRIES, c_size_t, c_size_t] * 2
+        self.joining.restype, self.joining.argtypes = CQueued, table_types[:6] + lists + [c_uint32, c_uint64] + [WORDS, c_size_t] * 2
+        self.serving.restype, self.serving.argtypes = CService, table_types[:6] + lists + [c_uint32] + [WORDS, c_size_t] * 2
+        self.topping.restype, self.topping.argtypes = CQueued, lists + [c_uint32, c_uint64]
 
     def open(self, tables, words, state):
         read, buffer = lent(tables, words), Buffer(state)
@@ -115,3 +158,23 @@ class Engine:
         check([read])
         made = Made(answer.refused, answer.rows_words, answer.pos_words, answer.osp_words, answer.report_words)
         return (made, *(buffer.words(name) for name, buffer in zip(('rows', 'pos', 'osp', 'report'), buffers)))
+
+    def join(self, tables, line, waiting, aside, resting, owner, allowance, plan, state):
+        read, own, other = lent(tables, plan) + [('state', Buffer(state))], EntryBuffer(line), EntryBuffer(aside)
+        answer = self.joining(*passed(read[:3]), *own.arguments(), waiting, *other.arguments(), resting, owner, allowance, *passed(read[3:]))
+        check(read)
+        return Queued(answer.refused, answer.line_entries, answer.aside_entries), own.entries('line'), other.entries('aside')
+
+    def serve(self, tables, line, waiting, aside, resting, quantum, threshold, output):
+        read, own, other = lent(tables, ())[:3] + [('threshold', Buffer(threshold))], EntryBuffer(line), EntryBuffer(aside)
+        made = Buffer(output)
+        answer = self.serving(*passed(read[:3]), *own.arguments(), waiting, *other.arguments(), resting, quantum, *passed(read[3:]),
+                              *made.arguments())
+        check(read)
+        served = Service(*(getattr(answer, name) for name in Service._fields))
+        return served, own.entries('line'), other.entries('aside'), made.words('output')
+
+    def top_up(self, line, waiting, aside, resting, owner, amount):
+        own, other = EntryBuffer(line), EntryBuffer(aside)
+        answer = self.topping(*own.arguments(), waiting, *other.arguments(), resting, owner, amount)
+        return Queued(answer.refused, answer.line_entries, answer.aside_entries), own.entries('line'), other.entries('aside')

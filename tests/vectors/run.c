@@ -7,9 +7,9 @@
 #include <stdlib.h>
 #include <string.h>
 
-enum { SET = 1, FILL, STEMS, OPEN, TURN, MERGE, MAKE, SHUFFLED, MAKE_STEMS };
-enum { ROWS, POS, OSP, PLAN, STATE, THRESHOLD, OUTPUT, KEPT, LIST, UPLOAD, REPORT, BUFFERS };
-enum { GUARDS = 8, NUMBERS = 17 };
+enum { SET = 1, FILL, STEMS, OPEN, TURN, MERGE, MAKE, SHUFFLED, MAKE_STEMS, ENTRIES, JOIN, SERVE, TOP_UP };
+enum { ROWS, POS, OSP, PLAN, STATE, THRESHOLD, OUTPUT, KEPT, LIST, UPLOAD, REPORT, LINE, ASIDE, BUFFERS };
+enum { GUARDS = 8, NUMBERS = 20, ENTRY_WORDS = sizeof(struct sotjarn_entry) / sizeof(uint32_t) };
 
 #define GUARD UINT32_C(0xA5A5C3C3)
 
@@ -212,6 +212,121 @@ static void run_make_stems(void)
     }
 }
 
+/* A number of two words, the low one first. */
+static uint64_t wide(void)
+{
+    uint64_t low = word();
+    return low | (uint64_t)word() << 32;
+}
+
+/* Words of an array, and zeros behind them. */
+static void words_in(uint32_t *words, uint32_t room)
+{
+    uint32_t many = word();
+    if (many > room)
+        fail("the file has more words than an entry");
+    for (uint32_t i = 0; i < room; i++)
+        words[i] = i < many ? word() : 0;
+}
+
+/* The entry at a place must be the one that the file has. */
+static void entry(int number, uint32_t place)
+{
+    struct sotjarn_entry made;
+    if (((size_t)place + 1) * ENTRY_WORDS > buffers[number].len)
+        fail("the file has more entries than the buffer");
+    made.allowance = wide();
+    made.owner = word();
+    made.plan_words = word();
+    made.state_words = word();
+    words_in(made.plan, SOTJARN_PLAN_ROOM);
+    words_in(made.state, SOTJARN_STATE_ROOM);
+    memcpy(buffers[number].right + GUARDS + (size_t)place * ENTRY_WORDS, &made, sizeof made);
+}
+
+static int list_number(void)
+{
+    int number = buffer_number();
+    if (number != LINE && number != ASIDE)
+        fail("the buffer is none of entries");
+    return number;
+}
+
+static void entries(void)
+{
+    int number = list_number();
+    uint32_t len = word(), many = word();
+    uint32_t *right = resize(number, (size_t)len * ENTRY_WORDS);
+    memset(right, 0, (size_t)len * ENTRY_WORDS * sizeof(uint32_t));
+    for (uint32_t i = 0; i < many; i++)
+        entry(number, i);
+    lend(number);
+}
+
+static struct sotjarn_entry *entries_of(int number)
+{
+    return (struct sotjarn_entry *)words_of(number);
+}
+
+static size_t count_of(int number)
+{
+    return buffers[number].len / ENTRY_WORDS;
+}
+
+/* The entries that a call must have changed. */
+static void must_change(void)
+{
+    uint32_t many = word();
+    for (uint32_t i = 0; i < many; i++) {
+        int number = list_number();
+        entry(number, word());
+    }
+}
+
+static void queued(struct sotjarn_queued made)
+{
+    uint32_t refused = word(), line = word(), aside = word();
+    if (made.refused != refused || made.line_entries != line || made.aside_entries != aside)
+        fail("the answer is another");
+    count(refused);
+    must_change();
+}
+
+static void run_join(void)
+{
+    uint32_t line = word(), aside = word(), owner = word();
+    uint64_t allowance = wide();
+    queued(sotjarn_join(words_of(ROWS), buffers[ROWS].len, words_of(POS), buffers[POS].len, words_of(OSP), buffers[OSP].len,
+                        entries_of(LINE), count_of(LINE), line, entries_of(ASIDE), count_of(ASIDE), aside, owner, allowance,
+                        words_of(PLAN), buffers[PLAN].len, words_of(STATE), buffers[STATE].len));
+}
+
+static void run_serve(void)
+{
+    uint32_t line = word(), aside = word(), quantum = word();
+    struct sotjarn_service made = sotjarn_serve(
+        words_of(ROWS), buffers[ROWS].len, words_of(POS), buffers[POS].len, words_of(OSP), buffers[OSP].len, entries_of(LINE),
+        count_of(LINE), line, entries_of(ASIDE), count_of(ASIDE), aside, quantum, words_of(THRESHOLD), buffers[THRESHOLD].len,
+        words_of(OUTPUT), buffers[OUTPUT].len);
+    uint32_t ending = word(), refused = word(), steps = word(), owner = word();
+    uint64_t left = wide();
+    uint32_t state_words = word(), list_words = word(), lined = word(), set_aside = word();
+    if (made.ending != ending || made.refused != refused || made.steps != steps || made.owner != owner || made.left != left ||
+        made.state_words != state_words || made.list_words != list_words || made.line_entries != lined ||
+        made.aside_entries != set_aside)
+        fail("the answer is another");
+    count(refused);
+    must_write(OUTPUT, list_words);
+    must_change();
+}
+
+static void run_top_up(void)
+{
+    uint32_t line = word(), aside = word(), owner = word();
+    uint64_t amount = wide();
+    queued(sotjarn_top_up(entries_of(LINE), count_of(LINE), line, entries_of(ASIDE), count_of(ASIDE), aside, owner, amount));
+}
+
 static void run(void)
 {
     uint32_t instruction = word();
@@ -220,11 +335,15 @@ static void run(void)
     case FILL: set(1); return;
     case STEMS: stems(); return;
     case SHUFFLED: shuffled(); return;
+    case ENTRIES: entries(); return;
     case OPEN: run_open(); break;
     case TURN: run_turn(); break;
     case MERGE: run_merge(); break;
     case MAKE: run_make(); break;
     case MAKE_STEMS: run_make_stems(); break;
+    case JOIN: run_join(); break;
+    case SERVE: run_serve(); break;
+    case TOP_UP: run_top_up(); break;
     default: fail("there is no such instruction");
     }
     compare();

@@ -4,11 +4,14 @@
 // usize has 32 bits there; a struct is returned through an address that is handed over first.
 import { readFileSync } from 'node:fs';
 
-const [SET, FILL, STEMS, OPEN, TURN, MERGE, MAKE, SHUFFLED, MAKE_STEMS] = [1, 2, 3, 4, 5, 6, 7, 8, 9];
-const [ROWS, POS, OSP, PLAN, STATE, THRESHOLD, OUTPUT, KEPT, LIST, UPLOAD, REPORT, BUFFERS] = [0, 1, 2, 3, 4, 5, 6, 7, 8, 9, 10, 11];
+const [SET, FILL, STEMS, OPEN, TURN, MERGE, MAKE, SHUFFLED, MAKE_STEMS, ENTRIES, JOIN, SERVE, TOP_UP] = [1, 2, 3, 4, 5, 6, 7, 8, 9, 10, 11, 12, 13];
+const [ROWS, POS, OSP, PLAN, STATE, THRESHOLD, OUTPUT, KEPT, LIST, UPLOAD, REPORT] = [0, 1, 2, 3, 4, 5, 6, 7, 8, 9, 10];
+const [LINE, ASIDE, BUFFERS] = [11, 12, 13];
+const [PLAN_ROOM, STATE_ROOM] = [256, 11];
+const ENTRY_WORDS = 5 + PLAN_ROOM + STATE_ROOM;
 const GUARDS = 8;
 const GUARD = 0xa5a5c3c3;
-const NUMBERS = 17;
+const NUMBERS = 20;
 const PAGE = 65536;
 
 let calls = 0;
@@ -26,7 +29,7 @@ if (vectorFile === undefined) {
   process.exit(2);
 }
 const { instance } = await WebAssembly.instantiate(readFileSync(libraryFile));
-const { memory, sotjarn_open, sotjarn_turn, sotjarn_merge, sotjarn_make } = instance.exports;
+const { memory, sotjarn_open, sotjarn_turn, sotjarn_merge, sotjarn_make, sotjarn_join, sotjarn_serve, sotjarn_top_up } = instance.exports;
 const answerAt = memory.buffer.byteLength;
 const ROOM = 16 * PAGE;
 memory.grow(1 + (BUFFERS * ROOM) / PAGE);
@@ -143,6 +146,63 @@ function makeStems() {
   });
 }
 
+// Queues. An entry's layout is the same here as on machines of 64 bits; a number of 64 bits is a BigInt.
+
+const wide = ([low, high]) => BigInt(low) | (BigInt(high) << 32n);
+
+function padded(room) {
+  const many = word();
+  if (many > room) fail('the file has more words than an entry');
+  return [...words(many), ...new Array(room - many).fill(0)];
+}
+
+const entry = () => [...words(5), ...padded(PLAN_ROOM), ...padded(STATE_ROOM)];
+
+const entriesOf = (number) => [roomAt(number) + 4 * GUARDS, right[number].length / ENTRY_WORDS];
+
+function entries() {
+  const [number, count, many] = words(3);
+  const given = Array.from({ length: many }, entry).flat();
+  lend(number, [...given, ...new Array(count * ENTRY_WORDS - given.length).fill(0)]);
+}
+
+function mustChange() {
+  for (let left = word(); left > 0; left -= 1) {
+    const [number, place] = words(2);
+    if (number !== LINE && number !== ASIDE) fail('the buffer is none of entries');
+    right[number].splice(place * ENTRY_WORDS, ENTRY_WORDS, ...entry());
+  }
+}
+
+function queued() {
+  const [refused, line, aside] = words(3);
+  mustAnswer(answer(3), [refused, line, aside], refused);
+  mustChange();
+}
+
+function join() {
+  const [line, aside, owner, ...allowance] = words(5);
+  sotjarn_join(answerAt, ...buffer(ROWS), ...buffer(POS), ...buffer(OSP), ...entriesOf(LINE), line, ...entriesOf(ASIDE), aside, owner,
+    wide(allowance), ...buffer(PLAN), ...buffer(STATE));
+  queued();
+}
+
+function serve() {
+  const [line, aside, quantum] = words(3);
+  sotjarn_serve(answerAt, ...buffer(ROWS), ...buffer(POS), ...buffer(OSP), ...entriesOf(LINE), line, ...entriesOf(ASIDE), aside, quantum,
+    ...buffer(THRESHOLD), ...buffer(OUTPUT));
+  const expected = words(10); // ending, refused, steps, owner, left in two words, state words, list words, and both counts
+  mustAnswer(answer(10), expected, expected[1]);
+  mustWrite(OUTPUT, expected[7]);
+  mustChange();
+}
+
+function topUp() {
+  const [line, aside, owner, ...amount] = words(5);
+  sotjarn_top_up(answerAt, ...entriesOf(LINE), line, ...entriesOf(ASIDE), aside, owner, wide(amount));
+  queued();
+}
+
 // Every word of every buffer, and beside it, must be right.
 function compare() {
   for (let number = 0; number < BUFFERS; number += 1) {
@@ -153,8 +213,10 @@ function compare() {
   }
 }
 
-const lending = { [SET]: set, [FILL]: fill, [STEMS]: stems, [SHUFFLED]: shuffled };
-const calling = { [OPEN]: open, [TURN]: turn, [MERGE]: merge, [MAKE]: make, [MAKE_STEMS]: makeStems };
+const lending = { [SET]: set, [FILL]: fill, [STEMS]: stems, [SHUFFLED]: shuffled, [ENTRIES]: entries };
+const calling = {
+  [OPEN]: open, [TURN]: turn, [MERGE]: merge, [MAKE]: make, [MAKE_STEMS]: makeStems, [JOIN]: join, [SERVE]: serve, [TOP_UP]: topUp,
+};
 
 for (let number = 0; number < BUFFERS; number += 1) lend(number, []);
 while (at < bytes.byteLength) {

@@ -1,6 +1,6 @@
 //! The calls over slices, by the engine that the crate was built with: the portable one or the proved library.
 
-use crate::engine;
+use crate::engine::{self, Entry};
 use crate::refusals::Refusal;
 use crate::tables::Tables;
 
@@ -16,6 +16,9 @@ pub const MOST_ROWS: usize = 65_536;
 /// The bytes of stack that [`make`] may use: it keeps there what it sorts. A thread of a program has 2 MiB by default; one that is given
 /// less needs this much.
 pub const MAKE_STACK: usize = 524_288;
+
+/// The most entries of a queue, in the line and set aside together; each of its two lists has room for so many.
+pub const MOST_ENTRIES: usize = 32;
 
 /// How a turn ended.
 #[derive(Clone, Copy, Debug, PartialEq, Eq, Hash)]
@@ -52,6 +55,30 @@ pub struct Made {
     pub osp_words: usize,
     /// Two for each row that is dropped.
     pub report_words: usize,
+}
+
+/// What joining and topping up answer: how many entries each list has now.
+#[derive(Clone, Copy, Debug, PartialEq, Eq, Hash)]
+pub struct Queued {
+    /// The entries of the line.
+    pub line_entries: usize,
+    /// The entries set aside.
+    pub aside_entries: usize,
+}
+
+/// What serving answers.
+#[derive(Clone, Copy, Debug, PartialEq, Eq, Hash)]
+pub struct Served {
+    /// What the turn of the front entry answered. Its new state is in the entry.
+    pub turned: Turned,
+    /// Whose turn it was.
+    pub owner: u32,
+    /// The steps left to the owner; what was left, where the query is done.
+    pub left: u64,
+    /// The entries of the line.
+    pub line_entries: usize,
+    /// The entries set aside.
+    pub aside_entries: usize,
 }
 
 /// The refusal of a number that the library gave.
@@ -211,4 +238,126 @@ pub fn make(upload: &[u32], rows: &mut [u32], pos: &mut [u32], osp: &mut [u32], 
         }),
         code => Err(refusal(code)),
     }
+}
+
+/// The answer of joining or topping up.
+fn queued(answer: engine::QueuedNumbers) -> Result<Queued, Refusal> {
+    match answer.refused {
+        0 => Ok(Queued {
+            line_entries: answer.waiting,
+            aside_entries: answer.resting,
+        }),
+        code => Err(refusal(code)),
+    }
+}
+
+/// An owner's query joins a queue over these tables: with steps at the end of the line, without at the end of the list set aside. The
+/// line is the first `line_entries` entries of `line`, the list set aside the first `aside_entries` of `aside`; both buffers have
+/// [`MOST_ENTRIES`] or more. `plan` and `state` are whole: those that a turn would accept. Refused by 1 to 6, 9, 10, 17 and 18.
+/// [`Queue`](crate::Queue) holds both lists.
+///
+/// ```
+/// use sotjarn::{join, open, Queued, Refusal, Tables, MOST_ENTRIES, NO_ENTRY};
+///
+/// let rows = [1, 10, 100]; // n1 n10 n100
+/// let tables = Tables { rows: &rows, pos: &[0], osp: &[0] };
+/// let plan = [0x1000_0001, 0x2000_0001, 0xC000_0000, 10, 100, 0x3000_0000, 0x8000_0001, 0xC000_0000];
+/// let mut state = [0; 9];
+/// let words = open(tables, &plan, &mut state)?;
+/// let (mut line, mut aside) = ([NO_ENTRY; MOST_ENTRIES], [NO_ENTRY; MOST_ENTRIES]);
+/// let queued = join(tables, &mut line, 0, &mut aside, 0, 7, 100, &plan, &state[..words])?;
+/// assert_eq!(queued, Queued { line_entries: 1, aside_entries: 0 });
+/// let again = join(tables, &mut line, 1, &mut aside, 0, 7, 100, &plan, &state[..words]);
+/// assert_eq!(again, Err(Refusal::Entries)); // owner 7 has an entry
+/// # Ok::<(), Refusal>(())
+/// ```
+#[allow(clippy::too_many_arguments)]
+pub fn join(
+    tables: Tables,
+    line: &mut [Entry],
+    line_entries: usize,
+    aside: &mut [Entry],
+    aside_entries: usize,
+    owner: u32,
+    allowance: u64,
+    plan: &[u32],
+    state: &[u32],
+) -> Result<Queued, Refusal> {
+    let Tables { rows, pos, osp } = tables;
+    queued(engine::sotjarn_join(
+        rows,
+        pos,
+        osp,
+        line,
+        line_entries,
+        aside,
+        aside_entries,
+        owner,
+        allowance,
+        plan,
+        state,
+    ))
+}
+
+/// Runs a turn of the query at the front of the line, for at most `quantum` steps and at most those left to it. Done, it leaves; else it
+/// goes to the back of the line, or to the end of the list set aside where no steps are left. Its list is written over the front of
+/// `output`, its new state in its entry. Refused by 1 to 11 on the front entry and the call, then 17, 18 and 19; with an empty line by 1
+/// to 4, 8, 17, 18 and 19.
+#[allow(clippy::too_many_arguments)]
+pub fn serve(
+    tables: Tables,
+    line: &mut [Entry],
+    line_entries: usize,
+    aside: &mut [Entry],
+    aside_entries: usize,
+    quantum: u32,
+    threshold: &[u32],
+    output: &mut [u32],
+) -> Result<Served, Refusal> {
+    let Tables { rows, pos, osp } = tables;
+    let answer = engine::sotjarn_serve(
+        rows,
+        pos,
+        osp,
+        line,
+        line_entries,
+        aside,
+        aside_entries,
+        quantum,
+        threshold,
+        output,
+    );
+    let turned = turned(engine::TurnedNumbers {
+        ending: answer.ending,
+        refused: answer.refused,
+        steps: answer.steps,
+        saved: answer.saved,
+        listed: answer.listed,
+    })?;
+    Ok(Served {
+        turned,
+        owner: answer.owner,
+        left: answer.left,
+        line_entries: answer.waiting,
+        aside_entries: answer.resting,
+    })
+}
+
+/// Brings the query of an owner who is set aside back to the end of the line, with so many steps. Refused by 17 and 18.
+pub fn top_up(
+    line: &mut [Entry],
+    line_entries: usize,
+    aside: &mut [Entry],
+    aside_entries: usize,
+    owner: u32,
+    amount: u64,
+) -> Result<Queued, Refusal> {
+    queued(engine::sotjarn_top_up(
+        line,
+        line_entries,
+        aside,
+        aside_entries,
+        owner,
+        amount,
+    ))
 }

@@ -1,4 +1,5 @@
-//! Sotjarn's calls for Rust: making tables from an upload, opening a query, one turn of it, and merging a turn's list into a kept one.
+//! Sotjarn's calls for Rust: making tables from an upload, opening a query, one turn of it, and merging a turn's list into a kept one; and
+//! queries of several owners in a queue.
 //!
 //! Sotjarn answers queries over shared tables, a turn of counted steps at a time. A turn may end after any row, and the answer does
 //! not depend on where the cuts fall. Whatever words come in, a call ends, touches nothing outside what it was lent, and refuses
@@ -10,10 +11,11 @@
 //!
 //! | you have | use |
 //! |---|---|
-//! | words in buffers of your own | [`make`], [`open`], [`turn`], [`merge`], [`least_output`] |
+//! | words in buffers of your own | [`make`], [`open`], [`turn`], [`merge`], [`least_output`]; [`join`], [`serve`], [`top_up`] |
 //! | rows in any order | [`TableWords::make`], [`TableWords::from_rows`]; [`Dropped`] |
 //! | a query to write | [`Plan::builder`] |
 //! | a query to run | [`Query`] and its [`turns`](Query::turns), [`Kept`] |
+//! | queries of several owners | [`Queue`], [`Entry`] |
 //! | words that were stored | [`Plan::from_words`], [`Query::load`], [`Kept::from_words`] |
 //! | words to read | [`State::read`], [`Plan::read`], [`read_rows`], [`read_groups`], [`read_report`] |
 //!
@@ -62,6 +64,7 @@ mod engine;
 mod lists;
 mod plans;
 mod queries;
+mod queues;
 mod refusals;
 mod states;
 mod stored;
@@ -72,10 +75,15 @@ mod uploads;
 #[cfg(not(feature = "proved"))]
 use sotjarn_portable as engine;
 
-pub use calls::{least_output, make, merge, open, turn, Made, TurnEnding, Turned, MAKE_STACK, MOST_ROWS, MOST_STEPS, STATE_WORDS};
+pub use calls::{
+    join, least_output, make, merge, open, serve, top_up, turn, Made, Queued, Served, TurnEnding, Turned, MAKE_STACK, MOST_ENTRIES,
+    MOST_ROWS, MOST_STEPS, STATE_WORDS,
+};
+pub use engine::Entry;
 pub use lists::{read_groups, read_rows, Group, Kept, List, Row, Unreadable};
 pub use plans::{Branch, Comparison, Condition, Key, Plan, PlanBuilder, PlanEnding};
 pub use queries::{Query, Turn, Turns};
+pub use queues::{plan_in, state_in, Queue, NO_ENTRY};
 pub use refusals::Refusal;
 pub use states::{Place, State};
 pub use tables::{RowFault, TableWords, Tables};

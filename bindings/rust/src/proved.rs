@@ -1,7 +1,7 @@
 //! The calls of the proved library over slices, as the portable engine has them: the only place with unsafe code.
 //!
 //! What bindings/c/sotjarn.h asks of a caller, slices give: a slice's address is never null, even where its length is 0; it is aligned
-//! for u32; so many words may be read from it; a `&mut` slice may be written and overlaps no other; and nobody writes what is borrowed
+//! for its items; so many of them may be read from it; a `&mut` slice may be written and overlaps no other; and nobody writes what is borrowed
 //! while the call runs. The library keeps no address and has no state of its own.
 
 /// What opening and merging answer, and what a plan asks of an output.
@@ -31,6 +31,46 @@ pub struct MadeNumbers {
     pub report: usize,
 }
 
+/// A waiting query, as the header lays it out.
+#[derive(Clone, Copy, Debug, PartialEq, Eq)]
+#[repr(C)]
+pub struct Entry {
+    /// The steps left to it.
+    pub allowance: u64,
+    /// Whose it is.
+    pub owner: u32,
+    /// How many words of `plan` are its plan.
+    pub planned: u32,
+    /// How many words of `state` are its state.
+    pub saved: u32,
+    /// Its plan, and what stands behind it.
+    pub plan: [u32; 256],
+    /// Its state, and what stands behind it.
+    pub state: [u32; 11],
+}
+
+/// What joining and topping up answer.
+#[repr(C)]
+pub struct QueuedNumbers {
+    pub refused: u32,
+    pub waiting: usize,
+    pub resting: usize,
+}
+
+/// What serving answers.
+#[repr(C)]
+pub struct ServiceNumbers {
+    pub ending: u32,
+    pub refused: u32,
+    pub steps: u32,
+    pub owner: u32,
+    pub left: u64,
+    pub saved: usize,
+    pub listed: usize,
+    pub waiting: usize,
+    pub resting: usize,
+}
+
 // The numbers of a turn's endings.
 pub const DONE: u32 = 0;
 pub const SPENT: u32 = 1;
@@ -39,7 +79,7 @@ pub const REFUSED: u32 = 3;
 
 /// The calls as the header declares them.
 mod foreign {
-    use super::{MadeNumbers, TurnedNumbers, WrittenNumbers};
+    use super::{Entry, MadeNumbers, QueuedNumbers, ServiceNumbers, TurnedNumbers, WrittenNumbers};
 
     extern "C" {
         pub fn sotjarn_open(
@@ -98,6 +138,58 @@ mod foreign {
             report: *mut u32,
             report_len: usize,
         ) -> MadeNumbers;
+
+        pub fn sotjarn_join(
+            rows: *const u32,
+            rows_len: usize,
+            pos: *const u32,
+            pos_len: usize,
+            osp: *const u32,
+            osp_len: usize,
+            line: *mut Entry,
+            line_len: usize,
+            line_entries: usize,
+            aside: *mut Entry,
+            aside_len: usize,
+            aside_entries: usize,
+            owner: u32,
+            allowance: u64,
+            plan: *const u32,
+            plan_len: usize,
+            state: *const u32,
+            state_len: usize,
+        ) -> QueuedNumbers;
+
+        pub fn sotjarn_serve(
+            rows: *const u32,
+            rows_len: usize,
+            pos: *const u32,
+            pos_len: usize,
+            osp: *const u32,
+            osp_len: usize,
+            line: *mut Entry,
+            line_len: usize,
+            line_entries: usize,
+            aside: *mut Entry,
+            aside_len: usize,
+            aside_entries: usize,
+            quantum: u32,
+            threshold: *const u32,
+            threshold_len: usize,
+            output: *mut u32,
+            output_len: usize,
+        ) -> ServiceNumbers;
+
+        pub fn sotjarn_top_up(
+            line: *mut Entry,
+            line_len: usize,
+            line_entries: usize,
+            aside: *mut Entry,
+            aside_len: usize,
+            aside_entries: usize,
+            owner: u32,
+            amount: u64,
+        ) -> QueuedNumbers;
     }
 }
 
@@ -190,6 +282,106 @@ pub fn sotjarn_make(upload: &[u32], rows: &mut [u32], pos: &mut [u32], osp: &mut
             osp.len(),
             report.as_mut_ptr(),
             report.len(),
+        )
+    }
+}
+
+#[allow(clippy::too_many_arguments)]
+pub fn sotjarn_join(
+    rows: &[u32],
+    pos: &[u32],
+    osp: &[u32],
+    line: &mut [Entry],
+    given: usize,
+    aside: &mut [Entry],
+    kept: usize,
+    owner: u32,
+    allowance: u64,
+    plan: &[u32],
+    state: &[u32],
+) -> QueuedNumbers {
+    // Sound: each address and length is a slice's; `line` and `aside`, the two that are written, are `&mut` slices, so they overlap
+    // neither each other nor the rest; an `Entry` has the header's layout, and any numbers may stand in it (see the module).
+    unsafe {
+        foreign::sotjarn_join(
+            rows.as_ptr(),
+            rows.len(),
+            pos.as_ptr(),
+            pos.len(),
+            osp.as_ptr(),
+            osp.len(),
+            line.as_mut_ptr(),
+            line.len(),
+            given,
+            aside.as_mut_ptr(),
+            aside.len(),
+            kept,
+            owner,
+            allowance,
+            plan.as_ptr(),
+            plan.len(),
+            state.as_ptr(),
+            state.len(),
+        )
+    }
+}
+
+#[allow(clippy::too_many_arguments)]
+pub fn sotjarn_serve(
+    rows: &[u32],
+    pos: &[u32],
+    osp: &[u32],
+    line: &mut [Entry],
+    given: usize,
+    aside: &mut [Entry],
+    kept: usize,
+    quantum: u32,
+    threshold: &[u32],
+    output: &mut [u32],
+) -> ServiceNumbers {
+    // Sound: as for `sotjarn_join`; `output` is written too, and is a `&mut` slice.
+    unsafe {
+        foreign::sotjarn_serve(
+            rows.as_ptr(),
+            rows.len(),
+            pos.as_ptr(),
+            pos.len(),
+            osp.as_ptr(),
+            osp.len(),
+            line.as_mut_ptr(),
+            line.len(),
+            given,
+            aside.as_mut_ptr(),
+            aside.len(),
+            kept,
+            quantum,
+            threshold.as_ptr(),
+            threshold.len(),
+            output.as_mut_ptr(),
+            output.len(),
+        )
+    }
+}
+
+pub fn sotjarn_top_up(
+    line: &mut [Entry],
+    given: usize,
+    aside: &mut [Entry],
+    kept: usize,
+    owner: u32,
+    amount: u64,
+) -> QueuedNumbers {
+    // Sound: as for `sotjarn_join`.
+    unsafe {
+        foreign::sotjarn_top_up(
+            line.as_mut_ptr(),
+            line.len(),
+            given,
+            aside.as_mut_ptr(),
+            aside.len(),
+            kept,
+            owner,
+            amount,
         )
     }
 }

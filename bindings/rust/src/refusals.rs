@@ -10,7 +10,7 @@ use std::fmt;
 ///
 /// assert_eq!(Refusal::Quantum.code(), 8);
 /// assert_eq!(Refusal::from_code(8), Some(Refusal::Quantum));
-/// assert_eq!(Refusal::from_code(17), None);
+/// assert_eq!(Refusal::from_code(20), None);
 /// assert_eq!(Refusal::Quantum.fault(), "the quantum is outside its range");
 /// assert_eq!(Refusal::Quantum.remedy(), "give 1 to 1,000,000 steps");
 /// assert_eq!(Refusal::Quantum.to_string(), "refused by 8: the quantum is outside its range; give 1 to 1,000,000 steps");
@@ -50,10 +50,17 @@ pub enum Refusal {
     UploadLength = 15,
     /// Making tables: a buffer is too short for the tables or the report.
     MadeLengths = 16,
+    /// Queue: two entries of one owner, the joining one included; one without steps in the line or with steps set aside; a top-up of 0
+    /// or for an owner who is not set aside.
+    Entries = 17,
+    /// Queue: a list too short for 32 entries, or more than 32 in all with the joining one.
+    QueueRoom = 18,
+    /// Queue: serving an empty line.
+    EmptyLine = 19,
 }
 
 /// All of them, by their numbers from 1 on.
-const ALL: [Refusal; 16] = [
+const ALL: [Refusal; 19] = [
     Refusal::TableLengths,
     Refusal::FieldKind,
     Refusal::RowOrder,
@@ -70,6 +77,9 @@ const ALL: [Refusal; 16] = [
     Refusal::KeptLength,
     Refusal::UploadLength,
     Refusal::MadeLengths,
+    Refusal::Entries,
+    Refusal::QueueRoom,
+    Refusal::EmptyLine,
 ];
 
 impl Refusal {
@@ -104,6 +114,12 @@ impl Refusal {
             Refusal::KeptLength => "the kept buffer is too short for the merged list",
             Refusal::UploadLength => "the length of the upload is no multiple of 3, or it has more than 65,536 rows",
             Refusal::MadeLengths => "a buffer is too short for the tables or the report",
+            Refusal::Entries => {
+                "two entries have one owner, an entry is in the list that its steps do not belong to, or a top-up is 0 or for an \
+                 owner who is not set aside"
+            }
+            Refusal::QueueRoom => "a list has no room for 32 entries, or there would be more than 32 in all",
+            Refusal::EmptyLine => "the line is empty",
         }
     }
 
@@ -140,6 +156,12 @@ impl Refusal {
             Refusal::MadeLengths => {
                 "for n uploaded rows lend 3 n words for rows, n for each list and 2 n for the report: that is always enough"
             }
+            Refusal::Entries => {
+                "lend both lists as the last call left them; let an owner join once at a time, and top up, by at least one step, \
+                 whoever is set aside"
+            }
+            Refusal::QueueRoom => "lend 32 entries for each list, and let others join when somebody has left",
+            Refusal::EmptyLine => "serve again when somebody has joined or was topped up",
         }
     }
 }

@@ -3,7 +3,8 @@
 use std::collections::BTreeSet;
 
 use sotjarn::Term::{Name, Number};
-use sotjarn::{make, merge, open, turn, Branch, Plan, PlanBuilder, Refusal, TableWords, Variable};
+use sotjarn::{join, make, merge, open, serve, top_up, turn, Branch, Entry, Plan, PlanBuilder, Refusal, TableWords, Variable};
+use sotjarn::{MOST_ENTRIES, NO_ENTRY};
 
 const STEM: Variable = Variable(0);
 const SIZE: Variable = Variable(1);
@@ -82,6 +83,123 @@ fn make_refused(fewer: usize, report_words: usize) -> Option<u32> {
         .map(Refusal::code)
 }
 
+/// A queue over the wood: owner 7 in the line, owner 8 set aside.
+struct Queued {
+    lent: Lent,
+    line: Vec<Entry>,
+    line_entries: usize,
+    aside: Vec<Entry>,
+    aside_entries: usize,
+}
+
+fn queued() -> Queued {
+    let mut queue = Queued {
+        lent: lent(),
+        line: vec![NO_ENTRY; MOST_ENTRIES],
+        line_entries: 0,
+        aside: vec![NO_ENTRY; MOST_ENTRIES],
+        aside_entries: 0,
+    };
+    assert_eq!((join_refused(&mut queue, 7, 5), join_refused(&mut queue, 8, 0)), (None, None));
+    (queue.line_entries, queue.aside_entries) = (1, 1);
+    queue
+}
+
+fn join_refused(queue: &mut Queued, owner: u32, allowance: u64) -> Option<u32> {
+    let (
+        Lent {
+            wood,
+            plan,
+            state,
+            state_words,
+            ..
+        },
+        line,
+        aside,
+    ) = (&queue.lent, &mut queue.line, &mut queue.aside);
+    let (line_entries, aside_entries) = (queue.line_entries, queue.aside_entries);
+    let (tables, state) = (wood.tables(), &state[..*state_words]);
+    join(
+        tables,
+        line,
+        line_entries,
+        aside,
+        aside_entries,
+        owner,
+        allowance,
+        plan,
+        state,
+    )
+    .err()
+    .map(Refusal::code)
+}
+
+fn serve_refused(mut queue: Queued) -> Option<u32> {
+    let (
+        Lent {
+            wood, output, quantum, ..
+        },
+        line,
+        aside,
+    ) = (&mut queue.lent, &mut queue.line, &mut queue.aside);
+    serve(
+        wood.tables(),
+        line,
+        queue.line_entries,
+        aside,
+        queue.aside_entries,
+        *quantum,
+        &[],
+        output,
+    )
+    .err()
+    .map(Refusal::code)
+}
+
+/// What refuses a serve of the queue after a change; its first tests are a turn's, on the front entry.
+fn served(change: impl Fn(&mut Queued)) -> Option<u32> {
+    let mut queue = queued();
+    change(&mut queue);
+    serve_refused(queue)
+}
+
+fn topped_up(owner: u32, amount: u64) -> Option<u32> {
+    let mut queue = queued();
+    let (line, aside) = (&mut queue.line, &mut queue.aside);
+    top_up(line, 1, aside, 1, owner, amount).err().map(Refusal::code)
+}
+
+#[test]
+fn each_refusal_of_a_queue_has_its_call() {
+    assert_eq!(join_refused(&mut queued(), 9, 5), None);
+    assert_eq!(join_refused(&mut queued(), 7, 5), Some(17));
+    assert_eq!(join_refused(&mut queued(), 8, 5), Some(17));
+    assert_eq!(served(|_| ()), None);
+    assert_eq!(served(|queue| queue.line[0].planned = 257), Some(5));
+    assert_eq!(served(|queue| queue.lent.output.truncate(1)), Some(7));
+    assert_eq!(served(|queue| queue.lent.quantum = 0), Some(8));
+    assert_eq!(served(|queue| queue.line[0].saved = 12), Some(9));
+    assert_eq!(served(|queue| queue.line[0].state[1] += 4), Some(10));
+    assert_eq!(served(|queue| queue.line[0].allowance = 0), Some(17));
+    assert_eq!(served(|queue| queue.aside[0].allowance = 1), Some(17));
+    assert_eq!(served(|queue| queue.aside[0].owner = 7), Some(17));
+    assert_eq!(served(|queue| queue.line.truncate(31)), Some(18));
+    assert_eq!(served(|queue| queue.aside_entries = usize::MAX), Some(17)); // entries of nobody, all the same owner's
+    assert_eq!(served(|queue| queue.line_entries = 0), Some(19));
+    assert_eq!(served(|queue| (queue.line_entries, queue.lent.quantum) = (0, 0)), Some(8));
+    let mut full = queued();
+    for (owner, entry) in full.aside.iter_mut().enumerate() {
+        entry.owner = 100 + owner as u32;
+    }
+    full.aside_entries = 31;
+    assert_eq!(join_refused(&mut full, 9, 5), Some(18));
+    assert_eq!(serve_refused(full), None);
+    assert_eq!(
+        (topped_up(8, 1), topped_up(8, 0), topped_up(7, 1), topped_up(9, 1)),
+        (None, Some(17), Some(17), Some(17))
+    );
+}
+
 #[test]
 fn each_refusal_has_its_call() {
     assert_eq!(refused(|_| ()), None);
@@ -142,15 +260,15 @@ fn a_record_of_no_rows_passes_only_without_keys() {
 
 #[test]
 fn each_refusal_says_its_number_and_something_of_its_own() {
-    let said: BTreeSet<String> = (1..=16)
+    let said: BTreeSet<String> = (1..=19)
         .filter_map(Refusal::from_code)
         .map(|refusal| refusal.to_string())
         .collect();
-    assert_eq!(said.len(), 16);
-    for code in 1..=16 {
+    assert_eq!(said.len(), 19);
+    for code in 1..=19 {
         let refusal = Refusal::from_code(code).expect("the rules have it");
         assert_eq!(refusal.code(), code);
         assert!(refusal.to_string().starts_with(&format!("refused by {code}: ")));
     }
-    assert_eq!((Refusal::from_code(0), Refusal::from_code(17)), (None, None));
+    assert_eq!((Refusal::from_code(0), Refusal::from_code(20)), (None, None));
 }

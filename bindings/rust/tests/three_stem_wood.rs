@@ -2,7 +2,7 @@
 
 use sotjarn::Term::{Name, Number};
 use sotjarn::{
-    make, open, turn, Branch, Comparison, Condition, Group, Kept, Key, List, Place, Plan, PlanBuilder, Query, Refusal, State,
+    make, open, turn, Branch, Comparison, Condition, Group, Kept, Key, List, Place, Plan, PlanBuilder, Query, Queue, Refusal, State,
 };
 use sotjarn::{Dropped, Made, Reason, TableWords, Tables, TurnEnding, Value, Variable};
 
@@ -302,4 +302,35 @@ fn a_list_ending_3_3_is_refused_by_4() {
         Err(Refusal::RowNumbers)
     );
     assert_eq!(Refusal::RowNumbers.code(), 4);
+}
+
+/// The proved case of three owners: eleven calls, four of them refused.
+#[test]
+fn three_owners_on_the_line() {
+    let (wood, plan, mut queue) = (wood(), plan_a(), Queue::new());
+    let tables = wood.tables();
+    let start = Query::open(tables, plan.words())
+        .expect("the opening is accepted")
+        .state()
+        .to_vec();
+    let mut output = [0; 4];
+    let mut ten = |queue: &mut Queue| {
+        let served = queue.serve(tables, 10, &[], &mut output)?;
+        let list = output[..served.turned.list_words].to_vec();
+        Ok((served.owner, served.turned.ending, served.turned.steps, served.left, list))
+    };
+    let (n2, n3, i310) = (2, 3, 0x4000_0136);
+    assert_eq!(ten(&mut queue), Err(Refusal::EmptyLine));
+    assert_eq!(queue.join(tables, 7, 4, plan.words(), &start), Ok(()));
+    assert_eq!(queue.join(tables, 8, 100, plan.words(), &start), Ok(()));
+    assert_eq!(queue.join(tables, 7, 5, plan.words(), &start), Err(Refusal::Entries));
+    assert_eq!(queue.join(tables, 9, 0, plan.words(), &start), Ok(()));
+    assert_eq!(ten(&mut queue), Ok((7, TurnEnding::Spent, 4, 0, vec![])));
+    assert_eq!(ten(&mut queue), Ok((8, TurnEnding::Done, 10, 90, vec![n2, i310, n3, i310])));
+    assert_eq!(ten(&mut queue), Err(Refusal::EmptyLine));
+    assert_eq!(queue.top_up(8, 6), Err(Refusal::Entries));
+    assert_eq!(queue.top_up(7, 6), Ok(()));
+    assert_eq!(ten(&mut queue), Ok((7, TurnEnding::Done, 6, 0, vec![n2, i310, n3, i310])));
+    let owners: Vec<u32> = queue.set_aside().iter().map(|entry| entry.owner).collect();
+    assert_eq!((queue.line().len(), owners), (0, vec![9]));
 }

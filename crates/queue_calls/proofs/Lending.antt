@@ -34,7 +34,7 @@ use Rattle.queue_entries.specs.declared.Seen.{Seen}
 use Rattle.queue_entries.specs.Entries.{nobody}
 use Rattle.queue_entries.specs.Seeing.{SeenOf}
 use Rattle.queue_tests.specs.declared.Change.{Change}
-use Rattle.queue_tests.specs.Changes.{Fits as Within}
+use Rattle.queue_tests.specs.Changes.{ChangeFits}
 use Rattle.queue_entries.proofs.look as looks
 use Rattle.queue_entries.proofs.entry_at as reads
 use Rattle.queue_entries.proofs.settle as puts
@@ -129,7 +129,7 @@ module _ {M : Type 1} (𝓤 : URA M) (H : Heap 𝓤) (A : Atoms 𝓤) (mem : Mem
 
     pub goes-settle : (κ : Lft) (q : Share) (x : RefT (List Entry)) (h : Change) (e : Entry) → h .gap < 2 ^ 64 → h .last < 2 ^ 64
         → Is T.the-row e (entry-vals e)
-        → Within h (x .now)
+        → ChangeFits h (x .now)
         → ent 𝓤 (sep 𝓤 (A .lft κ q) (sem 𝓤 H A (MutSlice (named 0) κ T.the-row .own x (sliceVal (x .ptr) (length (x .now)) ∷ []))))
         (Settle .pre (to-settle κ q x h e))
     goes-settle κ q x h e gg gl ge within =

@@ -4,10 +4,12 @@ use queue_entries::look;
 use queue_entries::settle;
 use queues::Entry;
 use queues::Queued;
+use queues::Service;
 ghost use mathlib.Core.Path.{_≡_};
 ghost use Rattle.queues.specs.Lists.{lentAs};
 ghost use Rattle.queues.specs.ToppingUp.{topUpOf};
-ghost use Rattle.queues.specs.Joining.{joinOf};
+ghost use Rattle.queues.specs.Joining.{joinQueueOf};
+ghost use Rattle.queues.specs.Serving.{serveOf};
 ghost use Rattle.tables.specs.Tables.{tablesOf};
 
 // An owner's query joins: with steps at the end of the line, without at the end of the list set aside.
@@ -25,7 +27,7 @@ pub fn join(
     state: &[u32],
 ) -> Queued
     ensures { λ r. ⌜ record { answer = r; line = now (line .exit); aside = now (aside .exit) }
-        ≡ joinOf (tablesOf (now (rows .entry)) (now (pos .entry)) (now (osp .entry)))
+        ≡ joinQueueOf (tablesOf (now (rows .entry)) (now (pos .entry)) (now (osp .entry)))
         (lentAs (now (line .entry)) given (now (aside .entry)) kept)
         (record { owner = owner; allowance = allowance; plan = now (plan .entry); state = now (state .entry) }) ⌝ }
 {
@@ -62,6 +64,43 @@ pub fn top_up(
     let seen = look(line, given, aside, kept, owner);
     let e = entry_at(aside, seen.found);
     let d = queue_tests::top_up(seen, given, kept, owner, amount, e);
+    settle(line, d.line.gap, d.line.last, d.line.adds, d.entry);
+    settle(aside, d.aside.gap, d.aside.last, d.aside.adds, d.entry);
+    d.answer
+}
+
+// Serves the front entry of the line: one turn of its query, for at most so many steps and no more than are left to it.
+pub fn serve(
+    rows: &[u32],
+    pos: &[u32],
+    osp: &[u32],
+    line: &mut [Entry],
+    given: usize,
+    aside: &mut [Entry],
+    kept: usize,
+    quantum: u32,
+    threshold: &[u32],
+    output: &mut [u32],
+) -> Service
+    ensures { λ r. ⌜ record { answer = r; line = now (line .exit); aside = now (aside .exit); output = now (output .exit) }
+        ≡ serveOf (tablesOf (now (rows .entry)) (now (pos .entry)) (now (osp .entry)))
+        (lentAs (now (line .entry)) given (now (aside .entry)) kept)
+        (record { quantum = quantum; threshold = now (threshold .entry); output = now (output .entry) }) ⌝ }
+{
+    let seen = look(line, given, aside, kept, 0);
+    let e = entry_at(line, 0);
+    let d = queue_turns::serve(
+        rows,
+        pos,
+        osp,
+        seen,
+        given,
+        kept,
+        e,
+        quantum,
+        threshold,
+        output,
+    );
     settle(line, d.line.gap, d.line.last, d.line.adds, d.entry);
     settle(aside, d.aside.gap, d.aside.last, d.aside.adds, d.entry);
     d.answer

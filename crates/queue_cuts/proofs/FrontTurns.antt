@@ -17,11 +17,11 @@ use Rattle.turns.specs.declared.TurnEnding.{TurnEnding}
 use Rattle.turns.specs.declared.TurnEnding.the-variants as ending
 use Rattle.turns.specs.Turns.{TurnResult}
 use Rattle.queues.specs.declared.Entry.{Entry}
-use Rattle.queues.specs.Lists.{Lent, lineOf, asideOf, ownersIn}
+use Rattle.queues.specs.Lists.{LentLists, lineOf, asideOf, ownersIn}
 use Rattle.queues.specs.Serving.{Serving, ServeResult, entryAfter, frontTurn, goesBack, turnedTo, frontServed, servedAs, serveOf, serveTests}
 use Rattle.queues.specs.Serving.{serviceWith}
 use Rattle.queues.specs.Calls.{Queue, serve, MadeCall, lentTo, afterService, afterCall}
-use Rattle.queue_cuts.specs.Owners.{isServed}
+use Rattle.queries.specs.Stepping.{isServed}
 use Rattle.queue_cuts.specs.Owners.{NoneOf}
 use Rattle.queues.proofs.Moving.{queue, line-lent, aside-lent, both-taken}
 
@@ -63,16 +63,16 @@ pub record Told (t : Tables) (s : Serving) (e : Entry) (y : ServeResult) : Type 
   pub output : y .output ≡ frontTurn t s e .output
   pub served : (x : ℕ) → frontTurn t s e .answer .ending ≡ ending.Refused x → ⊥
 
-pub data Serves (t : Tables) (s : Serving) (q : Queue) (y : ServeResult) : Queue → Type 0 where
-  not-served : isServed (y .answer .turned .ending) ≡ false → Serves t s q y q
-  off : (e : Entry) (es : List Entry) → q .line ≡ e ∷ es → Told t s e y → Serves t s q y (queue es (q .aside))
+pub data Serviced (t : Tables) (s : Serving) (q : Queue) (y : ServeResult) : Queue → Type 0 where
+  not-served : isServed (y .answer .turned .ending) ≡ false → Serviced t s q y q
+  off : (e : Entry) (es : List Entry) → q .line ≡ e ∷ es → Told t s e y → Serviced t s q y (queue es (q .aside))
   on : (e : Entry) (es : List Entry) → q .line ≡ e ∷ es → Told t s e y
-      → Serves t s q y (queue (es ++ (entryAfter e (frontTurn t s e) ∷ [])) (q .aside))
+      → Serviced t s q y (queue (es ++ (entryAfter e (frontTurn t s e) ∷ [])) (q .aside))
   out : (e : Entry) (es : List Entry) → q .line ≡ e ∷ es → Told t s e y
-      → Serves t s q y (queue es (q .aside ++ (entryAfter e (frontTurn t s e) ∷ [])))
+      → Serviced t s q y (queue es (q .aside ++ (entryAfter e (frontTurn t s e) ∷ [])))
 
 module _ (t : Tables) (q : Queue) (m : MadeCall) (s : Serving) where
-  abbrev held : Lent
+  abbrev held : LentLists
   held = lentTo q m
 
   module _ (e : Entry) (es : List Entry) (line-is : lineOf held ≡ e ∷ es) where
@@ -94,14 +94,14 @@ module _ (t : Tables) (q : Queue) (m : MadeCall) (s : Serving) where
     left y (ending.Refused z) h = absurd (h z refl)
 
     to : (line aside aside′ : List Entry) → ((x : ℕ) → r .answer .ending ≡ ending.Refused x → ⊥) → aside ≡ aside′
-        → Serves t s q (serviceWith held e r line aside) (queue line aside′)
-        → Serves t s q (serviceWith held e r line aside) (afterService q (serviceWith held e r line aside) (r .answer .ending))
+        → Serviced t s q (serviceWith held e r line aside) (queue line aside′)
+        → Serviced t s q (serviceWith held e r line aside) (afterService q (serviceWith held e r line aside) (r .answer .ending))
     to line aside aside′ h f k =
-        subst (λ (x : Queue). Serves t s q (serviceWith held e r line aside) x)
+        subst (λ (x : Queue). Serviced t s q (serviceWith held e r line aside) x)
         (sym (left (serviceWith held e r line aside) (r .answer .ending) h ∙ both-taken held line aside line aside′ refl f)) k
 
     back : ((x : ℕ) → r .answer .ending ≡ ending.Refused x → ⊥)
-        → Serves t s q (goesBack held e es r) (afterService q (goesBack held e es r) (goesBack held e es r .answer .turned .ending))
+        → Serviced t s q (goesBack held e es r) (afterService q (goesBack held e es r) (goesBack held e es r .answer .turned .ending))
     back h = by-left (eqb (e .allowance - r .answer .steps) 0)
       where
         d : Entry
@@ -110,14 +110,14 @@ module _ (t : Tables) (q : Queue) (m : MadeCall) (s : Serving) where
         choose : Bool → ServeResult
         choose b = cond b (serviceWith held e r es (asideOf held ++ (d ∷ []))) (serviceWith held e r (es ++ (d ∷ [])) (asideOf held))
 
-        by-left : (b : Bool) → Serves t s q (choose b) (afterService q (choose b) (choose b .answer .turned .ending))
+        by-left : (b : Bool) → Serviced t s q (choose b) (afterService q (choose b) (choose b .answer .turned .ending))
         by-left true =
             to es (asideOf held ++ (d ∷ [])) (q .aside ++ (d ∷ [])) h (ap (λ (ds : List Entry). ds ++ (d ∷ [])) (aside-lent q m))
             (out e es front (told es (asideOf held ++ (d ∷ [])) h))
         by-left false = to (es ++ (d ∷ [])) (asideOf held) (q .aside) h (aside-lent q m) (on e es front (told (es ++ (d ∷ [])) (asideOf held) h))
 
     by-ending : (x : TurnEnding) → r .answer .ending ≡ x
-        → Serves t s q (turnedTo held s e es r x) (afterService q (turnedTo held s e es r x) (turnedTo held s e es r x .answer .turned .ending))
+        → Serviced t s q (turnedTo held s e es r x) (afterService q (turnedTo held s e es r x) (turnedTo held s e es r x .answer .turned .ending))
     by-ending ending.Done is =
         let h : (x : ℕ) → r .answer .ending ≡ ending.Refused x → ⊥ = λ x f. let z : _≡_ {A = ℕ} 0 1 = cc in omega arith in
         to es (asideOf held) (q .aside) h (aside-lent q m) (off e es front (told es (asideOf held) h))
@@ -126,14 +126,14 @@ module _ (t : Tables) (q : Queue) (m : MadeCall) (s : Serving) where
     by-ending (ending.Refused x) is = not-served refl
 
   by-line : (es : List Entry) → lineOf held ≡ es
-      → Serves t s q (frontServed t held s es) (afterService q (frontServed t held s es) (frontServed t held s es .answer .turned .ending))
+      → Serviced t s q (frontServed t held s es) (afterService q (frontServed t held s es) (frontServed t held s es .answer .turned .ending))
   by-line [] is = not-served refl
   by-line (e ∷ es) is = by-ending e es is (frontTurn t s e .answer .ending) refl
 
-  pub serves : Serves t s q (serveOf t held s) (afterCall t q held (serve s))
+  pub serves : Serviced t s q (serveOf t held s) (afterCall t q held (serve s))
   unfolding serveOf
   serves = by-tests (firstFailing (serveTests t held s))
     where
-      by-tests : (o : Option ℕ) → Serves t s q (servedAs t held s o) (afterService q (servedAs t held s o) (servedAs t held s o .answer .turned .ending))
+      by-tests : (o : Option ℕ) → Serviced t s q (servedAs t held s o) (afterService q (servedAs t held s o) (servedAs t held s o .answer .turned .ending))
       by-tests (some x) = not-served refl
       by-tests none = by-line (lineOf held) refl

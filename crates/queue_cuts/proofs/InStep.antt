@@ -23,19 +23,20 @@ use Rattle.merges.specs.Merging.{MergeResult, mergeOf}
 use Rattle.cuts.specs.Histories.{Event, turns, merges, joins, Phone, ServedTurn, servedIn, turnInputOf, servedOf, afterServed, afterTurn}
 use Rattle.cuts.specs.Histories.{afterTaking, mergeInputOf, afterMerge, afterJoin, afterMerging, afterJoining, happens, history}
 use Rattle.queues.specs.declared.Entry.{Entry}
-use Rattle.queues.specs.Lists.{Lent, lineOf, asideOf, hasOwner}
-use Rattle.queues.specs.Joining.{Joining, entryOf, joinTests, joinedAs, joinOf, QueuedResult, listsWith}
+use Rattle.queues.specs.Lists.{LentLists, lineOf, asideOf, hasOwner}
+use Rattle.queues.specs.Joining.{Joining, newEntry, joinTests, joinedAs, joinQueueOf, QueuedResult, listsWith}
 use Rattle.queues.specs.ToppingUp.{notOwner, topUpTests, toppedAs, topUpOf, withAllowance}
 use Rattle.queues.specs.Serving.{Serving, ServeResult, entryTurn, entryAfter, frontTurn, serveOf}
-use Rattle.queues.specs.Calls.{Queue, Call, join, serve, topUp, MadeCall, lentTo, afterQueued, afterCall}
-use Rattle.queue_cuts.specs.Owners.{Act, calls, merging, joining, ownTurn, ownService, isServed, ifOwn, callEvents, callServices, ownEvents}
-use Rattle.queue_cuts.specs.Owners.{ownServices, afterActs, notJoined, NeverAgain, NoneOf, Holds, Waits, gone, in-line, set-aside}
+use Rattle.queues.specs.Calls.{Queue, QueueCall, join, serve, topUp, MadeCall, lentTo, afterQueued, afterCall}
+use Rattle.queries.specs.Stepping.{isServed}
+use Rattle.queue_cuts.specs.Owners.{Act, calls, merging, joining, ownTurn, ownService, ifOwn, callEvents, callServices, ownEvents}
+use Rattle.queue_cuts.specs.Owners.{ownServices, afterActs, notJoined, NeverAgain, NoneOf, HoldsQuery, Waits, gone, in-line, set-aside}
 use Rattle.queues.proofs.Moving.{queue, line-lent, aside-lent, both-taken, topped-up}
-use Rattle.queue_cuts.proofs.FrontTurns.{other, not-first, none-behind, none-both, none-of-no-one, none-and-one, has-one, Told, Serves, not-served}
+use Rattle.queue_cuts.proofs.FrontTurns.{other, not-first, none-behind, none-both, none-of-no-one, none-and-one, has-one, Told, Serviced, not-served}
 use Rattle.queue_cuts.proofs.FrontTurns.{off, on, out, serves}
 
 -- ---- the owner's own turn, as an event of its cut
-module _ (t : Tables) (plan : List ℕ) (owner : ℕ) (s : Serving) (e : Entry) (h : Phone) (k : Holds owner plan (h .saved) e) where
+module _ (t : Tables) (plan : List ℕ) (owner : ℕ) (s : Serving) (e : Entry) (h : Phone) (k : HoldsQuery owner plan (h .saved) e) where
   abbrev quantum : ℕ
   quantum = min (s .quantum) (e .allowance)
 
@@ -69,7 +70,7 @@ module _ (t : Tables) (plan : List ℕ) (owner : ℕ) (s : Serving) (e : Entry) 
       ap (λ (i : TurnInput). afterTurn h quantum (turnOf i) (turnOf i .answer .ending)) same-input ∙ after-served (res .answer .ending) f
 
   -- the entry that goes on holds the words that the turn saved
-  still-holds : ((x : ℕ) → res .answer .ending ≡ ending.Refused x → ⊥) → Holds owner plan (afterServed h quantum res .saved) (entryAfter e res)
+  still-holds : ((x : ℕ) → res .answer .ending ≡ ending.Refused x → ⊥) → HoldsQuery owner plan (afterServed h quantum res .saved) (entryAfter e res)
   still-holds f =
       let o = follows (entryTurn t s e quantum) f .state in
       record { its = k .its; plans = k .plans; words = refl; count = ap length (o .front) ∙ sym (o .counted) }
@@ -110,7 +111,7 @@ module _ (t : Tables) (owner : ℕ) (plan : List ℕ) where
 
   -- the owner's own entry is at the front
   record AtFront (saved : List ℕ) (q : Queue) (e : Entry) (es : List Entry) : Type 0 where
-    holds : Holds owner plan saved e
+    holds : HoldsQuery owner plan saved e
     behind-none : NoneOf owner es
     aside-none : NoneOf owner (q .aside)
 
@@ -119,7 +120,7 @@ module _ (t : Tables) (owner : ℕ) (plan : List ℕ) where
   at-front saved q e es front hers (gone a b) = absurd (not-first owner e es (subst (NoneOf owner) front a) hers)
   at-front saved q e es front hers (in-line [] behind d is hd a b c) =
       let z : d ≡ e = cc in let y : behind ≡ es = cc in
-      record { holds = subst (Holds owner plan saved) z hd; behind-none = subst (NoneOf owner) y b; aside-none = c }
+      record { holds = subst (HoldsQuery owner plan saved) z hd; behind-none = subst (NoneOf owner) y b; aside-none = c }
   at-front saved q e es front hers (in-line (x ∷ before) behind d is hd a b c) =
       let z : x ≡ e = cc in absurd (not-first owner x before a (ap (λ (w : Entry). w .owner) z ∙ hers))
   at-front saved q e es front hers (set-aside before behind d is hd a b c) = absurd (not-first owner e es (subst (NoneOf owner) front a) hers)
@@ -182,7 +183,7 @@ module _ (t : Tables) (owner : ℕ) (plan : List ℕ) where
               not-its (subst (λ (z : Queue). Waits owner plan (h .saved) z) (λ i. queue (sym f i) (sym g i))
               (tail-waits (h .saved) q e es front (eqb-false (e .owner) owner not-hers) w xs ys (n .0) (n .1)))
 
-    serve-step : {q′ : Queue} → Serves t s q y q′ → Step h q′ (events (q .line)) (services (q .line))
+    serve-step : {q′ : Queue} → Serviced t s q y q′ → Step h q′ (events (q .line)) (services (q .line))
     serve-step (not-served e) = rw (nobody's (ownTurn owner s) (q .line) e, nobody's (λ (x : Entry). ownService owner s x y) (q .line) e) (not-its w)
     serve-step (off e es front told) =
         step-of e es front told es (q .aside) [] [] (sym (append-nil es)) (sym (append-nil (q .aside))) (λ _. (none-of-no-one owner, none-of-no-one owner))
@@ -212,14 +213,14 @@ module _ (t : Tables) (owner : ℕ) (plan : List ℕ) where
 
   join-waits : (saved : List ℕ) (q : Queue) (m : MadeCall) (j : Joining) → (j .owner ≡ owner → ⊥) → Waits owner plan saved q
       → Waits owner plan saved (afterCall t q (lentTo q m) (join j))
-  unfolding joinOf
+  unfolding joinQueueOf
   join-waits saved q m j hers w = by-tests (firstFailing (joinTests t (lentTo q m) j))
     where
-      l : Lent
+      l : LentLists
       l = lentTo q m
 
       d : Entry
-      d = entryOf j
+      d = newEntry j
 
       one : NoneOf owner (d ∷ [])
       one = other owner d [] hers (none-of-no-one owner)
@@ -307,11 +308,11 @@ module _ (t : Tables) (owner : ℕ) (plan : List ℕ) where
         (none-and-one owner ys d′ b (not-in (q .aside) before behind d whole c)) (without (q .aside) before behind d whole c)
     returned (set-aside xs ys e is hd a b c) =
         elim (which before behind xs ys e (hd .its) (sym whole ∙ is) b c) [
-          | inl w ↦ in-line (q .line) [] d′ refl (same-words (subst (Holds owner plan saved) (w .0) hd)) a (none-of-no-one owner) (w .1)
+          | inl w ↦ in-line (q .line) [] d′ refl (same-words (subst (HoldsQuery owner plan saved) (w .0) hd)) a (none-of-no-one owner) (w .1)
           | inr w ↦ set-aside (w .1 .0) (w .1 .1 .0) e (w .1 .1 .1 .0) hd (none-and-one owner (q .line) d′ a (w .0)) (w .1 .1 .1 .1 .0) (w .1 .1 .1 .1 .1)
         ]
       where
-        same-words : Holds owner plan saved d → Holds owner plan saved d′
+        same-words : HoldsQuery owner plan saved d → HoldsQuery owner plan saved d′
         same-words k = record { its = k .its; plans = k .plans; words = k .words; count = k .count }
 
   top-up-waits : (saved : List ℕ) (q : Queue) (m : MadeCall) (o n : ℕ) → Waits owner plan saved q
@@ -319,7 +320,7 @@ module _ (t : Tables) (owner : ℕ) (plan : List ℕ) where
   unfolding topUpOf
   top-up-waits saved q m o n w = by-tests (firstFailing (topUpTests l o n)) refl
     where
-      l : Lent
+      l : LentLists
       l = lentTo q m
 
       by-tests : (x : Option ℕ) → firstFailing (topUpTests l o n) ≡ x
@@ -376,7 +377,7 @@ module _ (t : Tables) (owner : ℕ) (plan : List ℕ) where
     pub served : servedIn (history t plan h (ownEvents t owner q acts)) ≡ servedIn h ++ ownServices t owner q acts
 
   -- what one call means
-  call-step : (q : Queue) (h : Phone) (m : MadeCall) (c : Call) → Waits owner plan (h .saved) q → notJoined owner c
+  call-step : (q : Queue) (h : Phone) (m : MadeCall) (c : QueueCall) → Waits owner plan (h .saved) q → notJoined owner c
       → Step h (afterCall t q (lentTo q m) c) (callEvents t owner q m c) (callServices t owner q m c)
   call-step q h m (join j) w n = not-its (join-waits (h .saved) q m j n w)
   call-step q h m (serve s) w n = serve-step h q s (serveOf t (lentTo q m) s) w (serves t q m s)

@@ -25,11 +25,11 @@ use Rattle.cuts.specs.Premises.{Premises}
 use Rattle.cuts.specs.Uncut.{EndsAt, AsUncut, runList}
 use Rattle.cuts.proofs.AnyCut.{any-cut}
 use Rattle.queues.specs.declared.Entry.{Entry}
-use Rattle.queues.specs.Lists.{planRoom, filled, Lent, lineOf, asideOf, ownersIn, owners, entriesRight}
-use Rattle.queues.specs.Joining.{Joining, entryOf, joinTests, joinOf, QueuedResult, listsWith}
+use Rattle.queues.specs.Lists.{entryPlanRoom, filled, LentLists, lineOf, asideOf, ownersIn, owners, entriesRight}
+use Rattle.queues.specs.Joining.{Joining, newEntry, joinTests, joinQueueOf, QueuedResult, listsWith}
 use Rattle.queues.specs.Calls.{Queue, join, MadeCall, lentTo, afterQueued, afterCall}
 use Rattle.queue_cuts.specs.Owners.{Act, joining, ownEvents}
-use Rattle.queue_cuts.specs.Owners.{NeverAgain, NoneOf, Holds, Waits, in-line, set-aside}
+use Rattle.queue_cuts.specs.Owners.{NeverAgain, NoneOf, HoldsQuery, Waits, in-line, set-aside}
 use Rattle.queues.proofs.Moving.{line-lent, aside-lent, both-taken, first-passes}
 use Rattle.queue_cuts.proofs.FrontTurns.{none-of-no-one, on}
 use Rattle.queue_cuts.proofs.InStep.{in-step}
@@ -37,7 +37,7 @@ use Rattle.queue_cuts.specs.Owners.{Independent, Finished}
 
 -- ---- from joining on
 -- a joined entry holds its plan and its state
-entry-holds : (j : Joining) → Holds (j .owner) (j .plan) (j .state) (entryOf j)
+entry-holds : (j : Joining) → HoldsQuery (j .owner) (j .plan) (j .state) (newEntry j)
 entry-holds j =
     record {
       its = refl;
@@ -46,7 +46,7 @@ entry-holds j =
       count = refl;
     }
   where
-    fits : length (j .plan) ≤ length (filled planRoom (j .plan))
+    fits : length (j .plan) ≤ length (filled entryPlanRoom (j .plan))
     fits = simp length-append (omega arith)
 
 pub independent : (t : Tables) (plan state : List ℕ) → Opens t plan state → (owner : ℕ) (q : Queue)
@@ -91,14 +91,14 @@ after-first x false xs h = absurd (none-some (sym h))
 
 pub joined-waits : (t : Tables) (q : Queue) (m : MadeCall) (j : Joining) → firstFailing (joinTests t (lentTo q m) j) ≡ none
     → Waits (j .owner) (j .plan) (j .state) (afterCall t q (lentTo q m) (join j))
-unfolding joinOf
+unfolding joinQueueOf
 joined-waits t q m j passed = rw passed (by-steps (eqb (j .allowance) 0))
   where
-    l : Lent
+    l : LentLists
     l = lentTo q m
 
     d : Entry
-    d = entryOf j
+    d = newEntry j
 
     free : member (j .owner) (owners l) ≡ false
     free =

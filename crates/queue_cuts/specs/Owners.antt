@@ -11,10 +11,11 @@ use Rattle.turns.specs.declared.TurnEnding.the-variants as ending
 use Rattle.plans.specs.Plans.{planOf}
 use Rattle.cuts.specs.Uncut.{AsUncut}
 use Rattle.cuts.specs.Histories.{Phone, servedIn, doneIn, history, Event, turns, merges, joins, ServedTurn}
+use Rattle.queries.specs.Stepping.{isServed}
 use Rattle.queues.specs.declared.Entry.{Entry}
-use Rattle.queues.specs.Lists.{hasOwner, ownersIn, planIn}
+use Rattle.queues.specs.Lists.{hasOwner, ownersIn, entryPlan}
 use Rattle.queues.specs.Serving.{Serving, ServeResult, serveOf}
-use Rattle.queues.specs.Calls.{Queue, Call, join, serve, topUp, MadeCall, lentTo, afterCall}
+use Rattle.queues.specs.Calls.{Queue, QueueCall, join, serve, topUp, MadeCall, lentTo, afterCall}
 
 -- what happens: a call on the queue, by anyone; or the owner's phone takes its earliest list, by a merge or a join
 pub data Act : Type 0 where
@@ -36,22 +37,16 @@ ownService owner s e r =
       list = take (r .answer .turned .listed) (r .output);
     }
 
-abbrev pub isServed : TurnEnding → Bool
-isServed ending.Done = true
-isServed ending.Spent = true
-isServed ending.Full = true
-isServed (ending.Refused x) = false
-
 abbrev pub ifOwn {ℓ} : {A : Type ℓ} → ℕ → List Entry → ServeResult → (Entry → A) → List A
 ifOwn owner [] r f = []
 ifOwn owner (e ∷ es) r f = cond (hasOwner owner e) (cond (isServed (r .answer .turned .ending)) (f e ∷ []) []) []
 
-abbrev pub callEvents : Tables → ℕ → Queue → MadeCall → Call → List Event
+abbrev pub callEvents : Tables → ℕ → Queue → MadeCall → QueueCall → List Event
 callEvents t owner q m (join j) = []
 callEvents t owner q m (serve s) = ifOwn owner (q .line) (serveOf t (lentTo q m) s) (ownTurn owner s)
 callEvents t owner q m (topUp o n) = []
 
-abbrev pub callServices : Tables → ℕ → Queue → MadeCall → Call → List ServedTurn
+abbrev pub callServices : Tables → ℕ → Queue → MadeCall → QueueCall → List ServedTurn
 callServices t owner q m (join j) = []
 callServices t owner q m (serve s) =
     ifOwn owner (q .line) (serveOf t (lentTo q m) s) (λ (e : Entry). ownService owner s e (serveOf t (lentTo q m) s))
@@ -79,7 +74,7 @@ afterActs t q (joining ∷ acts) = afterActs t q acts
 
 -- ---- the owner's entry
 -- the owner does not join again: one query, from joining to leaving
-abbrev pub notJoined : ℕ → Call → Type 0
+abbrev pub notJoined : ℕ → QueueCall → Type 0
 notJoined owner (join j) = j .owner ≡ owner → ⊥
 notJoined owner (serve s) = Unit {0}
 notJoined owner (topUp o n) = Unit {0}
@@ -98,18 +93,18 @@ abbrev pub NoneOf : ℕ → List Entry → Type 0
 NoneOf owner es = member owner (ownersIn es) ≡ false
 
 -- an entry is the owner's, with that plan and those saved words
-pub record Holds (owner : ℕ) (plan saved : List ℕ) (e : Entry) : Type 0 where
+pub record HoldsQuery (owner : ℕ) (plan saved : List ℕ) (e : Entry) : Type 0 where
   pub its : e .owner ≡ owner
-  pub plans : planIn e ≡ plan
+  pub plans : entryPlan e ≡ plan
   pub words : take (e .saved) (e .state) ≡ saved
   pub count : length saved ≡ e .saved
 
 -- the owner's one entry waits in the line or is set aside, with that plan and those saved words; or it has left
 pub data Waits (owner : ℕ) (plan saved : List ℕ) (q : Queue) : Type 0 where
   gone : NoneOf owner (q .line) → NoneOf owner (q .aside) → Waits owner plan saved q
-  in-line : (before behind : List Entry) (e : Entry) → q .line ≡ before ++ (e ∷ behind) → Holds owner plan saved e
+  in-line : (before behind : List Entry) (e : Entry) → q .line ≡ before ++ (e ∷ behind) → HoldsQuery owner plan saved e
       → NoneOf owner before → NoneOf owner behind → NoneOf owner (q .aside) → Waits owner plan saved q
-  set-aside : (before behind : List Entry) (e : Entry) → q .aside ≡ before ++ (e ∷ behind) → Holds owner plan saved e
+  set-aside : (before behind : List Entry) (e : Entry) → q .aside ≡ before ++ (e ∷ behind) → HoldsQuery owner plan saved e
       → NoneOf owner (q .line) → NoneOf owner before → NoneOf owner behind → Waits owner plan saved q
 
 -- ---- what is promised

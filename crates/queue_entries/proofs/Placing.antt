@@ -7,12 +7,12 @@ use mathlib.Core.List.{List, [], _∷_, _++_, append-assoc, append-nil}
 use lib.ListN.{length, take, drop, set, getD, length-append, length-drop, length-set, take-append-drop}
 use lib.Seq.{getD-drop, drop-cons, length-take-le, take-suc, set-at, set-split, getD-append-add}
 use Rattle.queues.specs.declared.Entry.{Entry}
-use Rattle.queues.specs.Lists.{placed}
-use Rattle.queue_entries.specs.Entries.{nobody, shifted, settled}
+use Rattle.queues.specs.Lists.{entriesOver}
+use Rattle.queue_entries.specs.Entries.{nobody, movedUp, settled}
 
-pub shifted-length : (ys : List Entry) (at k : ℕ) → length (shifted ys at k) ≡ length ys
-shifted-length ys at zero = refl
-shifted-length ys at (suc k) = simp length-set (shifted-length ys at k)
+pub moved-up-length : (ys : List Entry) (at k : ℕ) → length (movedUp ys at k) ≡ length ys
+moved-up-length ys at zero = refl
+moved-up-length ys at (suc k) = simp length-set (moved-up-length ys at k)
 
 -- the entries behind the gap, up to so many
 abbrev moved : List Entry → ℕ → ℕ → List Entry
@@ -24,11 +24,11 @@ moved-length ys g k h =
     ∙ (λ i. length-take-le g ys (let z : g ≤ length ys = omega arith in z) i
     + length-take-le k (drop (g + 1) ys) (let z : k ≤ length (drop (g + 1) ys) = rw (length-drop (g + 1) ys) (omega arith) in z) i)
 
-pub shifted-is : (ys : List Entry) (g k : ℕ) → g + k < length ys → shifted ys g k ≡ moved ys g k ++ drop (g + k) ys
-shifted-is ys g zero h =
+pub moved-up-is : (ys : List Entry) (g k : ℕ) → g + k < length ys → movedUp ys g k ≡ moved ys g k ++ drop (g + k) ys
+moved-up-is ys g zero h =
     sym (take-append-drop g ys)
     ∙ (λ i. sym (append-nil (take g ys)) i ++ drop ((let z : g ≡ g + 0 = omega arith in z) i) ys)
-shifted-is ys g (suc k) h = there (shifted-is ys g k (omega arith)) ∙ sym here
+moved-up-is ys g (suc k) h = there (moved-up-is ys g k (omega arith)) ∙ sym here
   where
     at : ℕ
     at = g + k
@@ -51,18 +51,18 @@ shifted-is ys g (suc k) h = there (shifted-is ys g k (omega arith)) ∙ sym here
     behind : drop (suc at) ys ≡ b ∷ rest
     behind = drop-cons ys (suc at) nobody (omega arith) ∙ ap (λ (n : ℕ). getD ys n nobody ∷ rest) (let z : suc at ≡ at + 1 = omega arith in z)
 
-    before : shifted ys g k ≡ p ++ drop at ys → shifted ys g k ≡ p ++ (a ∷ (b ∷ rest))
+    before : movedUp ys g k ≡ p ++ drop at ys → movedUp ys g k ≡ p ++ (a ∷ (b ∷ rest))
     before again =
         again
         ∙ ap (λ (xs : List Entry). p ++ xs) (drop-cons ys at nobody (omega arith) ∙ ap (λ (xs : List Entry). a ∷ xs) behind)
 
-    next : shifted ys g k ≡ p ++ (a ∷ (b ∷ rest)) → getD (shifted ys g k) (at + 1) nobody ≡ b
+    next : movedUp ys g k ≡ p ++ (a ∷ (b ∷ rest)) → getD (movedUp ys g k) (at + 1) nobody ≡ b
     next is =
         ap (λ (xs : List Entry). getD xs (at + 1) nobody) is
         ∙ ap (λ (n : ℕ). getD (p ++ (a ∷ (b ∷ rest))) (n + 1) nobody) (sym counted)
         ∙ getD-append-add p (a ∷ (b ∷ rest)) 1 nobody
 
-    there : shifted ys g k ≡ p ++ drop at ys → shifted ys g (suc k) ≡ p ++ (b ∷ (b ∷ rest))
+    there : movedUp ys g k ≡ p ++ drop at ys → movedUp ys g (suc k) ≡ p ++ (b ∷ (b ∷ rest))
     there again =
         (λ i. set (before again i) at (next (before again) i))
         ∙ set-at p a (b ∷ rest) b at counted
@@ -87,9 +87,9 @@ module _ (ys : List Entry) (e : Entry) where
   settled-none = refl
 
   -- one is added behind the first n
-  pub settled-added : (n : ℕ) → n < length ys → settled ys n n true e ≡ placed (take n ys ++ (e ∷ [])) ys
+  pub settled-added : (n : ℕ) → n < length ys → settled ys n n true e ≡ entriesOver (take n ys ++ (e ∷ [])) ys
   settled-added n h =
-      ap (λ (k : ℕ). set (shifted ys n k) n e) (let z : n - n ≡ 0 = omega arith in z)
+      ap (λ (k : ℕ). set (movedUp ys n k) n e) (let z : n - n ≡ 0 = omega arith in z)
       ∙ set-split ys n e h
       ∙ sym (append-assoc (take n ys) (e ∷ []) (drop (suc n) ys))
       ∙ ap (λ (k : ℕ). (take n ys ++ (e ∷ [])) ++ drop k ys) (sym counted)
@@ -100,16 +100,16 @@ module _ (ys : List Entry) (e : Entry) where
 
   -- the one at a place of the first n leaves
   pub settled-gone : (g n : ℕ) → g < n → n ≤ length ys
-      → settled ys g (n - 1) false e ≡ placed (take g ys ++ take (n - 1 - g) (drop (g + 1) ys)) ys
+      → settled ys g (n - 1) false e ≡ entriesOver (take g ys ++ take (n - 1 - g) (drop (g + 1) ys)) ys
   settled-gone g n l h =
-      shifted-is ys g (n - 1 - g) (omega arith)
+      moved-up-is ys g (n - 1 - g) (omega arith)
       ∙ ap (λ (k : ℕ). moved ys g (n - 1 - g) ++ drop k ys) (sym (moved-length ys g (n - 1 - g) (omega arith)))
 
   -- it leaves, and one is added behind the others
   pub settled-back : (g n : ℕ) → g < n → n ≤ length ys
-      → settled ys g (n - 1) true e ≡ placed ((take g ys ++ take (n - 1 - g) (drop (g + 1) ys)) ++ (e ∷ [])) ys
+      → settled ys g (n - 1) true e ≡ entriesOver ((take g ys ++ take (n - 1 - g) (drop (g + 1) ys)) ++ (e ∷ [])) ys
   settled-back g n l h =
-      ap (λ (zs : List Entry). set zs (n - 1) e) (shifted-is ys g k within ∙ ap (λ (xs : List Entry). p ++ xs) last)
+      ap (λ (zs : List Entry). set zs (n - 1) e) (moved-up-is ys g k within ∙ ap (λ (xs : List Entry). p ++ xs) last)
       ∙ set-at p _ (drop n ys) e (n - 1) counted
       ∙ sym (append-assoc p (e ∷ []) (drop n ys))
       ∙ ap (λ (m : ℕ). (p ++ (e ∷ [])) ++ drop m ys) (sym more)

@@ -8,7 +8,7 @@ use Rattle.words.specs.Sequences.{all, member, distinct}
 use Rattle.words.proofs.Booleans.{absurd-true, and-left, and-right, and-both}
 use Rattle.words.proofs.Elements.{same-test}
 use Rattle.queues.specs.declared.Entry.{Entry}
-use Rattle.queues.specs.Lists.{Lent, lineOf, asideOf, ownersIn, owners, hasSteps, hasNone, entriesRight}
+use Rattle.queues.specs.Lists.{LentLists, lineOf, asideOf, ownersIn, owners, hasSteps, hasNone, entriesRight}
 use Rattle.queue_entries.specs.Entries.{stepsRight, standing}
 
 -- ---- no owner twice in two lists
@@ -108,7 +108,7 @@ unfolding all member
 apart-none [] = refl
 apart-none (x ∷ xs) = apart-none xs
 
-pub both-stand : (l : Lent) → entriesRight l ≡ (standing true (lineOf l) (ownersIn (asideOf l)) && standing false (asideOf l) [])
+pub both-stand : (l : LentLists) → entriesRight l ≡ (standing true (lineOf l) (ownersIn (asideOf l)) && standing false (asideOf l) [])
 both-stand l = same-test (entriesRight l) (first && second) to back
   where
     first : Bool

@@ -6,11 +6,11 @@ use mathlib.Core.List.{List, [], _∷_}
 use lib.ListN.{set, getD, replicate}
 use Rattle.words.specs.Sequences.{member}
 use Rattle.queues.specs.declared.Entry.{Entry}
-use Rattle.queues.specs.Lists.{planRoom, stateRoom, ownersIn, hasSteps, hasNone}
+use Rattle.queues.specs.Lists.{entryPlanRoom, entryStateRoom, ownersIn, hasSteps, hasNone}
 
 -- what stands past the end of a list
 abbrev pub nobody : Entry
-nobody = record { allowance = 0; owner = 0; planned = 0; saved = 0; plan = replicate planRoom 0; state = replicate stateRoom 0 }
+nobody = record { allowance = 0; owner = 0; planned = 0; saved = 0; plan = replicate entryPlanRoom 0; state = replicate entryStateRoom 0 }
 
 -- the first place of an owner's entry from one place on, below another, or that other
 pub record FoundAt (es : List Entry) (start end owner r : ℕ) : Type 0 where
@@ -31,10 +31,10 @@ standing waiting (e ∷ es) others =
     (stepsRight waiting e && (not (member (e .owner) (ownersIn es)) && not (member (e .owner) others))) && standing waiting es others
 
 -- so many entries move up by one, each over the one before it, the first over the one at a place
-abbrev pub shifted : List Entry → ℕ → ℕ → List Entry
-shifted ys at zero = ys
-shifted ys at (suc k) = set (shifted ys at k) (at + k) (getD (shifted ys at k) (at + k + 1) nobody)
+abbrev pub movedUp : List Entry → ℕ → ℕ → List Entry
+movedUp ys at zero = ys
+movedUp ys at (suc k) = set (movedUp ys at k) (at + k) (getD (movedUp ys at k) (at + k + 1) nobody)
 
 -- the entries behind a place move up, up to the one at the last place; and there one is written, if it is to be
 abbrev pub settled : List Entry → ℕ → ℕ → Bool → Entry → List Entry
-settled ys gap last adds e = cond adds (set (shifted ys gap (last - gap)) last e) (shifted ys gap (last - gap))
+settled ys gap last adds e = cond adds (set (movedUp ys gap (last - gap)) last e) (movedUp ys gap (last - gap))

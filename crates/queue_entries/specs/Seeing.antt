@@ -5,11 +5,11 @@ use mathlib.Core.Bool.{true, false}
 use mathlib.Core.List.{List, []}
 use lib.ListN.{length}
 use Rattle.queues.specs.declared.Entry.{Entry}
-use Rattle.queues.specs.Lists.{Lent, lineOf, asideOf, ownersIn}
+use Rattle.queues.specs.Lists.{LentLists, lineOf, asideOf, ownersIn}
 use Rattle.queue_entries.specs.declared.Seen.{Seen}
 use Rattle.queue_entries.specs.Entries.{FoundAt, standing}
 
-pub record SeenOf (l : Lent) (owner : ℕ) (s : Seen) : Type 0 where
+pub record SeenOf (l : LentLists) (owner : ℕ) (s : Seen) : Type 0 where
   -- test 17 of the line, and of the list set aside
   pub lined : s .lined ≡ standing true (lineOf l) (ownersIn (asideOf l))
   pub rested : s .rested ≡ standing false (asideOf l) []

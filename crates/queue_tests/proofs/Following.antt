@@ -7,11 +7,11 @@ use borrow.Author.Tests.{eqb-true, eqb-false}
 use Rattle.words.specs.Sequences.{all}
 use Rattle.words.specs.Tests.{Test, firstFailing, numberOf}
 use Rattle.words.proofs.Numbering.{isNumbered, none-fails, front-decides, rest-decides}
-use Rattle.queue_tests.specs.Changes.{firstOf}
+use Rattle.queue_tests.specs.Changes.{firstNumber}
 
 -- the first list decides where one of its tests fails, else the second
 pub numbers-follow : (xs ys : List Test) → all isNumbered xs ≡ true
-    → firstOf (numberOf (firstFailing xs)) (numberOf (firstFailing ys)) ≡ numberOf (firstFailing (xs ++ ys))
+    → firstNumber (numberOf (firstFailing xs)) (numberOf (firstFailing ys)) ≡ numberOf (firstFailing (xs ++ ys))
 numbers-follow xs ys h = by-first (eqb (numberOf (firstFailing xs)) 0) refl
   where
     by-first : (b : Bool) → eqb (numberOf (firstFailing xs)) 0 ≡ b

@@ -21,14 +21,14 @@ use Rattle.steps.specs.Saved.{leastStateWords}
 use Rattle.state_saving.proofs.Loads.{whole}
 use Rattle.queues.specs.declared.Entry.{Entry}
 use Rattle.queues.specs.declared.Queued.the-variants.{Lists}
-use Rattle.queues.specs.Lists.{Lent, lentAs, lineOf, asideOf, ownersIn, owners, filled, placed, planRoom, stateRoom}
-use Rattle.queues.specs.Joining.{Joining, joinTests, joinTestsBy, entryOf, joinedAs, joinOf, listsWith}
+use Rattle.queues.specs.Lists.{LentLists, lentAs, lineOf, asideOf, ownersIn, owners, filled, entriesOver, entryPlanRoom, entryStateRoom}
+use Rattle.queues.specs.Joining.{Joining, joinTests, joinTestsBy, newEntry, joinedAs, joinQueueOf, listsWith}
 use Rattle.queues.specs.ToppingUp.{topUpTestsBy}
 use Rattle.queue_entries.specs.declared.Seen.{Seen}
 use Rattle.queue_entries.specs.Seeing.{SeenOf}
 use Rattle.queue_entries.proofs.Standing.{member-both}
 use Rattle.queue_entries.proofs.Placing.{settled-added}
-use Rattle.queue_tests.specs.Changes.{roomBy, firstOf, queryTests, refusedBy, admittedBy, Decides}
+use Rattle.queue_tests.specs.Changes.{roomBy, firstNumber, queryTests, queueingRefused, admittedBy, Decides}
 use Rattle.queue_tests.proofs.Following.{numbers-follow}
 use Rattle.queue_tests.proofs.Seeing.{seen-entries, seen-room, seen-line, seen-aside, Roomy, roomy}
 
@@ -60,7 +60,7 @@ not-either false b = refl
 
 module _ (t : Tables) (line : List Entry) (given : ℕ) (aside : List Entry) (kept : ℕ) (j : Joining) (seen : Seen)
     (is : SeenOf (lentAs line given aside kept) (j .owner) seen) where
-  abbrev l : Lent
+  abbrev l : LentLists
   l = lentAs line given aside kept
 
   abbrev entries : Bool
@@ -81,8 +81,8 @@ module _ (t : Tables) (line : List Entry) (given : ℕ) (aside : List Entry) (ke
       (seen-room line given aside kept (j .owner) seen is 1 i))
 
   pub join-refuses : (n : ℕ) → n ≡ numberOf (firstFailing (joinTestsBy t (j .plan) (j .state) entries room)) → (n ≡ 0 → ⊥)
-      → Decides l (refusedBy n) (joinOf t l j)
-  unfolding joinOf
+      → Decides l (queueingRefused n) (joinQueueOf t l j)
+  unfolding joinQueueOf
   join-refuses n e h =
       record {
         line = ((λ z. absurd (omega arith)), (λ z. absurd-true z refl));
@@ -91,12 +91,12 @@ module _ (t : Tables) (line : List Entry) (given : ℕ) (aside : List Entry) (ke
       }
 
 -- the number that the code puts together
-pub join-number : (t : Tables) (plan state : List ℕ) (entries room : Bool) (n query late : ℕ) → n ≡ firstOf query late
+pub join-number : (t : Tables) (plan state : List ℕ) (entries room : Bool) (n query late : ℕ) → n ≡ firstNumber query late
     → query ≡ numberOf (firstFailing (queryTests t plan state)) → late ≡ numberOf (firstFailing (topUpTestsBy entries room))
     → n ≡ numberOf (firstFailing (joinTestsBy t plan state entries room))
 unfolding all
 join-number t plan state entries room n query late e f g =
-    e ∙ (λ i. firstOf (f i) (g i)) ∙ numbers-follow (queryTests t plan state) (topUpTestsBy entries room) refl
+    e ∙ (λ i. firstNumber (f i) (g i)) ∙ numbers-follow (queryTests t plan state) (topUpTestsBy entries room) refl
 
 -- ---- a call that passes its tests
 module _ (t : Tables) (plan state : List ℕ) (entries : Bool) (seen : Seen) (given kept : ℕ)
@@ -117,19 +117,19 @@ module _ (t : Tables) (plan state : List ℕ) (entries : Bool) (seen : Seen) (gi
   form : hasForm (readPlan plan) ≡ true
   form = test-passed 5 (joinTestsBy t plan state entries (roomBy (seen .room) (seen .spare) given kept 1)) all-pass
 
-  pub joined-short : (length plan ≤ planRoom) × (length state ≤ stateRoom)
+  pub joined-short : (length plan ≤ entryPlanRoom) × (length state ≤ entryStateRoom)
   joined-short =
       let w = whole plan state form (test-passed 9 (joinTestsBy t plan state entries (roomBy (seen .room) (seen .spare) given kept 1)) all-pass) in
       let f : length state ≤ leastStateWords = w .few in
       (plan-short plan form, omega arith)
 
 -- ---- where the entry goes
-stays : (es : List Entry) (n : ℕ) → n ≤ length es → placed (take n es) es ≡ es
+pub stays : (es : List Entry) (n : ℕ) → n ≤ length es → entriesOver (take n es) es ≡ es
 stays es n h = ap (λ (k : ℕ). take n es ++ drop k es) (length-take-le n es h) ∙ take-append-drop n es
 
 module _ (line : List Entry) (given : ℕ) (aside : List Entry) (kept : ℕ) (e : Entry) (line-long : given < length line)
     (aside-long : kept < length aside) where
-  abbrev lent : Lent
+  abbrev lent : LentLists
   lent = lentAs line given aside kept
 
   one-more : (es : List Entry) (n : ℕ) → n < length es → n + 1 ≡ length (take n es ++ (e ∷ []))
@@ -178,15 +178,15 @@ module _ (t : Tables) (line : List Entry) (given : ℕ) (aside : List Entry) (ke
     (is : SeenOf (lentAs line given aside kept) (j .owner) seen)
     (passed : numberOf
     (firstFailing (joinTestsBy t (j .plan) (j .state) (entries t line given aside kept j seen is) (room t line given aside kept j seen is))) ≡ 0) where
-  pub join-accepts : Decides (lentAs line given aside kept) (admittedBy (entryOf j) given kept) (joinOf t (lentAs line given aside kept) j)
-  unfolding joinOf
+  pub join-accepts : Decides (lentAs line given aside kept) (admittedBy (newEntry j) given kept) (joinQueueOf t (lentAs line given aside kept) j)
+  unfolding joinQueueOf
   join-accepts =
       let r = joined-room t (j .plan) (j .state) (entries t line given aside kept j seen is) seen given kept passed in
       let a : seen .room ≡ length line = is .room in
       let b : seen .spare ≡ length aside = is .spare in
       let f = r .line in let g = r .aside in let h = r .entries in
-      subst (λ (o : Option ℕ). Decides (lentAs line given aside kept) (admittedBy (entryOf j) given kept) (joinedAs (lentAs line given aside kept) j o))
+      subst (λ (o : Option ℕ). Decides (lentAs line given aside kept) (admittedBy (newEntry j) given kept) (joinedAs (lentAs line given aside kept) j o))
       (sym (joined-none t (j .plan) (j .state) (entries t line given aside kept j seen is) seen given kept passed)
       ∙ same-tests t line given aside kept j seen is)
-      (goes line given aside kept (entryOf j) (let z : given < length line = omega arith in z) (let z : kept < length aside = omega arith in
+      (goes line given aside kept (newEntry j) (let z : given < length line = omega arith in z) (let z : kept < length aside = omega arith in
       z) (eqb (j .allowance) 0))

@@ -11,7 +11,7 @@ use borrow.Author.Tests.{leb-true}
 use Rattle.words.specs.Sequences.{member}
 use Rattle.words.proofs.Booleans.{and-left, and-right}
 use Rattle.queues.specs.declared.Entry.{Entry}
-use Rattle.queues.specs.Lists.{mostEntries, lentAs, ownersIn, entriesRight, roomRight}
+use Rattle.queues.specs.Lists.{mostEntries, lentAs, ownersIn, entriesRight, spaceRight}
 use Rattle.queue_entries.specs.declared.Seen.{Seen}
 use Rattle.queue_entries.specs.Seeing.{SeenOf}
 use Rattle.queue_entries.proofs.Standing.{both-stand}
@@ -23,7 +23,7 @@ module _ (line : List Entry) (given : ℕ) (aside : List Entry) (kept owner : �
   pub seen-entries : (seen .lined && seen .rested) ≡ entriesRight (lentAs line given aside kept)
   seen-entries = (λ i. is .lined i && is .rested i) ∙ sym (both-stand (lentAs line given aside kept))
 
-  pub seen-room : (more : ℕ) → roomBy (seen .room) (seen .spare) given kept more ≡ roomRight more (lentAs line given aside kept)
+  pub seen-room : (more : ℕ) → roomBy (seen .room) (seen .spare) given kept more ≡ spaceRight more (lentAs line given aside kept)
   seen-room more = λ i. roomBy (is .room i) (is .spare i) given kept more
 
   waiting-all : take (seen .waiting) line ≡ take given line

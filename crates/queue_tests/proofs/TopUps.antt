@@ -15,7 +15,7 @@ use Rattle.words.proofs.Booleans.{absurd-true, and-left, and-right}
 use Rattle.words.proofs.Numbering.{one-fails}
 use Rattle.queues.specs.declared.Entry.{Entry}
 use Rattle.queues.specs.declared.Queued.the-variants.{Lists}
-use Rattle.queues.specs.Lists.{Lent, lentAs, lineOf, asideOf, ownersIn, owners, hasOwner, placed}
+use Rattle.queues.specs.Lists.{LentLists, lentAs, lineOf, asideOf, ownersIn, owners, hasOwner, entriesOver}
 use Rattle.queues.specs.ToppingUp.{notOwner, topUpTestsBy, topUpTests, withAllowance, toppedAs, topUpOf}
 use Rattle.queues.proofs.Moving.{kept-none, distinct-right}
 use Rattle.queue_entries.specs.declared.Seen.{Seen}
@@ -23,7 +23,7 @@ use Rattle.queue_entries.specs.Entries.{nobody}
 use Rattle.queue_entries.specs.Seeing.{SeenOf}
 use Rattle.queue_entries.proofs.Finding.{there-is}
 use Rattle.queue_entries.proofs.Placing.{settled-added, settled-gone}
-use Rattle.queue_tests.specs.Changes.{roomBy, refusedBy, toppedBy, Decides}
+use Rattle.queue_tests.specs.Changes.{roomBy, queueingRefused, toppedBy, Decides}
 use Rattle.queue_tests.proofs.Numbering.{both-passed}
 use Rattle.queue_tests.proofs.Seeing.{seen-entries, seen-room, seen-aside, Roomy, roomy}
 
@@ -87,7 +87,7 @@ module _ (seen : Seen) (given kept amount : ℕ)
 -- ---- the call
 module _ (line : List Entry) (given : ℕ) (aside : List Entry) (kept owner amount : ℕ) (seen : Seen)
     (is : SeenOf (lentAs line given aside kept) owner seen) where
-  abbrev l : Lent
+  abbrev l : LentLists
   l = lentAs line given aside kept
 
   abbrev entries : Bool
@@ -103,7 +103,7 @@ module _ (line : List Entry) (given : ℕ) (aside : List Entry) (kept owner amou
       (seen-room line given aside kept owner seen is 0 i))
 
   pub top-up-refuses : (n : ℕ) → n ≡ numberOf (firstFailing (topUpTestsBy entries room)) → (n ≡ 0 → ⊥)
-      → Decides l (refusedBy n) (topUpOf l owner amount)
+      → Decides l (queueingRefused n) (topUpOf l owner amount)
   unfolding topUpOf
   top-up-refuses n e h =
       record {
@@ -195,8 +195,8 @@ module _ (line : List Entry) (given : ℕ) (aside : List Entry) (kept owner amou
             aside = ((λ z. omega (arith, k-kept, aside-long)), (λ z. absurd-true z refl));
             result = (λ i. record {
               answer = Lists (line-count i) (aside-count i);
-              line = (settled-added line e′ given line-long ∙ ap (λ (es : List Entry). placed es line) (sym new-line)) i;
-              aside = (settled-gone aside e′ k kept k-kept aside-long ∙ ap (λ (es : List Entry). placed es aside) (sym new-aside)) i;
+              line = (settled-added line e′ given line-long ∙ ap (λ (es : List Entry). entriesOver es line) (sym new-line)) i;
+              aside = (settled-gone aside e′ k kept k-kept aside-long ∙ ap (λ (es : List Entry). entriesOver es aside) (sym new-aside)) i;
             })
                 ∙ ap (toppedAs l owner amount) (sym none-fails);
           }

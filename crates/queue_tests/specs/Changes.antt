@@ -13,7 +13,7 @@ use Rattle.steps.specs.Saved.{shapeRight, placesRight}
 use Rattle.queues.specs.declared.Entry.{Entry}
 use Rattle.queues.specs.declared.Queued.{Queued}
 use Rattle.queues.specs.declared.Queued.the-variants.{Lists, Refused}
-use Rattle.queues.specs.Lists.{mostEntries, Lent}
+use Rattle.queues.specs.Lists.{mostEntries, LentLists}
 use Rattle.queues.specs.Joining.{QueuedResult}
 use Rattle.queue_entries.specs.Entries.{nobody, settled}
 use Rattle.queue_tests.specs.declared.Change.{Change}
@@ -36,29 +36,29 @@ abbrev pub roomBy : ℕ → ℕ → ℕ → ℕ → ℕ → Bool
 roomBy room spare given kept more = leb mostEntries room && (leb mostEntries spare && leb (given + kept + more) mostEntries)
 
 -- of two numbers of tests that follow each other, the one that refuses
-abbrev pub firstOf : ℕ → ℕ → ℕ
-firstOf number late = cond (eqb number 0) late number
+abbrev pub firstNumber : ℕ → ℕ → ℕ
+firstNumber number late = cond (eqb number 0) late number
 
 -- a list after a change of it, with an entry
 abbrev pub changed : List Entry → Change → Entry → List Entry
 changed es c e = settled es (c .gap) (c .last) (c .adds) e
 
 -- the places of a change are in the buffer
-abbrev pub Fits : Change → List Entry → Type 0
-Fits c es = ((c .gap < c .last) → c .last < length es) × (c .adds ≡ true → c .last < length es)
+abbrev pub ChangeFits : Change → List Entry → Type 0
+ChangeFits c es = ((c .gap < c .last) → c .last < length es) × (c .adds ≡ true → c .last < length es)
 
-abbrev pub refusedBy : ℕ → Queueing
-refusedBy x = record { answer = Refused x; line = unchanged; aside = unchanged; entry = nobody }
+abbrev pub queueingRefused : ℕ → Queueing
+queueingRefused x = record { answer = Refused x; line = unchanged; aside = unchanged; entry = nobody }
 
 -- both lists after a decision
-abbrev pub queuedBy : Lent → Queueing → QueuedResult
+abbrev pub queuedBy : LentLists → Queueing → QueuedResult
 queuedBy l d =
     record { answer = d .answer; line = changed (l .line) (d .line) (d .entry); aside = changed (l .aside) (d .aside) (d .entry) }
 
 -- a decision of joining or topping up leaves what the definition of the call does
-pub record Decides (l : Lent) (d : Queueing) (r : QueuedResult) : Type 0 where
-  pub line : Fits (d .line) (l .line)
-  pub aside : Fits (d .aside) (l .aside)
+pub record Decides (l : LentLists) (d : Queueing) (r : QueuedResult) : Type 0 where
+  pub line : ChangeFits (d .line) (l .line)
+  pub aside : ChangeFits (d .aside) (l .aside)
   pub result : queuedBy l d ≡ r
 
 -- an entry to the end of the line, or of the list set aside if it has no steps

@@ -5,7 +5,7 @@ use queue_entries::nobody;
 use queues::Queued;
 ghost use mathlib.Core.Path.{_≡_};
 ghost use Prim.Native.Nat.{_≤_};
-ghost use Rattle.queue_tests.specs.Changes.{unchanged, appended, removed, rotated, roomBy, firstOf, refusedBy};
+ghost use Rattle.queue_tests.specs.Changes.{unchanged, appended, removed, rotated, roomBy, firstNumber, queueingRefused};
 ghost use Rattle.words.specs.Tests.{firstFailing, numberOf};
 ghost use Rattle.queues.specs.ToppingUp.{topUpTestsBy};
 
@@ -97,7 +97,7 @@ pub fn lists_number(entries: bool, room: bool) -> u32
 
 // Of two numbers of tests that follow each other, the one that refuses, or 0.
 pub fn first_of(number: u32, late: u32) -> u32
-    ensures { λ r. ⌜ r ≡ firstOf number late ⌝ }
+    ensures { λ r. ⌜ r ≡ firstNumber number late ⌝ }
 {
     if number == 0 {
         return late;
@@ -107,7 +107,7 @@ pub fn first_of(number: u32, late: u32) -> u32
 
 // A refused call changes neither list.
 pub fn refused(number: u32) -> Queueing
-    ensures { λ r. ⌜ r ≡ refusedBy number ⌝ }
+    ensures { λ r. ⌜ r ≡ queueingRefused number ⌝ }
 {
     Queueing {
         answer: Queued::Refused(number),

@@ -19,8 +19,8 @@ ghost use lib.ListN.{length};
 ghost use Rattle.words.specs.Tests.{firstFailing, numberOf};
 ghost use Rattle.tables.specs.Tables.{tablesOf};
 ghost use Rattle.queues.specs.declared.Entry.{Entry};
-ghost use Rattle.queues.specs.Lists.{mostEntries, planRoom, stateRoom, lentAs};
-ghost use Rattle.queues.specs.Joining.{entryOf, joinOf};
+ghost use Rattle.queues.specs.Lists.{mostEntries, entryPlanRoom, entryStateRoom, lentAs};
+ghost use Rattle.queues.specs.Joining.{newEntry, joinQueueOf};
 ghost use Rattle.queue_entries.specs.Seeing.{SeenOf};
 ghost use Rattle.queue_tests.specs.Changes.{Decides, queryTests, admittedBy};
 
@@ -55,8 +55,8 @@ fn join_right(seen: Seen) -> bool
 
 // The entry of a query that joins.
 fn entry_of(owner: u32, allowance: u64, plan: &[u32], state: &[u32]) -> Entry
-    requires { ⌜ (length (now plan) ≤ planRoom) × (length (now state) ≤ stateRoom) ⌝ }
-    ensures { λ r. ⌜ r ≡ entryOf (record { owner = owner; allowance = allowance; plan = now (plan .entry); state = now (state .entry) }) ⌝ }
+    requires { ⌜ (length (now plan) ≤ entryPlanRoom) × (length (now state) ≤ entryStateRoom) ⌝ }
+    ensures { λ r. ⌜ r ≡ newEntry (record { owner = owner; allowance = allowance; plan = now (plan .entry); state = now (state .entry) }) ⌝ }
 {
     let mut words = [0u32; 256];
     words::copy_in(&mut words, 0, plan);
@@ -107,7 +107,7 @@ pub fn join(
     state: &[u32],
 ) -> Queueing
     ensures { λ r. ⌜ ((line aside : List Entry) → SeenOf (lentAs line given aside kept) owner seen
-        → Decides (lentAs line given aside kept) r (joinOf (tablesOf (now (rows .entry)) (now (pos .entry)) (now (osp .entry)))
+        → Decides (lentAs line given aside kept) r (joinQueueOf (tablesOf (now (rows .entry)) (now (pos .entry)) (now (osp .entry)))
         (lentAs line given aside kept)
         (record { owner = owner; allowance = allowance; plan = now (plan .entry); state = now (state .entry) }))) ⌝ }
 {

@@ -2,7 +2,7 @@
 use Prim.Native.Nat.{ℕ, _<_, _≤_}
 use native.Mathlib.Omega.{arith}
 use mathlib.Core.Path.{_≡_, refl}
-use mathlib.Core.Bool.{Bool, true, false, not}
+use mathlib.Core.Bool.{Bool, true, false, _&&_, not}
 use mathlib.Core.List.{_++_}
 use lib.Dec.{eqb}
 use borrow.Author.Tests.{le-leb, lt-leb, eq-eqb, ne-eqb}
@@ -11,14 +11,14 @@ use Rattle.words.specs.Tests.{firstFailing, numberOf}
 use Rattle.words.proofs.Booleans.{absurd-true}
 use Rattle.tables.specs.Tables.{Tables, tableTests}
 use Rattle.turns.specs.Turns.{mostSteps}
-use Rattle.queues.specs.Serving.{quantumTests, listTestsBy}
-use Rattle.queue_tests.specs.Changes.{firstOf}
+use Rattle.queues.specs.Serving.{quantumTests, queueTestsBy}
+use Rattle.queue_tests.specs.Changes.{firstNumber}
 use Rattle.queue_tests.proofs.Following.{numbers-follow}
 
 -- ---- 17, 18, 19
 module _ (n : ℕ) where
   abbrev number : Bool → Bool → ℕ
-  number entries room = numberOf (firstFailing (listTestsBy entries room (not (eqb n 0))))
+  number entries room = numberOf (firstFailing (queueTestsBy entries room (not (eqb n 0))))
 
   pub entries-fail : (entries room : Bool) → not entries ≡ true → 17 ≡ number entries room
   unfolding firstFailing
@@ -61,7 +61,16 @@ module _ (quantum : ℕ) where
   quantum-right e h = rw (le-leb 1 quantum (omega arith), le-leb quantum mostSteps h)
 
 -- the tables, then the quantum
-pub tables-then : (t : Tables) (quantum : ℕ) → firstOf (numberOf (firstFailing (tableTests t))) (numberOf (firstFailing (quantumTests quantum)))
+pub tables-then : (t : Tables) (quantum : ℕ) → firstNumber (numberOf (firstFailing (tableTests t))) (numberOf (firstFailing (quantumTests quantum)))
     ≡ numberOf (firstFailing (tableTests t ++ quantumTests quantum))
 unfolding all
 tables-then t quantum = numbers-follow (tableTests t) (quantumTests quantum) refl
+
+-- ---- test 17 of both lists
+pub line-wrong : (lined rested : Bool) → not lined ≡ true → false ≡ lined && rested
+line-wrong true rested h = absurd-true h refl
+line-wrong false rested h = refl
+
+pub line-right : (lined rested : Bool) → not lined ≡ false → rested ≡ lined && rested
+line-right true rested h = refl
+line-right false rested h = absurd-true refl h

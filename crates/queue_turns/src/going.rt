@@ -1,6 +1,6 @@
 // Where an entry goes after its turn, and what serving answers.
 use crate::Ended;
-use crate::Served;
+use crate::ServeChanges;
 use queue_entries::nobody;
 use queue_tests::appended;
 use queue_tests::removed;
@@ -12,13 +12,13 @@ use turns::Turned;
 ghost use mathlib.Core.Path.{_≡_};
 ghost use Prim.Native.Nat.{_+_, _≤_};
 ghost use Rattle.queues.specs.Lists.{mostEntries};
-ghost use Rattle.queue_turns.specs.Services.{refusedBy, answeredBy, leavesBy, backBy, goesBy};
+ghost use Rattle.queue_turns.specs.Services.{servingRefused, answeredBy, leavesBy, backBy, goesBy};
 
 // A refused call changes neither list.
-pub fn refused(number: u32) -> Served
-    ensures { λ r. ⌜ r ≡ refusedBy number ⌝ }
+pub fn refused(number: u32) -> ServeChanges
+    ensures { λ r. ⌜ r ≡ servingRefused number ⌝ }
 {
-    Served {
+    ServeChanges {
         answer: Service {
             turned: Turned {
                 steps: 0,
@@ -53,12 +53,12 @@ fn answered(ended: Ended, waiting: usize, resting: usize) -> Service
 }
 
 // Done, it leaves.
-fn leaves(ended: Ended, given: usize, kept: usize) -> Served
+fn leaves(ended: Ended, given: usize, kept: usize) -> ServeChanges
     requires { ⌜ 1 ≤ given ⌝ }
     ensures { λ r. ⌜ r ≡ leavesBy ended given kept ⌝ }
 {
     let entry = ended.entry;
-    Served {
+    ServeChanges {
         answer: answered(ended, given - 1, kept),
         line: removed(0, given),
         aside: unchanged(),
@@ -67,20 +67,20 @@ fn leaves(ended: Ended, given: usize, kept: usize) -> Served
 }
 
 // Unfinished, it goes to the back of the line, and to the end of the list set aside with no steps left.
-fn goes_back(ended: Ended, given: usize, kept: usize) -> Served
+fn goes_back(ended: Ended, given: usize, kept: usize) -> ServeChanges
     requires { ⌜ (1 ≤ given) × (given + kept ≤ mostEntries) ⌝ }
     ensures { λ r. ⌜ r ≡ backBy ended given kept ⌝ }
 {
     let entry = ended.entry;
     if entry.allowance == 0 {
-        return Served {
+        return ServeChanges {
             answer: answered(ended, given - 1, kept + 1),
             line: removed(0, given),
             aside: appended(kept),
             entry: entry,
         };
     }
-    Served {
+    ServeChanges {
         answer: answered(ended, given, kept),
         line: rotated(given),
         aside: unchanged(),
@@ -89,7 +89,7 @@ fn goes_back(ended: Ended, given: usize, kept: usize) -> Served
 }
 
 // Where it goes, by the ending of its turn.
-pub fn goes(ended: Ended, given: usize, kept: usize) -> Served
+pub fn goes(ended: Ended, given: usize, kept: usize) -> ServeChanges
     requires { ⌜ (1 ≤ given) × (given + kept ≤ mostEntries) ⌝ }
     ensures { λ r. ⌜ r ≡ goesBy (ended .turned .ending) ended given kept ⌝ }
 {

@@ -1,6 +1,7 @@
 // Serving on numbers and an entry by value: the tests of the front entry and of both lists, and one turn of the entry.
 mod going;
 mod numbers;
+mod serving;
 mod turning;
 
 pub use going::goes;
@@ -11,6 +12,7 @@ pub use numbers::list_number;
 use queue_tests::Change;
 use queues::Entry;
 use queues::Service;
+pub use serving::serve;
 pub use turning::turn_entry;
 use turns::Turned;
 
@@ -21,7 +23,7 @@ pub struct Ended {
 }
 
 // How both lists change, with which entry, and what serving answers.
-pub struct Served {
+pub struct ServeChanges {
     pub answer: Service,
     pub line: Change,
     pub aside: Change,

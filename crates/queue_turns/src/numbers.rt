@@ -11,8 +11,8 @@ ghost use lib.ListN.{length};
 ghost use Rattle.words.specs.Tests.{firstFailing, numberOf};
 ghost use Rattle.tables.specs.Tables.{tablesOf};
 ghost use Rattle.turns.specs.Turns.{turnTests};
-ghost use Rattle.queues.specs.Serving.{entryTurn, frontTests, quantumTests, listTestsBy};
-ghost use Rattle.queues.specs.Lists.{planRoom, stateRoom};
+ghost use Rattle.queues.specs.Serving.{entryTurn, frontTests, quantumTests, queueTestsBy};
+ghost use Rattle.queues.specs.Lists.{entryPlanRoom, entryStateRoom};
 ghost use Rattle.queue_turns.specs.Services.{plannedIn};
 
 // The tests that serving makes besides those of a turn, by their numbers.
@@ -29,7 +29,7 @@ pub const QUANTUM: u32 = 8;
 
 // The number of the first of tests 17, 18 and 19 that fails, or 0.
 pub fn list_number(entries: bool, room: bool, waiting: usize) -> u32
-    ensures { λ r. ⌜ r ≡ numberOf (firstFailing (listTestsBy entries room (not (eqb waiting 0)))) ⌝ }
+    ensures { λ r. ⌜ r ≡ numberOf (firstFailing (queueTestsBy entries room (not (eqb waiting 0)))) ⌝ }
 {
     if !entries {
         return ENTRIES;
@@ -44,7 +44,7 @@ pub fn list_number(entries: bool, room: bool, waiting: usize) -> u32
 }
 
 // The number of the test of the quantum, or 0.
-fn quantum_number(quantum: u32) -> u32
+pub fn quantum_number(quantum: u32) -> u32
     ensures { λ r. ⌜ r ≡ numberOf (firstFailing (quantumTests quantum)) ⌝ }
 {
     if quantum == 0 {
@@ -66,7 +66,7 @@ pub fn empty_number(rows: &[u32], pos: &[u32], osp: &[u32], quantum: u32) -> u32
 
 // The words of an entry's plan: none where its count passes the array.
 pub fn planned(e: Entry) -> usize
-    ensures { λ r. ⌜ (r ≡ plannedIn e) × ((length (e .plan) ≡ planRoom) × (length (e .state) ≡ stateRoom)) ⌝ }
+    ensures { λ r. ⌜ (r ≡ plannedIn e) × ((length (e .plan) ≡ entryPlanRoom) × (length (e .state) ≡ entryStateRoom)) ⌝ }
 {
     if e.planned > 256 {
         return 0;

@@ -8,18 +8,17 @@ ghost use Prim.Native.Nat.{_-_, _≤_};
 ghost use lib.ListN.{length};
 ghost use Rattle.tables.specs.Tables.{tablesOf};
 ghost use Rattle.turns.specs.Turns.{turnOf};
-ghost use Rattle.queues.specs.Lists.{stateRoom};
 ghost use Rattle.queues.specs.Serving.{entryTurn};
 ghost use Rattle.queue_turns.specs.Services.{entryWith, EndedBy};
 
 // An entry after so many steps, with the words of its new state.
-fn entry_with(e: Entry, steps: u32, saved: usize, state: [u32; 11]) -> Entry
-    requires { ⌜ (steps ≤ e .allowance) × (saved ≤ stateRoom) ⌝ }
+fn entry_with(e: Entry, steps: u32, saved: u32, state: [u32; 11]) -> Entry
+    requires { ⌜ steps ≤ e .allowance ⌝ }
     ensures { λ r. ⌜ r ≡ entryWith e steps saved state ⌝ }
 {
     let mut next = e;
     next.allowance = e.allowance - (steps as u64);
-    next.saved = saved as u32;
+    next.saved = saved;
     next.state = state;
     next
 }
@@ -54,6 +53,6 @@ pub fn turn_entry(
     );
     Ended {
         turned: turned,
-        entry: entry_with(e, turned.steps, turned.saved, state),
+        entry: entry_with(e, turned.steps, turned.saved as u32, state),
     }
 }

@@ -11,7 +11,7 @@ use Rattle.words.proofs.Testing.{none-some}
 use Rattle.tables.specs.Tables.{Tables}
 use Rattle.turns.specs.declared.TurnEnding.{TurnEnding}
 use Rattle.queues.specs.declared.Entry.{Entry}
-use Rattle.queues.specs.Calls.{Queue, MadeCall, lentTo, Deed, turns, afterCall, afterCalls, deedOf, deeds, turnsOf, turnsIn, placeIn, Fair}
+use Rattle.queues.specs.Calls.{Queue, MadeCall, lentTo, Deed, turns, afterCall, afterCalls, deedOf, deeds, turnsOf, turnsIn, placeInLine, Fair}
 use Rattle.queues.proofs.Moving.{Moves, stays, waits, rests, returns, leaves, goes-on, runs-out, call-moves}
 
 module _ (owner : ℕ) where
@@ -22,16 +22,16 @@ module _ (owner : ℕ) where
   back-one none p h = absurd (none-some h)
   back-one (some k) p h = let e : k + 1 ≡ p = cc in ((λ z. omega arith), ap (λ (x : ℕ). some x) (let g : k ≡ p - 1 = omega arith in g))
 
-  place-append : (es xs : List Entry) (p : ℕ) → placeIn owner es ≡ some p → placeIn owner (es ++ xs) ≡ some p
-  unfolding placeIn
+  place-append : (es xs : List Entry) (p : ℕ) → placeInLine owner es ≡ some p → placeInLine owner (es ++ xs) ≡ some p
+  unfolding placeInLine
   place-append [] xs p h = absurd (none-some h)
   place-append (e ∷ es) xs p h = by-owner (λ k g. place-append es xs k g) (eqb (e .owner) owner) h
     where
-      by-owner : ((k : ℕ) → placeIn owner es ≡ some k → placeIn owner (es ++ xs) ≡ some k) → (b : Bool)
-          → cond b (some 0) (further (placeIn owner es)) ≡ some p → cond b (some 0) (further (placeIn owner (es ++ xs))) ≡ some p
+      by-owner : ((k : ℕ) → placeInLine owner es ≡ some k → placeInLine owner (es ++ xs) ≡ some k) → (b : Bool)
+          → cond b (some 0) (further (placeInLine owner es)) ≡ some p → cond b (some 0) (further (placeInLine owner (es ++ xs))) ≡ some p
       by-owner again true g = g
       by-owner again false g =
-          let k = back-one (placeIn owner es) p g in
+          let k = back-one (placeInLine owner es) p g in
           ap further (again (p - 1) (k .1)) ∙ ap (λ (x : ℕ). some x) (let z = k .0 in positive p z)
         where
           positive : (n : ℕ) → (n ≡ 0 → ⊥) → n - 1 + 1 ≡ n
@@ -39,28 +39,28 @@ module _ (owner : ℕ) where
           positive (suc n) z = omega arith
 
   -- the front, or one further on behind it
-  place-front : (e : Entry) (es : List Entry) (p : ℕ) → placeIn owner (e ∷ es) ≡ some p → 1 ≤ p → placeIn owner es ≡ some (p - 1)
-  unfolding placeIn
+  place-front : (e : Entry) (es : List Entry) (p : ℕ) → placeInLine owner (e ∷ es) ≡ some p → 1 ≤ p → placeInLine owner es ≡ some (p - 1)
+  unfolding placeInLine
   place-front e es p h l = by-owner (eqb (e .owner) owner) h
     where
-      by-owner : (b : Bool) → cond b (some 0) (further (placeIn owner es)) ≡ some p → placeIn owner es ≡ some (p - 1)
+      by-owner : (b : Bool) → cond b (some 0) (further (placeInLine owner es)) ≡ some p → placeInLine owner es ≡ some (p - 1)
       by-owner true g = absurd (let z : 0 ≡ p = cc in omega arith)
-      by-owner false g = back-one (placeIn owner es) p g .1
+      by-owner false g = back-one (placeInLine owner es) p g .1
 
-  at-front : (e : Entry) (es : List Entry) → placeIn owner (e ∷ es) ≡ some 0 → e .owner ≡ owner
-  unfolding placeIn
+  at-front : (e : Entry) (es : List Entry) → placeInLine owner (e ∷ es) ≡ some 0 → e .owner ≡ owner
+  unfolding placeInLine
   at-front e es h = by-owner (eqb (e .owner) owner) refl h
     where
-      by-owner : (b : Bool) → eqb (e .owner) owner ≡ b → cond b (some 0) (further (placeIn owner es)) ≡ some 0 → e .owner ≡ owner
+      by-owner : (b : Bool) → eqb (e .owner) owner ≡ b → cond b (some 0) (further (placeInLine owner es)) ≡ some 0 → e .owner ≡ owner
       by-owner true s g = eqb-true (e .owner) owner s
-      by-owner false s g = absurd (back-one (placeIn owner es) 0 g .0 refl)
+      by-owner false s g = absurd (back-one (placeInLine owner es) 0 g .0 refl)
 
   abbrev as-was : (p : ℕ) {o : Option ℕ} → o ≡ some p → o ≡ some (p - 0)
   as-was p h = h ∙ ap (λ (x : ℕ). some x) (let g : p ≡ p - 0 = omega arith in g)
 
   -- one call
-  one-moves : {q r : Queue} {d : Deed} → Moves q r d → (p : ℕ) → placeIn owner (q .line) ≡ some p → turnsOf d ≤ p
-      → placeIn owner (r .line) ≡ some (p - turnsOf d)
+  one-moves : {q r : Queue} {d : Deed} → Moves q r d → (p : ℕ) → placeInLine owner (q .line) ≡ some p → turnsOf d ≤ p
+      → placeInLine owner (r .line) ≡ some (p - turnsOf d)
   one-moves stays p h l = as-was p h
   one-moves {q} (waits e) p h l = as-was p (place-append (q .line) (e ∷ []) p h)
   one-moves (rests e z) p h l = as-was p h
@@ -70,7 +70,7 @@ module _ (owner : ℕ) where
   one-moves (runs-out e d es aside x n k not-done same left z) p h l = place-front e es p h l
 
   -- a turn from place 0 is its own
-  one-its : {q r : Queue} {d : Deed} → Moves q r d → placeIn owner (q .line) ≡ some 0 → (o : ℕ) (x : TurnEnding) (n left : ℕ)
+  one-its : {q r : Queue} {d : Deed} → Moves q r d → placeInLine owner (q .line) ≡ some 0 → (o : ℕ) (x : TurnEnding) (n left : ℕ)
       → d ≡ turns o x n left → o ≡ owner
   one-its stays h o x n left e = absurd (let z : _≡_ {A = ℕ} 0 1 = cc in omega arith)
   one-its (waits a) h o x n left e = absurd (let z : _≡_ {A = ℕ} 0 1 = cc in omega arith)
@@ -80,8 +80,8 @@ module _ (owner : ℕ) where
   one-its (goes-on a d es aside y k l not-done same m) h o x n left e = let z : a .owner ≡ o = cc in sym z ∙ at-front a es h
   one-its (runs-out a d es aside y k l not-done same m w) h o x n left e = let z : a .owner ≡ o = cc in sym z ∙ at-front a es h
 
-  moves-up : (t : Tables) (ms : List MadeCall) (q : Queue) (p : ℕ) → placeIn owner (q .line) ≡ some p → turnsIn (deeds t q ms) ≤ p
-      → placeIn owner (afterCalls t q ms .line) ≡ some (p - turnsIn (deeds t q ms))
+  moves-up : (t : Tables) (ms : List MadeCall) (q : Queue) (p : ℕ) → placeInLine owner (q .line) ≡ some p → turnsIn (deeds t q ms) ≤ p
+      → placeInLine owner (afterCalls t q ms .line) ≡ some (p - turnsIn (deeds t q ms))
   unfolding afterCalls deeds turnsIn
   moves-up t [] q p h l = as-was p h
   moves-up t (m ∷ ms) q p h l =
@@ -90,7 +90,7 @@ module _ (owner : ℕ) where
       moves-up t ms q′ (p - turnsOf d) (one-moves (call-moves t q m (m .call)) p h (omega arith)) (omega arith)
       ∙ ap (λ (x : ℕ). some x) (let g : p - turnsOf d - turnsIn (deeds t q′ ms) ≡ p - (turnsOf d + turnsIn (deeds t q′ ms)) = omega arith in g)
 
-pub fair : (t : Tables) (q : Queue) (owner p : ℕ) → placeIn owner (q .line) ≡ some p → Fair t q owner p
+pub fair : (t : Tables) (q : Queue) (owner p : ℕ) → placeInLine owner (q .line) ≡ some p → Fair t q owner p
 fair t q owner p h =
     record {
       moves-up = λ ms l. moves-up owner t ms q p h l;

@@ -2,4 +2,3 @@ pub mod Moving
 pub mod Accounting
 pub mod Fairness
 pub mod Refusals
-pub mod Case

@@ -21,12 +21,13 @@ use Rattle.turns.specs.Turns.{TurnResult}
 use Rattle.turns.proofs.Progress.{progresses}
 use Rattle.queues.specs.declared.Entry.{Entry}
 use Rattle.queues.specs.declared.Queued.the-variants.{Refused}
-use Rattle.queues.specs.Lists.{Lent, hasSteps, hasNone, lineOf, asideOf, placed, ownersIn, owners, entriesRight, hasOwner}
-use Rattle.queues.specs.Joining.{Joining, entryOf, joinedAs, joinOf, joinTests, listsWith}
+use Rattle.queues.specs.Lists.{LentLists, hasSteps, hasNone, lineOf, asideOf, entriesOver, ownersIn, owners, entriesRight, hasOwner}
+use Rattle.queues.specs.Joining.{Joining, newEntry, joinedAs, joinQueueOf, joinTests, listsWith}
 use Rattle.queues.specs.ToppingUp.{notOwner, withAllowance, topUpTests, toppedAs, topUpOf}
 use Rattle.queues.specs.Serving.{Serving, entryTurn, ServeResult, entryAfter, goesBack, turnedTo, frontTurn, frontServed, servedAs, serveOf}
 use Rattle.queues.specs.Serving.{serveTests, serviceWith}
-use Rattle.queues.specs.Calls.{Queue, Call, join, serve, topUp, MadeCall, lentTo, Deed, grants, turns, nothing, afterQueued, afterService, afterCall}
+use Rattle.queues.specs.Calls.{Queue, QueueCall, join, serve, topUp, MadeCall, lentTo, Deed, grants, turns, nothing}
+use Rattle.queues.specs.Calls.{afterQueued, afterService, afterCall}
 use Rattle.queues.specs.Calls.{granted, tookTurn, deedOf}
 
 abbrev pub queue : List Entry → List Entry → Queue
@@ -54,16 +55,16 @@ line-lent q m = take-append-seam (q .line) (m .behindLine)
 pub aside-lent : (q : Queue) (m : MadeCall) → asideOf (lentTo q m) ≡ q .aside
 aside-lent q m = take-append-seam (q .aside) (m .behindAside)
 
-taken : (es buffer : List Entry) → take (length es) (placed es buffer) ≡ es
+taken : (es buffer : List Entry) → take (length es) (entriesOver es buffer) ≡ es
 taken es buffer = take-append-seam es _
 
-pub both-taken : (l : Lent) (line aside : List Entry) (line′ aside′ : List Entry) → line ≡ line′ → aside ≡ aside′
-    → queue (take (length line) (placed line (l .line))) (take (length aside) (placed aside (l .aside))) ≡ queue line′ aside′
+pub both-taken : (l : LentLists) (line aside : List Entry) (line′ aside′ : List Entry) → line ≡ line′ → aside ≡ aside′
+    → queue (take (length line) (entriesOver line (l .line))) (take (length aside) (entriesOver aside (l .aside))) ≡ queue line′ aside′
 both-taken l line aside line′ aside′ e f = λ i. queue ((taken line (l .line) ∙ e) i) ((taken aside (l .aside) ∙ f) i)
 
 -- ---- joining
 module _ (t : Tables) (q : Queue) (m : MadeCall) where
-  abbrev l : Lent
+  abbrev l : LentLists
   l = lentTo q m
 
   join-moves : (j : Joining) (o : Option ℕ) → firstFailing (joinTests t l j) ≡ o
@@ -72,7 +73,7 @@ module _ (t : Tables) (q : Queue) (m : MadeCall) where
   join-moves j none e = by-steps (eqb (j .allowance) 0) refl
     where
       d : Entry
-      d = entryOf j
+      d = newEntry j
 
       -- whichever list it goes to
       by-steps : (b : Bool) → eqb (j .allowance) 0 ≡ b
@@ -111,7 +112,7 @@ kept-none owner (e ∷ es) h =
     let rest = kept-none owner es (or-right (eqb owner (e .owner)) (member owner (ownersIn es)) h) in
     (rw other (rest .0), rw other (ap (λ (xs : List Entry). e ∷ xs) (rest .1)))
 
-pub record Found (owner : ℕ) (es : List Entry) : Type 0 where
+pub record FoundEntry (owner : ℕ) (es : List Entry) : Type 0 where
   pub before : List Entry
   pub entry : Entry
   pub behind : List Entry
@@ -122,14 +123,14 @@ pub record Found (owner : ℕ) (es : List Entry) : Type 0 where
   pub others : keep (notOwner owner) es ≡ before ++ behind
 
 pub found : (owner : ℕ) (es : List Entry) → member owner (ownersIn es) ≡ true → distinct (ownersIn es) ≡ true → all hasNone es ≡ true
-    → Found owner es
+    → FoundEntry owner es
 unfolding member distinct keep all
 found owner [] h d z = absurd-true h refl
 found owner (e ∷ es) h d z =
     by-owner (λ m. found owner es m (and-right (not (member (e .owner) (ownersIn es))) (distinct (ownersIn es)) d) (and-right (hasNone e) (all hasNone es) z))
     (eqb (e .owner) owner) refl
   where
-    by-owner : (member owner (ownersIn es) ≡ true → Found owner es) → (b : Bool) → eqb (e .owner) owner ≡ b → Found owner (e ∷ es)
+    by-owner : (member owner (ownersIn es) ≡ true → FoundEntry owner es) → (b : Bool) → eqb (e .owner) owner ≡ b → FoundEntry owner (e ∷ es)
     by-owner again true same =
         let none-behind : member owner (ownersIn es) ≡ false = rw (← eqb-true (e .owner) owner same)
         (not-member (member (e .owner) (ownersIn es)) (and-left (not (member (e .owner) (ownersIn es))) (distinct (ownersIn es)) d)) in
@@ -169,10 +170,10 @@ first-passes true x xs h = refl
 first-passes false x xs h = absurd (none-some (sym h))
 
 module _ (q : Queue) (m : MadeCall) where
-  abbrev lent : Lent
+  abbrev lent : LentLists
   lent = lentTo q m
 
-  pub topped-up : (owner n : ℕ) → firstFailing (topUpTests lent owner n) ≡ none → Found owner (q .aside)
+  pub topped-up : (owner n : ℕ) → firstFailing (topUpTests lent owner n) ≡ none → FoundEntry owner (q .aside)
   topped-up owner n e = f
     where
       right : entriesRight lent && (leb 1 n && member owner (ownersIn (asideOf lent))) ≡ true
@@ -184,14 +185,14 @@ module _ (q : Queue) (m : MadeCall) where
       allowances : Bool
       allowances = all hasSteps (lineOf lent) && all hasNone (asideOf lent)
 
-      f : Found owner (q .aside)
+      f : FoundEntry owner (q .aside)
       f =
           let entries = and-left (entriesRight lent) (leb 1 n && member owner (ownersIn (asideOf lent))) right in
           let named = and-right (leb 1 n) (member owner (ownersIn (asideOf lent)))
           (and-right (entriesRight lent) (leb 1 n && member owner (ownersIn (asideOf lent))) right) in
           let apart = distinct-right (ownersIn (lineOf lent)) (ownersIn (asideOf lent)) (and-left all-owners allowances entries) in
           let rest = and-right (all hasSteps (lineOf lent)) (all hasNone (asideOf lent)) (and-right all-owners allowances entries) in
-          subst (λ (es : List Entry). Found owner es) (aside-lent q m) (found owner (asideOf lent) named apart rest)
+          subst (λ (es : List Entry). FoundEntry owner es) (aside-lent q m) (found owner (asideOf lent) named apart rest)
 
   top-up-moves : (owner n : ℕ) (o : Option ℕ) → firstFailing (topUpTests lent owner n) ≡ o
       → Moves q (afterQueued q (toppedAs lent owner n o) (toppedAs lent owner n o .answer)) (granted owner n (toppedAs lent owner n o .answer))
@@ -212,7 +213,7 @@ module _ (q : Queue) (m : MadeCall) where
 
 -- ---- serving
 module _ (t : Tables) (q : Queue) (m : MadeCall) (s : Serving) where
-  abbrev held : Lent
+  abbrev held : LentLists
   held = lentTo q m
 
   module _ (e : Entry) (es : List Entry) (line-is : lineOf held ≡ e ∷ es) where
@@ -314,8 +315,8 @@ module _ (t : Tables) (q : Queue) (m : MadeCall) (s : Serving) where
   serve-moves none = by-line (lineOf held) refl
 
 -- what one call does
-pub call-moves : (t : Tables) (q : Queue) (m : MadeCall) (c : Call) → Moves q (afterCall t q (lentTo q m) c) (deedOf t (lentTo q m) c)
-unfolding joinOf topUpOf serveOf
+pub call-moves : (t : Tables) (q : Queue) (m : MadeCall) (c : QueueCall) → Moves q (afterCall t q (lentTo q m) c) (deedOf t (lentTo q m) c)
+unfolding joinQueueOf topUpOf serveOf
 call-moves t q m (join j) = join-moves t q m j (firstFailing (joinTests t (lentTo q m) j)) refl
 call-moves t q m (serve s) = serve-moves t q m s (firstFailing (serveTests t (lentTo q m) s))
 call-moves t q m (topUp owner n) = top-up-moves q m owner n (firstFailing (topUpTests (lentTo q m) owner n)) refl

@@ -25,16 +25,16 @@ use Rattle.turns.proofs.Refusals.{turn-refusals}
 use Rattle.queues.specs.declared.Entry.{Entry}
 use Rattle.queues.specs.declared.Queued.{Queued}
 use Rattle.queues.specs.declared.Queued.the-variants.{Lists, Refused}
-use Rattle.queues.specs.Lists.{Lent, lineOf, asideOf, hasSteps, hasNone, owners}
-use Rattle.queues.specs.Joining.{Joining, QueuedResult, joinTests, joinedAs, joinOf, entryOf, listsAsWere, listsWith}
+use Rattle.queues.specs.Lists.{LentLists, lineOf, asideOf, hasSteps, hasNone, owners}
+use Rattle.queues.specs.Joining.{Joining, QueuedResult, joinTests, joinedAs, joinQueueOf, newEntry, listsAsWere, listsWith}
 use Rattle.queues.specs.ToppingUp.{topUpTests, toppedAs, topUpOf}
-use Rattle.queues.specs.Serving.{Serving, ServeResult, entryTurn, frontTests, listTests, serveTests, turnedTo, entryAfter, frontTurn, frontServed}
+use Rattle.queues.specs.Serving.{Serving, ServeResult, entryTurn, frontTests, queueTests, serveTests, turnedTo, entryAfter, frontTurn, frontServed}
 use Rattle.queues.specs.Serving.{servedAs, serveOf, refusedService, serviceWith, goesBack}
 use Rattle.queues.specs.Refusals.{refusalBy, lineBy, asideBy, QueuedRefusals, JoinRefusals, TopUpRefusals, serveNumbers, Serves}
 use Rattle.queues.specs.Refusals.{ServeRefusals}
 
 -- ---- joining and topping up: one argument for both
-module _ (l : Lent) (tests : List Test) (leaves : Option ℕ → QueuedResult) (refuses : (x : ℕ) → leaves (some x) ≡ listsAsWere l x)
+module _ (l : LentLists) (tests : List Test) (leaves : Option ℕ → QueuedResult) (refuses : (x : ℕ) → leaves (some x) ≡ listsAsWere l x)
     (never : (x : ℕ) → ¬ (leaves none .answer ≡ Refused x)) where
   not-queued : (x : ℕ) → FirstFails x tests → leaves (firstFailing tests) ≡ listsAsWere l x
   not-queued x h = ap leaves (fails-first x tests h) ∙ refuses x
@@ -67,23 +67,23 @@ module _ (l : Lent) (tests : List Test) (leaves : Option ℕ → QueuedResult) (
         serves = served-when Refused (λ o. leaves o .answer) (λ x y e. cc) (λ x. ap (λ (r : QueuedResult). r .answer) (refuses x)) never tests;
       }
 
-pub join-refusals : (t : Tables) (l : Lent) (j : Joining) → JoinRefusals t l j
-unfolding joinOf
+pub join-refusals : (t : Tables) (l : LentLists) (j : Joining) → JoinRefusals t l j
+unfolding joinQueueOf
 join-refusals t l j = queued-refusals l (joinTests t l j) (joinedAs l j) (λ x. refl) (λ x. admits (eqb (j .allowance) 0) x) _ refl
   where
     admits : (b : Bool) (x : ℕ)
-        → ¬ (cond b (listsWith l (lineOf l) (asideOf l ++ (entryOf j ∷ [])))
-        (listsWith l (lineOf l ++ (entryOf j ∷ [])) (asideOf l)) .answer ≡ Refused x)
+        → ¬ (cond b (listsWith l (lineOf l) (asideOf l ++ (newEntry j ∷ [])))
+        (listsWith l (lineOf l ++ (newEntry j ∷ [])) (asideOf l)) .answer ≡ Refused x)
     admits true x e = let z : _≡_ {A = ℕ} 0 1 = cc in omega arith
     admits false x e = let z : _≡_ {A = ℕ} 0 1 = cc in omega arith
 
-pub top-up-refusals : (l : Lent) (owner amount : ℕ) → TopUpRefusals l owner amount
+pub top-up-refusals : (l : LentLists) (owner amount : ℕ) → TopUpRefusals l owner amount
 unfolding topUpOf
 top-up-refusals l owner amount =
     queued-refusals l (topUpTests l owner amount) (toppedAs l owner amount) (λ x. refl) (λ x e. let z : _≡_ {A = ℕ} 0 1 = cc in omega arith) _ refl
 
 -- ---- serving
-module _ (t : Tables) (l : Lent) (s : Serving) where
+module _ (t : Tables) (l : LentLists) (s : Serving) where
   -- the front entry passes with the steps left what it passes with the call's quantum
   front-serves : (e : Entry) → 1 ≤ e .allowance → AllPass (turnTests (entryTurn t s e (s .quantum)))
       → Served (entryTurn t s e (min (s .quantum) (e .allowance)))
@@ -129,13 +129,13 @@ module _ (t : Tables) (l : Lent) (s : Serving) where
   served-so : AllPass (serveTests t l s) → (x : ℕ) → ¬ (servedAs t l s none .answer .turned .ending ≡ ending.Refused x)
   served-so passed = by-line (lineOf l) refl passed
     where
-      by-line : (es : List Entry) → lineOf l ≡ es → AllPass (frontTests t s es ++ listTests l)
+      by-line : (es : List Entry) → lineOf l ≡ es → AllPass (frontTests t s es ++ queueTests l)
           → (x : ℕ) → ¬ (frontServed t l s es .answer .turned .ending ≡ ending.Refused x)
-      by-line [] is p = λ x f. absurd-true (test-passed 19 (listTests l) (rest-passes (frontTests t s []) (listTests l) p)) (rw is refl)
+      by-line [] is p = λ x f. absurd-true (test-passed 19 (queueTests l) (rest-passes (frontTests t s []) (queueTests l) p)) (rw is refl)
       by-line (e ∷ es) is p =
-          let own = front-passes (frontTests t s (e ∷ es)) (listTests l) p in
-          let lists = rest-passes (frontTests t s (e ∷ es)) (listTests l) p in
-          let right = and-right (distinct (owners l)) _ (test-passed 17 (listTests l) lists) in
+          let own = front-passes (frontTests t s (e ∷ es)) (queueTests l) p in
+          let lists = rest-passes (frontTests t s (e ∷ es)) (queueTests l) p in
+          let right = and-right (distinct (owners l)) _ (test-passed 17 (queueTests l) lists) in
           let steps = and-left (all hasSteps (lineOf l)) (all hasNone (asideOf l)) right in
           ends-so e es (front-serves e (leb-true 1 (e .allowance) (all-head hasSteps e es (rw is at steps))) own)
 
@@ -182,7 +182,7 @@ module _ (t : Tables) (l : Lent) (s : Serving) where
   not-served x h = ap (servedAs t l s) (fails-first x (serveTests t l s) h)
 
   -- the tests of a front entry, or of an empty line
-  numbers-by : (es : List Entry) → map (λ (x : Test). x .0) (frontTests t s es ++ listTests l) ≡ serveNumbers es
+  numbers-by : (es : List Entry) → map (λ (x : Test). x .0) (frontTests t s es ++ queueTests l) ≡ serveNumbers es
   numbers-by [] = refl
   numbers-by (e ∷ es) = refl
 

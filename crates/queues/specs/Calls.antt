@@ -13,8 +13,8 @@ use Rattle.turns.specs.declared.TurnEnding.the-variants as ending
 use Rattle.queues.specs.declared.Entry.{Entry}
 use Rattle.queues.specs.declared.Queued.{Queued}
 use Rattle.queues.specs.declared.Queued.the-variants.{Lists, Refused}
-use Rattle.queues.specs.Lists.{Lent}
-use Rattle.queues.specs.Joining.{Joining, QueuedResult, joinOf}
+use Rattle.queues.specs.Lists.{LentLists}
+use Rattle.queues.specs.Joining.{Joining, QueuedResult, joinQueueOf}
 use Rattle.queues.specs.ToppingUp.{topUpOf}
 use Rattle.queues.specs.Serving.{Serving, ServeResult, serveOf}
 
@@ -23,18 +23,18 @@ pub record Queue : Type 0 where
   pub line : List Entry
   pub aside : List Entry
 
-pub data Call : Type 0 where
-  join : Joining → Call
-  serve : Serving → Call
-  topUp : ℕ → ℕ → Call
+pub data QueueCall : Type 0 where
+  join : Joining → QueueCall
+  serve : Serving → QueueCall
+  topUp : ℕ → ℕ → QueueCall
 
 -- a call, and the entries that stand behind both lists in their buffers
 pub record MadeCall : Type 0 where
-  pub call : Call
+  pub call : QueueCall
   pub behindLine : List Entry
   pub behindAside : List Entry
 
-abbrev pub lentTo : Queue → MadeCall → Lent
+abbrev pub lentTo : Queue → MadeCall → LentLists
 lentTo q m =
     record {
       line = q .line ++ m .behindLine;
@@ -60,8 +60,8 @@ afterService q r ending.Spent = record { line = take (r .answer .waiting) (r .li
 afterService q r ending.Full = record { line = take (r .answer .waiting) (r .line); aside = take (r .answer .resting) (r .aside) }
 afterService q r (ending.Refused x) = q
 
-abbrev pub afterCall : Tables → Queue → Lent → Call → Queue
-afterCall t q l (join j) = afterQueued q (joinOf t l j) (joinOf t l j .answer)
+abbrev pub afterCall : Tables → Queue → LentLists → QueueCall → Queue
+afterCall t q l (join j) = afterQueued q (joinQueueOf t l j) (joinQueueOf t l j .answer)
 afterCall t q l (serve s) = afterService q (serveOf t l s) (serveOf t l s .answer .turned .ending)
 afterCall t q l (topUp owner amount) = afterQueued q (topUpOf l owner amount) (topUpOf l owner amount .answer)
 
@@ -75,8 +75,8 @@ tookTurn r ending.Spent = turns (r .answer .owner) ending.Spent (r .answer .turn
 tookTurn r ending.Full = turns (r .answer .owner) ending.Full (r .answer .turned .steps) (r .answer .left)
 tookTurn r (ending.Refused x) = nothing
 
-abbrev pub deedOf : Tables → Lent → Call → Deed
-deedOf t l (join j) = granted (j .owner) (j .allowance) (joinOf t l j .answer)
+abbrev pub deedOf : Tables → LentLists → QueueCall → Deed
+deedOf t l (join j) = granted (j .owner) (j .allowance) (joinQueueOf t l j .answer)
 deedOf t l (serve s) = tookTurn (serveOf t l s) (serveOf t l s .answer .turned .ending)
 deedOf t l (topUp owner amount) = granted owner amount (topUpOf l owner amount .answer)
 
@@ -99,14 +99,14 @@ unfoldable pub turnsIn : List Deed → ℕ
 turnsIn [] = 0
 turnsIn (d ∷ ds) = turnsOf d + turnsIn ds
 
-unfoldable pub placeIn : ℕ → List Entry → Option ℕ
-placeIn owner [] = none
-placeIn owner (e ∷ es) = cond (eqb (e .owner) owner) (some 0) (elim (placeIn owner es) [ none ↦ none | some p ↦ some (p + 1) ])
+unfoldable pub placeInLine : ℕ → List Entry → Option ℕ
+placeInLine owner [] = none
+placeInLine owner (e ∷ es) = cond (eqb (e .owner) owner) (some 0) (elim (placeInLine owner es) [ none ↦ none | some p ↦ some (p + 1) ])
 
 -- an owner at place p of the line: until p turns are served it moves up by one with each, and the turn after them is its own
 pub record Fair (t : Tables) (q : Queue) (owner p : ℕ) : Type 0 where
   pub moves-up : (ms : List MadeCall) → turnsIn (deeds t q ms) ≤ p
-      → placeIn owner (afterCalls t q ms .line) ≡ some (p - turnsIn (deeds t q ms))
+      → placeInLine owner (afterCalls t q ms .line) ≡ some (p - turnsIn (deeds t q ms))
   pub next-is-its : (ms : List MadeCall) → turnsIn (deeds t q ms) ≡ p → (m : MadeCall) (o : ℕ) (e : TurnEnding) (n left : ℕ)
       → deedOf t (lentTo (afterCalls t q ms) m) (m .call) ≡ turns o e n left → o ≡ owner
 

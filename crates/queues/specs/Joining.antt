@@ -13,7 +13,7 @@ use Rattle.steps.specs.Saved.{shapeRight, placesRight}
 use Rattle.queues.specs.declared.Entry.{Entry}
 use Rattle.queues.specs.declared.Queued.{Queued}
 use Rattle.queues.specs.declared.Queued.the-variants.{Lists, Refused}
-use Rattle.queues.specs.Lists.{Lent, lineOf, asideOf, planRoom, stateRoom, filled, placed, owners, entriesRight, roomRight}
+use Rattle.queues.specs.Lists.{LentLists, lineOf, asideOf, entryPlanRoom, entryStateRoom, filled, entriesOver, owners, entriesRight, spaceRight}
 
 -- who joins, with how many steps, which plan and which state
 pub record Joining : Type 0 where
@@ -33,18 +33,18 @@ joinTestsBy t plan state entries room =
     ∷ (18, room)
     ∷ []))
 
-abbrev pub joinTests : Tables → Lent → Joining → List Test
-joinTests t l j = joinTestsBy t (j .plan) (j .state) (entriesRight l && not (member (j .owner) (owners l))) (roomRight 1 l)
+abbrev pub joinTests : Tables → LentLists → Joining → List Test
+joinTests t l j = joinTestsBy t (j .plan) (j .state) (entriesRight l && not (member (j .owner) (owners l))) (spaceRight 1 l)
 
-abbrev pub entryOf : Joining → Entry
-entryOf j =
+abbrev pub newEntry : Joining → Entry
+newEntry j =
     record {
       allowance = j .allowance;
       owner = j .owner;
       planned = length (j .plan);
       saved = length (j .state);
-      plan = filled planRoom (j .plan);
-      state = filled stateRoom (j .state);
+      plan = filled entryPlanRoom (j .plan);
+      state = filled entryStateRoom (j .state);
     }
 
 -- what joining and topping up leave
@@ -53,22 +53,22 @@ pub record QueuedResult : Type 0 where
   pub line : List Entry
   pub aside : List Entry
 
-abbrev pub listsWith : Lent → List Entry → List Entry → QueuedResult
+abbrev pub listsWith : LentLists → List Entry → List Entry → QueuedResult
 listsWith l line aside =
-    record { answer = Lists (length line) (length aside); line = placed line (l .line); aside = placed aside (l .aside) }
+    record { answer = Lists (length line) (length aside); line = entriesOver line (l .line); aside = entriesOver aside (l .aside) }
 
 -- a refusal changes no entry
-abbrev pub listsAsWere : Lent → ℕ → QueuedResult
+abbrev pub listsAsWere : LentLists → ℕ → QueuedResult
 listsAsWere l x = record { answer = Refused x; line = l .line; aside = l .aside }
 
 -- an entry goes to the end of the line, and to the end of the list set aside if it has no steps
-abbrev pub admitted : Lent → Entry → QueuedResult
+abbrev pub admitted : LentLists → Entry → QueuedResult
 admitted l e =
     cond (eqb (e .allowance) 0) (listsWith l (lineOf l) (asideOf l ++ (e ∷ []))) (listsWith l (lineOf l ++ (e ∷ [])) (asideOf l))
 
-abbrev pub joinedAs : Lent → Joining → Option ℕ → QueuedResult
+abbrev pub joinedAs : LentLists → Joining → Option ℕ → QueuedResult
 joinedAs l j (some x) = listsAsWere l x
-joinedAs l j none = admitted l (entryOf j)
+joinedAs l j none = admitted l (newEntry j)
 
-unfoldable pub joinOf : Tables → Lent → Joining → QueuedResult
-joinOf t l j = joinedAs l j (firstFailing (joinTests t l j))
+unfoldable pub joinQueueOf : Tables → LentLists → Joining → QueuedResult
+joinQueueOf t l j = joinedAs l j (firstFailing (joinTests t l j))

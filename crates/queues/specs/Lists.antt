@@ -13,45 +13,45 @@ use Rattle.queues.specs.declared.Entry.{Entry}
 abbrev pub mostEntries : ℕ
 mostEntries = 32
 
-abbrev pub planRoom : ℕ
-planRoom = mostPlanWords
+abbrev pub entryPlanRoom : ℕ
+entryPlanRoom = mostPlanWords
 
-abbrev pub stateRoom : ℕ
-stateRoom = 11
+abbrev pub entryStateRoom : ℕ
+entryStateRoom = 11
 
 -- both lists: each is the first entries of its buffer, as many as the call gives, or all of them where it gives more
-pub record Lent : Type 0 where
+pub record LentLists : Type 0 where
   pub line : List Entry
   pub waiting : ℕ
   pub aside : List Entry
   pub resting : ℕ
 
-abbrev pub lentAs : List Entry → ℕ → List Entry → ℕ → Lent
+abbrev pub lentAs : List Entry → ℕ → List Entry → ℕ → LentLists
 lentAs line waiting aside resting = record { line = line; waiting = waiting; aside = aside; resting = resting }
 
-abbrev pub lineOf : Lent → List Entry
+abbrev pub lineOf : LentLists → List Entry
 lineOf l = take (l .waiting) (l .line)
 
-abbrev pub asideOf : Lent → List Entry
+abbrev pub asideOf : LentLists → List Entry
 asideOf l = take (l .resting) (l .aside)
 
 -- the words of an entry's plan; a count past the array's end stands for no plan, which test 5 refuses
-abbrev pub planIn : Entry → List ℕ
-planIn e = cond (leb (e .planned) (length (e .plan))) (take (e .planned) (e .plan)) []
+abbrev pub entryPlan : Entry → List ℕ
+entryPlan e = cond (leb (e .planned) (length (e .plan))) (take (e .planned) (e .plan)) []
 
 -- some words, and 0 in the rest of an array
 abbrev pub filled : ℕ → List ℕ → List ℕ
 filled n ws = ws ++ replicate (n - length ws) 0
 
 -- a buffer with its first entries replaced
-abbrev pub placed : List Entry → List Entry → List Entry
-placed es buffer = es ++ drop (length es) buffer
+abbrev pub entriesOver : List Entry → List Entry → List Entry
+entriesOver es buffer = es ++ drop (length es) buffer
 
 -- ---- test 17
 abbrev pub ownersIn : List Entry → List ℕ
 ownersIn es = map (λ (e : Entry). e .owner) es
 
-abbrev pub owners : Lent → List ℕ
+abbrev pub owners : LentLists → List ℕ
 owners l = ownersIn (lineOf l) ++ ownersIn (asideOf l)
 
 abbrev pub hasOwner : ℕ → Entry → Bool
@@ -65,11 +65,11 @@ abbrev pub hasNone : Entry → Bool
 hasNone e = eqb (e .allowance) 0
 
 -- no owner has two entries, and every entry is in the list that its steps say: over all lent entries, however many
-abbrev pub entriesRight : Lent → Bool
+abbrev pub entriesRight : LentLists → Bool
 entriesRight l = distinct (owners l) && (all hasSteps (lineOf l) && all hasNone (asideOf l))
 
 -- ---- test 18
 -- each buffer has room for the most entries, and with so many more there are not too many. So no count passes its buffer
-abbrev pub roomRight : ℕ → Lent → Bool
-roomRight more l =
+abbrev pub spaceRight : ℕ → LentLists → Bool
+spaceRight more l =
     leb mostEntries (length (l .line)) && (leb mostEntries (length (l .aside)) && leb (l .waiting + l .resting + more) mostEntries)

@@ -11,8 +11,8 @@ use Rattle.turns.specs.Turns.{refusalOf}
 use Rattle.queues.specs.declared.Entry.{Entry}
 use Rattle.queues.specs.declared.Queued.{Queued}
 use Rattle.queues.specs.declared.Queued.the-variants.{Lists, Refused}
-use Rattle.queues.specs.Lists.{Lent, lineOf}
-use Rattle.queues.specs.Joining.{Joining, QueuedResult, joinTests, joinOf}
+use Rattle.queues.specs.Lists.{LentLists, lineOf}
+use Rattle.queues.specs.Joining.{Joining, QueuedResult, joinTests, joinQueueOf}
 use Rattle.queues.specs.ToppingUp.{topUpTests, topUpOf}
 use Rattle.queues.specs.Serving.{Serving, ServeResult, serveTests, serveOf}
 
@@ -32,14 +32,14 @@ asideBy (Lists n m) = m
 asideBy (Refused x) = 0
 
 -- both lists stand as they were lent, and the answer counts none
-pub record NotQueued (l : Lent) (r : QueuedResult) : Type 0 where
+pub record NotQueued (l : LentLists) (r : QueuedResult) : Type 0 where
   pub line : r .line ≡ l .line
   pub aside : r .aside ≡ l .aside
   pub waiting : lineBy (r .answer) ≡ 0
   pub resting : asideBy (r .answer) ≡ 0
 
 -- what is true of such a call's tests and its result
-pub record QueuedRefusals (l : Lent) (numbers : List ℕ) (tests : List Test) (r : QueuedResult) : Type 0 where
+pub record QueuedRefusals (l : LentLists) (numbers : List ℕ) (tests : List Test) (r : QueuedResult) : Type 0 where
   -- the table's numbers, in the table's order
   pub order : map (λ (x : Test). x .0) tests ≡ numbers
   -- its answer has the number of the first test that fails, 0 where all pass
@@ -51,10 +51,10 @@ pub record QueuedRefusals (l : Lent) (numbers : List ℕ) (tests : List Test) (r
   -- it is served, answering no such number, exactly where every test passes
   pub serves : ((x : ℕ) → ¬ (r .answer ≡ Refused x)) ↔ AllPass tests
 
-abbrev pub JoinRefusals : Tables → Lent → Joining → Type 0
-JoinRefusals t l j = QueuedRefusals l (1 ∷ 2 ∷ 3 ∷ 4 ∷ 5 ∷ 6 ∷ 9 ∷ 10 ∷ 17 ∷ 18 ∷ []) (joinTests t l j) (joinOf t l j)
+abbrev pub JoinRefusals : Tables → LentLists → Joining → Type 0
+JoinRefusals t l j = QueuedRefusals l (1 ∷ 2 ∷ 3 ∷ 4 ∷ 5 ∷ 6 ∷ 9 ∷ 10 ∷ 17 ∷ 18 ∷ []) (joinTests t l j) (joinQueueOf t l j)
 
-abbrev pub TopUpRefusals : Lent → ℕ → ℕ → Type 0
+abbrev pub TopUpRefusals : LentLists → ℕ → ℕ → Type 0
 TopUpRefusals l owner amount = QueuedRefusals l (17 ∷ 18 ∷ []) (topUpTests l owner amount) (topUpOf l owner amount)
 
 -- ---- serving
@@ -64,7 +64,7 @@ serveNumbers [] = 1 ∷ 2 ∷ 3 ∷ 4 ∷ 8 ∷ 17 ∷ 18 ∷ 19 ∷ []
 serveNumbers (e ∷ es) = 1 ∷ 2 ∷ 3 ∷ 4 ∷ 5 ∷ 6 ∷ 7 ∷ 8 ∷ 9 ∷ 10 ∷ 11 ∷ 17 ∷ 18 ∷ 19 ∷ []
 
 -- both lists and the output stand as they were lent, and every other number of the answer is 0
-pub record NotServed (l : Lent) (s : Serving) (r : ServeResult) : Type 0 where
+pub record NotServed (l : LentLists) (s : Serving) (r : ServeResult) : Type 0 where
   pub line : r .line ≡ l .line
   pub aside : r .aside ≡ l .aside
   pub output : r .output ≡ s .output
@@ -77,10 +77,10 @@ pub record NotServed (l : Lent) (s : Serving) (r : ServeResult) : Type 0 where
   pub resting : r .answer .resting ≡ 0
 
 -- a serve that is not refused
-abbrev pub Serves : Tables → Lent → Serving → Type 0
+abbrev pub Serves : Tables → LentLists → Serving → Type 0
 Serves t l s = (x : ℕ) → ¬ (serveOf t l s .answer .turned .ending ≡ ending.Refused x)
 
-pub record ServeRefusals (t : Tables) (l : Lent) (s : Serving) : Type 0 where
+pub record ServeRefusals (t : Tables) (l : LentLists) (s : Serving) : Type 0 where
   -- the table's numbers, in the table's order
   pub order : map (λ (x : Test). x .0) (serveTests t l s) ≡ serveNumbers (lineOf l)
   -- its answer has the number of the first test that fails, 0 where all pass

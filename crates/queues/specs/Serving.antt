@@ -12,7 +12,7 @@ use Rattle.turns.specs.declared.TurnEnding.the-variants as ending
 use Rattle.turns.specs.Turns.{TurnInput, TurnResult, turnTests, turnOf, mostSteps}
 use Rattle.queues.specs.declared.Entry.{Entry}
 use Rattle.queues.specs.declared.Service.{Service}
-use Rattle.queues.specs.Lists.{Lent, lineOf, asideOf, planIn, placed, entriesRight, roomRight}
+use Rattle.queues.specs.Lists.{LentLists, lineOf, asideOf, entryPlan, entriesOver, entriesRight, spaceRight}
 
 pub record Serving : Type 0 where
   pub quantum : ℕ
@@ -24,7 +24,7 @@ abbrev pub entryTurn : Tables → Serving → Entry → ℕ → TurnInput
 entryTurn t s e quantum =
     record {
       tables = t;
-      plan = planIn e;
+      plan = entryPlan e;
       state = e .state;
       given = e .saved;
       quantum = quantum;
@@ -46,14 +46,14 @@ isEmpty [] = true
 isEmpty (e ∷ es) = false
 
 -- then those of both lists
-abbrev pub listTestsBy : Bool → Bool → Bool → List Test
-listTestsBy entries room front = (17, entries) ∷ (18, room) ∷ (19, front) ∷ []
+abbrev pub queueTestsBy : Bool → Bool → Bool → List Test
+queueTestsBy entries room front = (17, entries) ∷ (18, room) ∷ (19, front) ∷ []
 
-abbrev pub listTests : Lent → List Test
-listTests l = listTestsBy (entriesRight l) (roomRight 0 l) (not (isEmpty (lineOf l)))
+abbrev pub queueTests : LentLists → List Test
+queueTests l = queueTestsBy (entriesRight l) (spaceRight 0 l) (not (isEmpty (lineOf l)))
 
-abbrev pub serveTests : Tables → Lent → Serving → List Test
-serveTests t l s = frontTests t s (lineOf l) ++ listTests l
+abbrev pub serveTests : Tables → LentLists → Serving → List Test
+serveTests t l s = frontTests t s (lineOf l) ++ queueTests l
 
 -- ---- what serving leaves
 pub record ServeResult : Type 0 where
@@ -75,7 +75,7 @@ entryAfter e r =
     }
 
 -- both lists after a turn of the front entry
-abbrev pub serviceWith : Lent → Entry → TurnResult → List Entry → List Entry → ServeResult
+abbrev pub serviceWith : LentLists → Entry → TurnResult → List Entry → List Entry → ServeResult
 serviceWith l e r line aside =
     record {
       answer = record {
@@ -85,20 +85,20 @@ serviceWith l e r line aside =
         waiting = length line;
         resting = length aside;
       };
-      line = placed line (l .line);
-      aside = placed aside (l .aside);
+      line = entriesOver line (l .line);
+      aside = entriesOver aside (l .aside);
       output = r .output;
     }
 
 -- unfinished, it goes to the back with steps left, and to the end of the list set aside with none
-abbrev pub goesBack : Lent → Entry → List Entry → TurnResult → ServeResult
+abbrev pub goesBack : LentLists → Entry → List Entry → TurnResult → ServeResult
 goesBack l e es r =
     cond (eqb (e .allowance - r .answer .steps) 0)
     (serviceWith l e r es (asideOf l ++ (entryAfter e r ∷ [])))
     (serviceWith l e r (es ++ (entryAfter e r ∷ [])) (asideOf l))
 
 -- a refusal answers its number alone, and changes no entry and no word
-abbrev pub refusedService : Lent → Serving → ℕ → ServeResult
+abbrev pub refusedService : LentLists → Serving → ℕ → ServeResult
 refusedService l s x =
     record {
       answer = record {
@@ -114,7 +114,7 @@ refusedService l s x =
     }
 
 -- done, it leaves
-abbrev pub turnedTo : Lent → Serving → Entry → List Entry → TurnResult → TurnEnding → ServeResult
+abbrev pub turnedTo : LentLists → Serving → Entry → List Entry → TurnResult → TurnEnding → ServeResult
 turnedTo l s e es r ending.Done = serviceWith l e r es (asideOf l)
 turnedTo l s e es r ending.Spent = goesBack l e es r
 turnedTo l s e es r ending.Full = goesBack l e es r
@@ -124,13 +124,13 @@ turnedTo l s e es r (ending.Refused x) = refusedService l s x
 abbrev pub frontTurn : Tables → Serving → Entry → TurnResult
 frontTurn t s e = turnOf (entryTurn t s e (min (s .quantum) (e .allowance)))
 
-abbrev pub frontServed : Tables → Lent → Serving → List Entry → ServeResult
+abbrev pub frontServed : Tables → LentLists → Serving → List Entry → ServeResult
 frontServed t l s [] = refusedService l s 19
 frontServed t l s (e ∷ es) = turnedTo l s e es (frontTurn t s e) (frontTurn t s e .answer .ending)
 
-abbrev pub servedAs : Tables → Lent → Serving → Option ℕ → ServeResult
+abbrev pub servedAs : Tables → LentLists → Serving → Option ℕ → ServeResult
 servedAs t l s (some x) = refusedService l s x
 servedAs t l s none = frontServed t l s (lineOf l)
 
-unfoldable pub serveOf : Tables → Lent → Serving → ServeResult
+unfoldable pub serveOf : Tables → LentLists → Serving → ServeResult
 serveOf t l s = servedAs t l s (firstFailing (serveTests t l s))

@@ -7,16 +7,16 @@ use lib.Dec.{leb}
 use Rattle.words.specs.Sequences.{keep, member}
 use Rattle.words.specs.Tests.{Test, firstFailing}
 use Rattle.queues.specs.declared.Entry.{Entry}
-use Rattle.queues.specs.Lists.{Lent, lineOf, asideOf, ownersIn, hasOwner, entriesRight, roomRight}
+use Rattle.queues.specs.Lists.{LentLists, lineOf, asideOf, ownersIn, hasOwner, entriesRight, spaceRight}
 use Rattle.queues.specs.Joining.{QueuedResult, listsWith, listsAsWere}
 
 -- 17 also refuses an amount of 0, and an owner who is not set aside
 abbrev pub topUpTestsBy : Bool → Bool → List Test
 topUpTestsBy entries room = (17, entries) ∷ (18, room) ∷ []
 
-abbrev pub topUpTests : Lent → ℕ → ℕ → List Test
+abbrev pub topUpTests : LentLists → ℕ → ℕ → List Test
 topUpTests l owner amount =
-    topUpTestsBy (entriesRight l && (leb 1 amount && member owner (ownersIn (asideOf l)))) (roomRight 0 l)
+    topUpTestsBy (entriesRight l && (leb 1 amount && member owner (ownersIn (asideOf l)))) (spaceRight 0 l)
 
 -- the entry had no steps left: those that it has now are the amount
 abbrev pub withAllowance : ℕ → Entry → Entry
@@ -27,12 +27,12 @@ abbrev pub notOwner : ℕ → Entry → Bool
 notOwner owner e = not (hasOwner owner e)
 
 -- the owner's entry goes from the list set aside to the end of the line
-abbrev pub toppedAs : Lent → ℕ → ℕ → Option ℕ → QueuedResult
+abbrev pub toppedAs : LentLists → ℕ → ℕ → Option ℕ → QueuedResult
 toppedAs l owner amount (some x) = listsAsWere l x
 toppedAs l owner amount none =
     listsWith l
     (lineOf l ++ map (withAllowance amount) (keep (hasOwner owner) (asideOf l)))
     (keep (notOwner owner) (asideOf l))
 
-unfoldable pub topUpOf : Lent → ℕ → ℕ → QueuedResult
+unfoldable pub topUpOf : LentLists → ℕ → ℕ → QueuedResult
 topUpOf l owner amount = toppedAs l owner amount (firstFailing (topUpTests l owner amount))

@@ -8,10 +8,15 @@ use Rattle.turns.specs.declared.Turned.{Turned}
 use Rattle.turns.specs.Turns.{refusalOf}
 use Rattle.uploads.specs.declared.Made.{Made}
 use Rattle.uploads.specs.Making.{madeRefusal, madeWords}
+use Rattle.queues.specs.declared.Queued.{Queued}
+use Rattle.queues.specs.declared.Service.{Service}
+use Rattle.queues.specs.Refusals.{refusalBy, lineBy, asideBy}
 use Rattle.sotjarn.specs.declared.WrittenNumbers.{WrittenNumbers}
 use Rattle.sotjarn.specs.declared.EndingNumbers.{EndingNumbers}
 use Rattle.sotjarn.specs.declared.TurnedNumbers.{TurnedNumbers}
 use Rattle.sotjarn.specs.declared.MadeNumbers.{MadeNumbers}
+use Rattle.sotjarn.specs.declared.QueuedNumbers.{QueuedNumbers}
+use Rattle.sotjarn.specs.declared.ServiceNumbers.{ServiceNumbers}
 
 -- the endings of a turn, counted from 0 in the order in which the rules name them; then refused
 abbrev pub endingNumber : TurnEnding → ℕ
@@ -44,4 +49,21 @@ madeNumbers m =
       pos = madeWords m .pos;
       osp = madeWords m .osp;
       report = madeWords m .report;
+    }
+
+abbrev pub queuedNumbers : Queued → QueuedNumbers
+queuedNumbers q = record { refused = refusalBy q; waiting = lineBy q; resting = asideBy q }
+
+abbrev pub serviceNumbers : Service → ServiceNumbers
+serviceNumbers s =
+    record {
+      ending = endingNumber (s .turned .ending);
+      refused = refusalOf (s .turned .ending);
+      steps = s .turned .steps;
+      owner = s .owner;
+      left = s .left;
+      saved = s .turned .saved;
+      listed = s .turned .listed;
+      waiting = s .waiting;
+      resting = s .resting;
     }

@@ -1,5 +1,8 @@
 // The calls for programs in other languages: an answer is a struct of numbers, and a buffer its address and its length in words.
 // bindings/c/sotjarn.h declares them for C.
+use queues::Entry;
+use queues::Queued;
+use queues::Service;
 use turns::TurnEnding;
 use turns::Turned;
 use uploads::Made;
@@ -11,7 +14,11 @@ ghost use Rattle.turns.specs.Turns.{turnOf, turnInput};
 ghost use Rattle.merges.specs.Merging.{mergeInput, mergeOf};
 ghost use Rattle.list_endings.specs.PlanOutputs.{planOutput};
 ghost use Rattle.uploads.specs.Making.{makeInput, makeOf};
-ghost use Rattle.sotjarn.specs.Numbers.{writtenNumbers, endingNumbers, turnedNumbers, madeNumbers};
+ghost use Rattle.queues.specs.Lists.{lentAs};
+ghost use Rattle.queues.specs.Joining.{joinQueueOf};
+ghost use Rattle.queues.specs.Serving.{serveOf};
+ghost use Rattle.queues.specs.ToppingUp.{topUpOf};
+ghost use Rattle.sotjarn.specs.Numbers.{writtenNumbers, endingNumbers, turnedNumbers, madeNumbers, queuedNumbers, serviceNumbers};
 
 // What a call that writes to one buffer answers, or that says how long one has to be: the number of the test that refused it, or 0; and
 // the words written or asked for.
@@ -47,6 +54,30 @@ pub struct MadeNumbers {
     pub pos: usize,
     pub osp: usize,
     pub report: usize,
+}
+
+// What joining and topping up answer: the number of the test that refused it, or 0; and how many entries the line and the list set aside
+// have now.
+#[repr(C)]
+pub struct QueuedNumbers {
+    pub refused: u32,
+    pub waiting: usize,
+    pub resting: usize,
+}
+
+// What serving answers: what the turn did; whose it was, and the steps left to it; and how many entries the line and the list set aside
+// have now.
+#[repr(C)]
+pub struct ServiceNumbers {
+    pub ending: u32,
+    pub refused: u32,
+    pub steps: u32,
+    pub owner: u32,
+    pub left: u64,
+    pub saved: usize,
+    pub listed: usize,
+    pub waiting: usize,
+    pub resting: usize,
 }
 
 // The endings of a turn, by their numbers.
@@ -137,6 +168,44 @@ fn made_numbers(m: Made) -> MadeNumbers
             osp: 0,
             report: 0,
         },
+    }
+}
+
+// The numbers of what joining and topping up answer: no entries are counted by a refused call.
+fn queued_numbers(q: Queued) -> QueuedNumbers
+    ensures { λ r. ⌜ r ≡ queuedNumbers q ⌝ }
+{
+    match q {
+        Queued::Lists(waiting, resting) => QueuedNumbers {
+            refused: 0,
+            waiting: waiting,
+            resting: resting,
+        },
+        Queued::Refused(number) => QueuedNumbers {
+            refused: number,
+            waiting: 0,
+            resting: 0,
+        },
+    }
+}
+
+// The numbers of what serving answers.
+fn service_numbers(s: Service) -> ServiceNumbers
+    ensures { λ r. ⌜ r ≡ serviceNumbers s ⌝ }
+{
+    let turned = s.turned;
+    let ending = turned.ending;
+    let by = ending_numbers(ending);
+    ServiceNumbers {
+        ending: by.ending,
+        refused: by.refused,
+        steps: turned.steps,
+        owner: s.owner,
+        left: s.left,
+        saved: turned.saved,
+        listed: turned.listed,
+        waiting: s.waiting,
+        resting: s.resting,
     }
 }
 
@@ -235,4 +304,102 @@ pub extern "C" fn sotjarn_make(
         (now (report .entry))) .buffers .report ⌝ }
 {
     made_numbers(upload_calls::make(upload, rows, pos, osp, report))
+}
+
+// An owner's query joins the queue: the line with steps, the list set aside without; or it is refused.
+#[no_mangle]
+pub extern "C" fn sotjarn_join(
+    rows: &[u32],
+    pos: &[u32],
+    osp: &[u32],
+    line: &mut [Entry],
+    given: usize,
+    aside: &mut [Entry],
+    kept: usize,
+    owner: u32,
+    allowance: u64,
+    plan: &[u32],
+    state: &[u32],
+) -> QueuedNumbers
+    ensures { λ r. ⌜ (r ≡ queuedNumbers (joinQueueOf (tablesOf (now (rows .entry)) (now (pos .entry)) (now (osp .entry)))
+        (lentAs (now (line .entry)) given (now (aside .entry)) kept)
+        (record { owner = owner; allowance = allowance; plan = now (plan .entry); state = now (state .entry) }) .answer))
+        × ((now (line .exit) ≡ joinQueueOf (tablesOf (now (rows .entry)) (now (pos .entry)) (now (osp .entry)))
+        (lentAs (now (line .entry)) given (now (aside .entry)) kept)
+        (record { owner = owner; allowance = allowance; plan = now (plan .entry); state = now (state .entry) }) .line)
+        × (now (aside .exit) ≡ joinQueueOf (tablesOf (now (rows .entry)) (now (pos .entry)) (now (osp .entry)))
+        (lentAs (now (line .entry)) given (now (aside .entry)) kept)
+        (record { owner = owner; allowance = allowance; plan = now (plan .entry); state = now (state .entry) }) .aside)) ⌝ }
+{
+    queued_numbers(queue_calls::join(
+        rows,
+        pos,
+        osp,
+        line,
+        given,
+        aside,
+        kept,
+        owner,
+        allowance,
+        plan,
+        state,
+    ))
+}
+
+// Runs one turn of the query at the front of the line, or refuses.
+#[no_mangle]
+pub extern "C" fn sotjarn_serve(
+    rows: &[u32],
+    pos: &[u32],
+    osp: &[u32],
+    line: &mut [Entry],
+    given: usize,
+    aside: &mut [Entry],
+    kept: usize,
+    quantum: u32,
+    threshold: &[u32],
+    output: &mut [u32],
+) -> ServiceNumbers
+    ensures { λ r. ⌜ (r ≡ serviceNumbers (serveOf (tablesOf (now (rows .entry)) (now (pos .entry)) (now (osp .entry)))
+        (lentAs (now (line .entry)) given (now (aside .entry)) kept)
+        (record { quantum = quantum; threshold = now (threshold .entry); output = now (output .entry) }) .answer))
+        × ((now (line .exit) ≡ serveOf (tablesOf (now (rows .entry)) (now (pos .entry)) (now (osp .entry)))
+        (lentAs (now (line .entry)) given (now (aside .entry)) kept)
+        (record { quantum = quantum; threshold = now (threshold .entry); output = now (output .entry) }) .line)
+        × ((now (aside .exit) ≡ serveOf (tablesOf (now (rows .entry)) (now (pos .entry)) (now (osp .entry)))
+        (lentAs (now (line .entry)) given (now (aside .entry)) kept)
+        (record { quantum = quantum; threshold = now (threshold .entry); output = now (output .entry) }) .aside)
+        × (now (output .exit) ≡ serveOf (tablesOf (now (rows .entry)) (now (pos .entry)) (now (osp .entry)))
+        (lentAs (now (line .entry)) given (now (aside .entry)) kept)
+        (record { quantum = quantum; threshold = now (threshold .entry); output = now (output .entry) }) .output))) ⌝ }
+{
+    service_numbers(queue_calls::serve(
+        rows,
+        pos,
+        osp,
+        line,
+        given,
+        aside,
+        kept,
+        quantum,
+        threshold,
+        output,
+    ))
+}
+
+// Brings the query of an owner that is set aside back to the end of the line, with so many steps, or refuses.
+#[no_mangle]
+pub extern "C" fn sotjarn_top_up(
+    line: &mut [Entry],
+    given: usize,
+    aside: &mut [Entry],
+    kept: usize,
+    owner: u32,
+    amount: u64,
+) -> QueuedNumbers
+    ensures { λ r. ⌜ (r ≡ queuedNumbers (topUpOf (lentAs (now (line .entry)) given (now (aside .entry)) kept) owner amount .answer))
+        × ((now (line .exit) ≡ topUpOf (lentAs (now (line .entry)) given (now (aside .entry)) kept) owner amount .line)
+        × (now (aside .exit) ≡ topUpOf (lentAs (now (line .entry)) given (now (aside .entry)) kept) owner amount .aside)) ⌝ }
+{
+    queued_numbers(queue_calls::top_up(line, given, aside, kept, owner, amount))
 }

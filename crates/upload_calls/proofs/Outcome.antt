@@ -13,7 +13,7 @@ use Rattle.words.proofs.Booleans.{and-left, and-right}
 use Rattle.tables.specs.declared.Order.the-variants.{Pos, Osp}
 use Rattle.tables.specs.Tables.{columnCount, mostRows}
 use Rattle.uploads.specs.declared.Made.the-variants.{Words, Refused}
-use Rattle.uploads.specs.Uploads.{uploadCount, keptCount, droppedCount, entryWords, madeOf, reportOf}
+use Rattle.uploads.specs.Uploads.{uploadCount, keptCount, droppedCount, entryWords, madeTables, reportOf}
 use Rattle.uploads.specs.Making.{MadeBuffers, buffersOf, MakeInput, MakeResult, uploadRight, roomRight, madeWith, makeOf}
 use Rattle.uploads.proofs.Lengths.{all-rows, made-length, numbers-made, report-length}
 use Rattle.uploads.proofs.Writes.{room-right}
@@ -40,7 +40,7 @@ module _ (i : MakeInput) where
   -- ---- 16, as the code tests it
   module _ (u : uploadRight (i .upload) ≡ true) (kept dropped : ℕ) (k : kept ≡ keptCount (i .upload)) (d : dropped ≡ droppedCount (i .upload)) where
     room-is : roomFor kept dropped (length (i .buffers .rows)) (length (i .buffers .pos)) (length (i .buffers .osp)) (length (i .buffers .report))
-        ≡ roomRight (madeOf (i .upload)) (reportOf (i .upload)) (i .buffers)
+        ≡ roomRight (madeTables (i .upload)) (reportOf (i .upload)) (i .buffers)
     unfolding roomFor
     room-is = rw (k, d) (sym (room-right i))
 
@@ -50,7 +50,7 @@ module _ (i : MakeInput) where
     no-room e = rw (u, sym room-is ∙ e)
 
     pub served : roomFor kept dropped (length (i .buffers .rows)) (length (i .buffers .pos)) (length (i .buffers .osp)) (length (i .buffers .report))
-        ≡ true → madeWith (madeOf (i .upload)) (reportOf (i .upload)) (i .buffers) ≡ makeOf i
+        ≡ true → madeWith (madeTables (i .upload)) (reportOf (i .upload)) (i .buffers) ≡ makeOf i
     unfolding makeOf firstFailing
     served e = rw (u, sym room-is ∙ e)
 
@@ -105,8 +105,8 @@ equal-results e f g h i j k l = rw (e, f, g, h, i, j, k, l)
 
 pub same-result : (i : MakeInput) (a b d : ℕ) (rows pos osp report : List ℕ)
     → a ≡ keptCount (i .upload) * columnCount → b ≡ keptCount (i .upload) → d ≡ length (reportOf (i .upload))
-    → rows ≡ over (madeOf (i .upload) .rows) (i .buffers .rows) → pos ≡ over (madeOf (i .upload) .pos) (i .buffers .pos)
-    → osp ≡ over (madeOf (i .upload) .osp) (i .buffers .osp) → report ≡ over (reportOf (i .upload)) (i .buffers .report)
-    → record { answer = Words a b b d; buffers = buffersOf rows pos osp report } ≡ madeWith (madeOf (i .upload)) (reportOf (i .upload)) (i .buffers)
+    → rows ≡ over (madeTables (i .upload) .rows) (i .buffers .rows) → pos ≡ over (madeTables (i .upload) .pos) (i .buffers .pos)
+    → osp ≡ over (madeTables (i .upload) .osp) (i .buffers .osp) → report ≡ over (reportOf (i .upload)) (i .buffers .report)
+    → record { answer = Words a b b d; buffers = buffersOf rows pos osp report } ≡ madeWith (madeTables (i .upload)) (reportOf (i .upload)) (i .buffers)
 same-result i a b d rows pos osp report e f g h j k l =
     equal-results (e ∙ sym (made-length (i .upload))) (f ∙ sym (numbers-made (i .upload) Pos)) (f ∙ sym (numbers-made (i .upload) Osp)) g h j k l

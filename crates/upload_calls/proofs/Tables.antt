@@ -22,7 +22,7 @@ use Rattle.uploads.specs.Uploads.{uploadCount, keptCode, kindsGood, fateOf, isK
 use Rattle.uploads.proofs.Fates.{kept-good}
 use Rattle.upload_fates.specs.Judging.{goodNumbers, rightNumbers, Judged}
 use Rattle.upload_fates.proofs.RightNumbers.{right-below}
-use Rattle.upload_calls.specs.Writing.{written, keptBy, keptWords, droppedWords}
+use Rattle.upload_calls.specs.Writing.{writtenFor, isKeptIn, keptWords, droppedWords}
 
 -- lists made by functions that agree
 map-agree : (f g : ℕ → List ℕ) (xs : List ℕ) → Each (λ x. f x ≡ g x) xs → map f xs ≡ map g xs
@@ -40,25 +40,25 @@ module _ (up : List ℕ) where
   below = numbers-below (uploadCount up) (uploadCount up) (omega arith)
 
   module _ (fates : List ℕ) (j : Judged up fates) where
-    same-kept : (row : ℕ) → ltb row (uploadCount up) ≡ true → keptBy fates row ≡ isKept up row
+    same-kept : (row : ℕ) → ltb row (uploadCount up) ≡ true → isKeptIn fates row ≡ isKept up row
     same-kept row h = ap (λ w. eqb w keptCode) (j .fate row (ltb-true row (uploadCount up) h))
 
     pub made-words : keptWords up fates (rightNumbers up) ≡ madeRows up
-    unfolding written madeRows
+    unfolding writtenFor madeRows
     made-words =
         ap (λ ns. flatten (map (fieldsOf Spo up) ns))
-        (keep-agree (keptBy fates) (isKept up) (rightNumbers up) (each-weaken same-kept (rightNumbers up) (right-below up)) ∙ kept-sorted)
+        (keep-agree (isKeptIn fates) (isKept up) (rightNumbers up) (each-weaken same-kept (rightNumbers up) (right-below up)) ∙ kept-sorted)
 
-    pub kept-counted : length (keep (keptBy fates) (numbers (uploadCount up))) ≡ keptCount up
+    pub kept-counted : length (keep (isKeptIn fates) (numbers (uploadCount up))) ≡ keptCount up
     kept-counted =
-        ap length (keep-agree (keptBy fates) (isKept up) (numbers (uploadCount up)) (each-weaken same-kept (numbers (uploadCount up)) below))
+        ap length (keep-agree (isKeptIn fates) (isKept up) (numbers (uploadCount up)) (each-weaken same-kept (numbers (uploadCount up)) below))
 
     pub report-words : droppedWords fates (uploadCount up) ≡ reportOf up
-    unfolding written reportOf
+    unfolding writtenFor reportOf
     report-words =
         let ns = numbers (uploadCount up) in
         ap (λ l. flatten (map (λ row. row ∷ getD fates row 0 ∷ []) l))
-        (keep-agree (λ row. not (keptBy fates row)) (isDropped up) ns (each-weaken (λ row h. ap not (same-kept row h)) ns below))
+        (keep-agree (λ row. not (isKeptIn fates row)) (isDropped up) ns (each-weaken (λ row h. ap not (same-kept row h)) ns below))
         ∙ ap flatten
         (map-agree (λ row. row ∷ getD fates row 0 ∷ []) (entryOf up) (keep (isDropped up) ns)
         (each-weaken (λ row h. ap (λ w. row ∷ w ∷ []) (j .fate row (ltb-true row (uploadCount up) h))) (keep (isDropped up) ns)

@@ -12,18 +12,18 @@ use Rattle.uploads.specs.Uploads.{uploadCount, keptCode, keptCount, entryWords}
 use Rattle.upload_fates.specs.Judging.{rightNumbers, Judged}
 
 -- the words that some numbers make, of those that pass a test
-unfoldable pub written : (ℕ → Bool) → (ℕ → List ℕ) → List ℕ → List ℕ
-written f g ns = flatten (map g (keep f ns))
+unfoldable pub writtenFor : (ℕ → Bool) → (ℕ → List ℕ) → List ℕ → List ℕ
+writtenFor f g ns = flatten (map g (keep f ns))
 
 -- a row is kept by its fate
-abbrev pub keptBy : List ℕ → ℕ → Bool
-keptBy fates row = eqb (getD fates row 0) keptCode
+abbrev pub isKeptIn : List ℕ → ℕ → Bool
+isKeptIn fates row = eqb (getD fates row 0) keptCode
 
 abbrev pub keptWords : List ℕ → List ℕ → List ℕ → List ℕ
-keptWords up fates list = written (keptBy fates) (fieldsOf Spo up) list
+keptWords up fates list = writtenFor (isKeptIn fates) (fieldsOf Spo up) list
 
 abbrev pub droppedWords : List ℕ → ℕ → List ℕ
-droppedWords fates count = written (λ row. not (keptBy fates row)) (λ row. row ∷ getD fates row 0 ∷ []) (numbers count)
+droppedWords fates count = writtenFor (λ row. not (isKeptIn fates row)) (λ row. row ∷ getD fates row 0 ∷ []) (numbers count)
 
 -- test 16, in counts of rows and lengths of buffers
 unfoldable pub roomFor : ℕ → ℕ → ℕ → ℕ → ℕ → ℕ → Bool
@@ -31,7 +31,7 @@ roomFor kept dropped rows pos osp report =
     leb (kept * columnCount) rows && (leb kept pos && (leb kept osp && leb (dropped * entryWords) report))
 
 -- the rows of an upload are judged, and those of right kinds listed in the rows' own order; so many are kept
-pub record Ready (up list fates : List ℕ) (kept : ℕ) : Type 0 where
+pub record ReadyToWrite (up list fates : List ℕ) (kept : ℕ) : Type 0 where
   pub few : uploadCount up ≤ mostRows
   pub listed : list ≡ rightNumbers up
   pub long : uploadCount up ≤ length fates

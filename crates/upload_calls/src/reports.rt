@@ -7,12 +7,12 @@ ghost use Prim.Native.Nat.{_≤_};
 ghost use lib.ListN.{length};
 ghost use Rattle.words.specs.Sequences.{keep, numbers, over};
 ghost use Rattle.tables.specs.Tables.{mostRows};
-ghost use Rattle.upload_calls.specs.Writing.{keptBy, droppedWords};
+ghost use Rattle.upload_calls.specs.Writing.{isKeptIn, droppedWords};
 
 // How many rows are kept.
 pub fn count_kept(fates: &[u8], count: usize) -> usize
     requires { ⌜ (count ≤ length (now fates)) × (count ≤ mostRows) ⌝ }
-    ensures { λ r. ⌜ r ≡ length (keep (keptBy (now (fates .entry))) (numbers count)) ⌝ }
+    ensures { λ r. ⌜ r ≡ length (keep (isKeptIn (now (fates .entry))) (numbers count)) ⌝ }
 {
     let mut kept: usize = 0;
     let mut row: usize = 0;

@@ -13,8 +13,8 @@ ghost use lib.ListN.{length};
 ghost use Rattle.words.specs.Sequences.{all, over};
 ghost use Rattle.tables.specs.Tables.{columnCount, mostRows};
 ghost use Rattle.tables.specs.RowLists.{inRows};
-ghost use Rattle.uploads.specs.Uploads.{uploadCount, madeOf};
-ghost use Rattle.upload_calls.specs.Writing.{keptWords, Ready};
+ghost use Rattle.uploads.specs.Uploads.{uploadCount, madeTables};
+ghost use Rattle.upload_calls.specs.Writing.{keptWords, ReadyToWrite};
 
 // Writes the rows of a list that are kept.
 fn write_rows(upload: &[u32], list: &[u32], fates: &[u8], rows: &mut [u32]) -> usize
@@ -52,13 +52,13 @@ pub fn write_tables(
     osp: &mut [u32],
     spare: &mut [u32],
 ) -> usize
-    requires { ⌜ Ready (now upload) (now list) (now fates) kept ⌝ }
+    requires { ⌜ ReadyToWrite (now upload) (now list) (now fates) kept ⌝ }
     requires { ⌜ (kept * columnCount ≤ length (now rows)) × (kept ≤ length (now pos)) × (kept ≤ length (now osp)) ⌝ }
     requires { ⌜ mostRows ≤ length (now spare) + length (now spare) ⌝ }
     ensures { λ r. ⌜ r ≡ kept * columnCount ⌝ }
-    ensures { λ _. ⌜ now (rows .exit) ≡ over (madeOf (now (upload .entry)) .rows) (now (rows .entry)) ⌝ }
-    ensures { λ _. ⌜ now (pos .exit) ≡ over (madeOf (now (upload .entry)) .pos) (now (pos .entry)) ⌝ }
-    ensures { λ _. ⌜ now (osp .exit) ≡ over (madeOf (now (upload .entry)) .osp) (now (osp .entry)) ⌝ }
+    ensures { λ _. ⌜ now (rows .exit) ≡ over (madeTables (now (upload .entry)) .rows) (now (rows .entry)) ⌝ }
+    ensures { λ _. ⌜ now (pos .exit) ≡ over (madeTables (now (upload .entry)) .pos) (now (pos .entry)) ⌝ }
+    ensures { λ _. ⌜ now (osp .exit) ≡ over (madeTables (now (upload .entry)) .osp) (now (osp .entry)) ⌝ }
 {
     let end = write_rows(upload, list, fates, rows);
     write_list(&rows[..end], Order::Pos, &mut pos[..kept], spare);

@@ -12,7 +12,7 @@ use Rattle.words.proofs.Somewhere.{each-at, some-at, at-some}
 use Rattle.tables.specs.declared.Order.the-variants.{Spo}
 use Rattle.tables.specs.Tables.{columnCount, fieldsOf}
 use Rattle.tables.proofs.Columns.{fields-length}
-use Rattle.uploads.specs.Uploads.{uploadCount, keptCode, wrongCode, repeatCode, kindsGood, sameRow, repeated, fateOf}
+use Rattle.uploads.specs.Uploads.{uploadCount, keptCode, wrongCode, repeatCode, kindsGood, sameRow, isRepeat, fateOf}
 use Rattle.uploads.proofs.SameRows.{same-fields, fields-same, same-good}
 use Rattle.upload_fates.specs.Judging.{rightNumbers, marked}
 use Rattle.upload_fates.proofs.Repeats.{unmarked, marked-at}
@@ -28,11 +28,11 @@ module _ (up : List ℕ) where
     pub marked-fates : (i : ℕ) → i < uploadCount up
         → getD (marked up (rightNumbers up) fates (length (rightNumbers up))) i 0 ≡ fateOf up i
     unfolding fateOf
-    marked-fates i h = go (decided (kindsGood up i)) (decided (repeated up i))
+    marked-fates i h = go (decided (kindsGood up i)) (decided (isRepeat up i))
       where
-        go : Decided (kindsGood up i) → Decided (repeated up i)
+        go : Decided (kindsGood up i) → Decided (isRepeat up i)
             → getD (marked up (rightNumbers up) fates (length (rightNumbers up))) i 0
-            ≡ cond (kindsGood up i) (cond (repeated up i) repeatCode keptCode) wrongCode
+            ≡ cond (kindsGood up i) (cond (isRepeat up i) repeatCode keptCode) wrongCode
         go (no g) r =
             unmarked up (rightNumbers up) fates i (length (rightNumbers up))
             (λ q a b w e. absurd-true

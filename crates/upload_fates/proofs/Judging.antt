@@ -12,12 +12,12 @@ use Rattle.words.proofs.SortingParts.{length-sort, all-sort}
 use Rattle.tables.specs.declared.Order.the-variants.{Spo}
 use Rattle.tables.specs.RowLists.{inRows, numberBefore}
 use Rattle.uploads.specs.Uploads.{uploadCount}
-use Rattle.upload_fates.specs.Judging.{Listed, goodNumbers, rightNumbers, Marked, Judged, marked}
+use Rattle.upload_fates.specs.Judging.{NumbersListed, goodNumbers, rightNumbers, Marked, Judged, marked}
 use Rattle.upload_fates.proofs.RightNumbers.{good-named}
 use Rattle.upload_fates.proofs.Judged.{marked-fates}
 
 module _ (up : List ℕ) where
-  module _ (list : List ℕ) (r : ℕ) (l : Listed r list (goodNumbers up (uploadCount up))) where
+  module _ (list : List ℕ) (r : ℕ) (l : NumbersListed r list (goodNumbers up (uploadCount up))) where
     pub front-named : all (inRows up) (take r list) ≡ true
     front-named = rw (l .front) (good-named up)
 
@@ -35,7 +35,7 @@ module _ (up : List ℕ) where
       front-is : take r (s ++ drop r list) ≡ rightNumbers up
       front-is = take-at s (drop r list) r sorted-length ∙ sorted-is-right
 
-      pub listed : Listed r (s ++ drop r list) (rightNumbers up)
+      pub listed : NumbersListed r (s ++ drop r list) (rightNumbers up)
       listed = record { fits = omega (arith, whole-length, l .fits); front = front-is }
 
       pub front-length : r ≡ length (take r (s ++ drop r list))

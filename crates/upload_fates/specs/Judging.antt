@@ -18,7 +18,7 @@ pub record Fits (up : List ℕ) (list fates : ℕ) : Type 0 where
   pub judged : uploadCount up ≤ fates
 
 -- some numbers are the first so many of a list
-pub record Listed (count : ℕ) (list numbers : List ℕ) : Type 0 where
+pub record NumbersListed (count : ℕ) (list numbers : List ℕ) : Type 0 where
   pub fits : count ≤ length list
   pub front : take count list ≡ numbers
 

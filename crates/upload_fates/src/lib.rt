@@ -15,12 +15,12 @@ ghost use lib.ListN.{length, take};
 ghost use Rattle.words.specs.Sequences.{all};
 ghost use Rattle.tables.specs.RowLists.{inRows};
 ghost use Rattle.uploads.specs.Uploads.{uploadCount};
-ghost use Rattle.upload_fates.specs.Judging.{Fits, goodNumbers, Listed, Marked, marked, rightNumbers, Judged};
+ghost use Rattle.upload_fates.specs.Judging.{Fits, goodNumbers, NumbersListed, Marked, marked, rightNumbers, Judged};
 
 // Marks each row as kept or of a wrong kind, and lists the numbers of those of right kinds.
 fn mark_kinds(upload: &[u32], list: &mut [u32], fates: &mut [u8]) -> usize
     requires { ⌜ Fits (now upload) (length (now list)) (length (now fates)) ⌝ }
-    ensures listed { λ r. ⌜ Listed r (now (list .exit)) (goodNumbers (now (upload .entry)) (uploadCount (now (upload .entry)))) ⌝ }
+    ensures listed { λ r. ⌜ NumbersListed r (now (list .exit)) (goodNumbers (now (upload .entry)) (uploadCount (now (upload .entry)))) ⌝ }
     ensures judged { λ _. ⌜ Marked (now (upload .entry)) (now (fates .exit)) (uploadCount (now (upload .entry))) ⌝ }
 {
     let count = upload.len() / COLUMNS;
@@ -67,7 +67,7 @@ fn mark_repeats(upload: &[u32], list: &[u32], fates: &mut [u8])
 pub fn judge(upload: &[u32], list: &mut [u32], spare: &mut [u32], fates: &mut [u8]) -> usize
     requires { ⌜ Fits (now upload) (length (now list)) (length (now fates)) ⌝ }
     requires { ⌜ length (now list) ≤ length (now spare) + length (now spare) ⌝ }
-    ensures listed { λ r. ⌜ Listed r (now (list .exit)) (rightNumbers (now (upload .entry))) ⌝ }
+    ensures listed { λ r. ⌜ NumbersListed r (now (list .exit)) (rightNumbers (now (upload .entry))) ⌝ }
     ensures judged { λ _. ⌜ Judged (now (upload .entry)) (now (fates .exit)) ⌝ }
 {
     let right = mark_kinds(upload, list, fates);

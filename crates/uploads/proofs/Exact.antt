@@ -13,14 +13,14 @@ use Rattle.tables.specs.declared.Order.the-variants.{Spo}
 use Rattle.tables.specs.Tables.{mostRows, rowCount, fieldsOf}
 use Rattle.tables.specs.RowLists.{numberBefore}
 use Rattle.tables.proofs.MadeTables.{one-number}
-use Rattle.uploads.specs.Uploads.{uploadCount, kindsGood, isKept, madeRows, madeOf}
+use Rattle.uploads.specs.Uploads.{uploadCount, kindsGood, isKept, madeRows, madeTables}
 use Rattle.uploads.specs.Exactness.{KeptRow, RowIn, Exactly}
 use Rattle.uploads.proofs.Fates.{first-kept}
 use Rattle.uploads.proofs.Kept.{sorted, sorted-kept, sorted-below, sorted-length, kept-right, made-fields}
 use Rattle.uploads.proofs.Lengths.{made-count}
 
 module _ (up : List ℕ) where
-  made-from : (row : ℕ) → row < rowCount (madeOf up) → KeptRow up (fieldsOf Spo (madeRows up) row)
+  made-from : (row : ℕ) → row < rowCount (madeTables up) → KeptRow up (fieldsOf Spo (madeRows up) row)
   made-from row h =
       let l : row < length (sorted up) = omega (arith, made-count up, sorted-length up) in
       record {
@@ -30,7 +30,7 @@ module _ (up : List ℕ) where
         is = sym (made-fields up row (omega (arith, made-count up)));
       }
 
-  made-holds : (row : ℕ) → row < uploadCount up → kindsGood up row ≡ true → RowIn (madeOf up) (fieldsOf Spo up row)
+  made-holds : (row : ℕ) → row < uploadCount up → kindsGood up row ≡ true → RowIn (madeTables up) (fieldsOf Spo up row)
   made-holds row h g =
       let f = first-kept up row g in
       let e = f .early in
@@ -42,5 +42,5 @@ module _ (up : List ℕ) where
         is = made-fields up (p .place) (omega (arith, sorted-length up)) ∙ ap (fieldsOf Spo up) (p .is) ∙ f .is;
       }
 
-  pub made-exactly : uploadCount up ≤ mostRows → Exactly up (madeOf up)
+  pub made-exactly : uploadCount up ≤ mostRows → Exactly up (madeTables up)
   made-exactly few = record { from = made-from; holds = made-holds; once = one-number (madeRows up) (kept-right up few) Spo }

@@ -11,7 +11,7 @@ use Rattle.words.proofs.Booleans.{absurd-true, Decided, yes, no, decided}
 use Rattle.words.proofs.Somewhere.{some-at, at-some}
 use Rattle.tables.specs.declared.Order.the-variants.{Spo}
 use Rattle.tables.specs.Tables.{fieldsOf}
-use Rattle.uploads.specs.Uploads.{keptCode, wrongCode, repeatCode, kindsGood, sameRow, repeated, fateOf, isKept, isDropped}
+use Rattle.uploads.specs.Uploads.{keptCode, wrongCode, repeatCode, kindsGood, sameRow, isRepeat, fateOf, isKept, isDropped}
 use Rattle.uploads.specs.Exactness.{Earlier}
 use Rattle.uploads.proofs.SameRows.{same-fields, fields-same, same-good}
 
@@ -43,13 +43,13 @@ module _ (up : List ℕ) (i : ℕ) where
   -- kept: of right kinds, and new
   pub kept-good : isKept up i ≡ true → kindsGood up i ≡ true
   unfolding fateOf
-  kept-good e = by-kept (kindsGood up i) (repeated up i) e .0
+  kept-good e = by-kept (kindsGood up i) (isRepeat up i) e .0
 
-  pub kept-new : isKept up i ≡ true → repeated up i ≡ false
+  pub kept-new : isKept up i ≡ true → isRepeat up i ≡ false
   unfolding fateOf
-  kept-new e = by-kept (kindsGood up i) (repeated up i) e .1
+  kept-new e = by-kept (kindsGood up i) (isRepeat up i) e .1
 
-  new-kept : kindsGood up i ≡ true → repeated up i ≡ false → isKept up i ≡ true
+  new-kept : kindsGood up i ≡ true → isRepeat up i ≡ false → isKept up i ≡ true
   unfolding fateOf
   new-kept g r = rw (g, r)
 
@@ -60,28 +60,28 @@ module _ (up : List ℕ) (i : ℕ) where
 
   pub fate-wrong : fateOf up i ≡ wrongCode → kindsGood up i ≡ false
   unfolding fateOf
-  fate-wrong e = by-wrong (kindsGood up i) (repeated up i) e
+  fate-wrong e = by-wrong (kindsGood up i) (isRepeat up i) e
 
-  pub repeat-fate : kindsGood up i ≡ true → repeated up i ≡ true → fateOf up i ≡ repeatCode
+  pub repeat-fate : kindsGood up i ≡ true → isRepeat up i ≡ true → fateOf up i ≡ repeatCode
   unfolding fateOf
   repeat-fate g r = rw (g, r)
 
-  pub fate-repeat : fateOf up i ≡ repeatCode → (kindsGood up i ≡ true) × (repeated up i ≡ true)
+  pub fate-repeat : fateOf up i ≡ repeatCode → (kindsGood up i ≡ true) × (isRepeat up i ≡ true)
   unfolding fateOf
-  fate-repeat e = by-repeat (kindsGood up i) (repeated up i) e
+  fate-repeat e = by-repeat (kindsGood up i) (isRepeat up i) e
 
   pub dropped-code : isDropped up i ≡ true → (fateOf up i ≡ wrongCode) ⊎ (fateOf up i ≡ repeatCode)
   unfolding fateOf
-  dropped-code e = by-dropped (kindsGood up i) (repeated up i) e
+  dropped-code e = by-dropped (kindsGood up i) (isRepeat up i) e
 
   -- an earlier row that is the same
-  pub earlier : kindsGood up i ≡ true → repeated up i ≡ true → Earlier up i
+  pub earlier : kindsGood up i ≡ true → isRepeat up i ≡ true → Earlier up i
   earlier g r =
       let j = some-at (λ k. sameRow up k i) i r in
       let e = same-fields up (j .which) i (j .passes) in
       record { first = j .which; before = j .below; right = same-good up (j .which) i e g; is = e }
 
-  pub earlier-repeats : Earlier up i → repeated up i ≡ true
+  pub earlier-repeats : Earlier up i → isRepeat up i ≡ true
   earlier-repeats e = at-some (λ k. sameRow up k i) i (e .first) (e .before) (fields-same up (e .first) i (e .is))
 
 -- ---- the first row with the fields of a row of right kinds is kept
@@ -94,9 +94,9 @@ pub record First (up : List ℕ) (i : ℕ) : Type 0 where
 module _ (up : List ℕ) where
   first-below : (n i : ℕ) → i < n → kindsGood up i ≡ true → First up i
   first-below zero i h g = absurd (omega arith)
-  first-below (suc n) i h g = go (decided (repeated up i)) (first-below n)
+  first-below (suc n) i h g = go (decided (isRepeat up i)) (first-below n)
     where
-      go : Decided (repeated up i) → ((j : ℕ) → j < n → kindsGood up j ≡ true → First up j) → First up i
+      go : Decided (isRepeat up i) → ((j : ℕ) → j < n → kindsGood up j ≡ true → First up j) → First up i
       go (no r) ih = record { row = i; early = omega arith; passes = new-kept up i g r; is = refl }
       go (yes r) ih =
           let e = earlier up i g r in

@@ -8,7 +8,7 @@ use Rattle.words.specs.Tests.{firstFailing}
 use Rattle.words.proofs.Buffers.{take-over}
 use Rattle.tables.specs.Tables.{Tables, tablesOf, mostRows, tableTests}
 use Rattle.tables.proofs.MadeTables.{made-accepted}
-use Rattle.uploads.specs.Uploads.{uploadCount, madeRows, madeOf, reportOf}
+use Rattle.uploads.specs.Uploads.{uploadCount, madeRows, madeTables, reportOf}
 use Rattle.uploads.specs.Making.{MakeInput, MadeBuffers, MakeResult, madeWith, makeOf}
 use Rattle.uploads.specs.Refusals.{Makes}
 use Rattle.uploads.specs.Exactness.{tablesIn, reportIn, Exactly, Reported, MadeRight}
@@ -19,7 +19,7 @@ use Rattle.uploads.proofs.Refusals.{made-so}
 use Rattle.uploads.proofs.Writes.{make-suffices}
 
 -- the made tables themselves
-pub made-passes : (up : List ℕ) → uploadCount up ≤ mostRows → firstFailing (tableTests (madeOf up)) ≡ none
+pub made-passes : (up : List ℕ) → uploadCount up ≤ mostRows → firstFailing (tableTests (madeTables up)) ≡ none
 made-passes up few = made-accepted (madeRows up) (kept-right up few)
 
 -- what is read back from the buffers
@@ -27,8 +27,8 @@ read-tables : (t : Tables) (report : List ℕ) (b : MadeBuffers) → tablesIn (m
 read-tables t report b = rw (take-over (t .rows) (b .rows), take-over (t .pos) (b .pos), take-over (t .osp) (b .osp))
 
 module _ (i : MakeInput) (m : Makes i) where
-  pub tables-left : tablesIn (makeOf i) ≡ madeOf (i .upload)
-  tables-left = ap tablesIn (made-so i m) ∙ read-tables (madeOf (i .upload)) (reportOf (i .upload)) (i .buffers)
+  pub tables-left : tablesIn (makeOf i) ≡ madeTables (i .upload)
+  tables-left = ap tablesIn (made-so i m) ∙ read-tables (madeTables (i .upload)) (reportOf (i .upload)) (i .buffers)
 
   pub report-left : reportIn (makeOf i) ≡ reportOf (i .upload)
   report-left = ap reportIn (made-so i m) ∙ take-over (reportOf (i .upload)) (i .buffers .report)

@@ -16,7 +16,7 @@ use Rattle.words.proofs.Somewhere.{each-at, map-at}
 use Rattle.words.proofs.SortedStrictly.{ascending-keep, ascending-pairs}
 use Rattle.uploads.specs.Uploads.{uploadCount, keptCode, wrongCode, repeatCode, kindsGood, fateOf, isKept, isDropped, droppedNumbers, droppedCount}
 use Rattle.uploads.specs.Uploads.{entryWords, entryOf, reportOf}
-use Rattle.uploads.specs.Exactness.{entryCount, placeAt, codeAt, Names, Earlier, Reported}
+use Rattle.uploads.specs.Exactness.{entryCount, entryPlaceAt, codeAt, Names, Earlier, Reported}
 use Rattle.uploads.proofs.Fates.{wrong-fate, fate-wrong, repeat-fate, fate-repeat, dropped-code, earlier, earlier-repeats}
 use Rattle.uploads.proofs.Lengths.{report-wide, report-length}
 
@@ -37,7 +37,7 @@ module _ (up : List ℕ) where
       length-entries : length (map (entryOf up) rows) ≡ droppedCount up
       length-entries = length-map rows (entryOf up)
 
-  place-is : (e : ℕ) → e < droppedCount up → placeAt (reportOf up) e ≡ getD rows e 0
+  place-is : (e : ℕ) → e < droppedCount up → entryPlaceAt (reportOf up) e ≡ getD rows e 0
   place-is e h =
       let z : e * entryWords ≡ e * entryWords + 0 = omega arith in
       ap (λ n. getD (reportOf up) n 0) z ∙ entry-at e 0 h (omega arith)

@@ -15,7 +15,7 @@ use Rattle.words.proofs.Buffers.{overwritten}
 use Rattle.words.proofs.Testing.{testNumbered, test-passed}
 use Rattle.tables.specs.declared.Order.the-variants.{Pos, Osp}
 use Rattle.tables.specs.Tables.{columnCount, mostRows}
-use Rattle.uploads.specs.Uploads.{uploadCount, keptCount, droppedCount, entryWords, madeRows, madeOf, reportOf}
+use Rattle.uploads.specs.Uploads.{uploadCount, keptCount, droppedCount, entryWords, madeRows, madeTables, reportOf}
 use Rattle.uploads.specs.Making.{MadeBuffers, MakeInput, MakeResult, uploadRight, roomRight, makeTests, madeWith, makeOf, MadeWords, madeWords}
 use Rattle.uploads.specs.Refusals.{Makes, Suffices, MakeWrites}
 use Rattle.uploads.proofs.Lengths.{made-length, numbers-made, report-length}
@@ -40,7 +40,7 @@ module _ (i : MakeInput) where
   abbrev up : List ℕ
   up = i .upload
 
-  pub room-right : roomRight (madeOf up) (reportOf up) (i .buffers)
+  pub room-right : roomRight (madeTables up) (reportOf up) (i .buffers)
       ≡ (leb (keptCount up * columnCount) (length (i .buffers .rows))
       && (leb (keptCount up) (length (i .buffers .pos))
       && (leb (keptCount up) (length (i .buffers .osp)) && leb (droppedCount up * entryWords) (length (i .buffers .report)))))
@@ -63,7 +63,7 @@ module _ (i : MakeInput) where
         report = leb-true _ _ (and-right (leb (keptCount up) (length (i .buffers .osp))) _ d);
       }
 
-  room-enough : Suffices i → roomRight (madeOf up) (reportOf up) (i .buffers) ≡ true
+  room-enough : Suffices i → roomRight (madeTables up) (reportOf up) (i .buffers) ≡ true
   room-enough s =
       room-right
       ∙ rw (
@@ -87,9 +87,9 @@ module _ (i : MakeInput) where
       record {
         rows = subst⁻¹ (λ (r : MakeResult). Overwritten (madeRows up) (i .buffers .rows) (r .buffers .rows) (keptCount up * columnCount)) e
             (counted _ _ _ (made-length up));
-        pos = subst⁻¹ (λ (r : MakeResult). Overwritten (madeOf up .pos) (i .buffers .pos) (r .buffers .pos) (keptCount up)) e
+        pos = subst⁻¹ (λ (r : MakeResult). Overwritten (madeTables up .pos) (i .buffers .pos) (r .buffers .pos) (keptCount up)) e
             (counted _ _ _ (numbers-made up Pos));
-        osp = subst⁻¹ (λ (r : MakeResult). Overwritten (madeOf up .osp) (i .buffers .osp) (r .buffers .osp) (keptCount up)) e
+        osp = subst⁻¹ (λ (r : MakeResult). Overwritten (madeTables up .osp) (i .buffers .osp) (r .buffers .osp) (keptCount up)) e
             (counted _ _ _ (numbers-made up Osp));
         report = subst⁻¹ (λ (r : MakeResult). Overwritten (reportOf up) (i .buffers .report) (r .buffers .report) (droppedCount up * entryWords)) e
             (counted _ _ _ (report-length up));

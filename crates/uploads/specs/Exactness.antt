@@ -48,8 +48,8 @@ pub record Exactly (up : List ℕ) (t : Tables) : Type 0 where
 abbrev pub entryCount : List ℕ → ℕ
 entryCount report = length report / entryWords
 
-abbrev pub placeAt : List ℕ → ℕ → ℕ
-placeAt report e = getD report (e * entryWords) 0
+abbrev pub entryPlaceAt : List ℕ → ℕ → ℕ
+entryPlaceAt report e = getD report (e * entryWords) 0
 
 abbrev pub codeAt : List ℕ → ℕ → ℕ
 codeAt report e = getD report (e * entryWords + 1) 0
@@ -58,7 +58,7 @@ codeAt report e = getD report (e * entryWords + 1) 0
 pub record Names (report : List ℕ) (row code : ℕ) : Type 0 where
   pub entry : ℕ
   pub there : entry < entryCount report
-  pub place : placeAt report entry ≡ row
+  pub place : entryPlaceAt report entry ≡ row
   pub is : codeAt report entry ≡ code
 
 -- an earlier row of right kinds has the same fields
@@ -71,8 +71,8 @@ pub record Earlier (up : List ℕ) (row : ℕ) : Type 0 where
 pub record Reported (up report : List ℕ) : Type 0 where
   -- whole entries, whose places ascend and are the upload's
   pub whole : length report % entryWords ≡ 0
-  pub ascends : (e : ℕ) → suc e < entryCount report → placeAt report e < placeAt report (suc e)
-  pub there : (e : ℕ) → e < entryCount report → placeAt report e < uploadCount up
+  pub ascends : (e : ℕ) → suc e < entryCount report → entryPlaceAt report e < entryPlaceAt report (suc e)
+  pub there : (e : ℕ) → e < entryCount report → entryPlaceAt report e < uploadCount up
   pub codes : (e : ℕ) → e < entryCount report → (codeAt report e ≡ wrongCode) ⊎ (codeAt report e ≡ repeatCode)
   -- a row is named with 1 exactly where its kinds are wrong, and with 2 exactly where they are right and an earlier row is the same
   pub wrong : (row : ℕ) → row < uploadCount up → Names report row wrongCode ↔ (kindsGood up row ≡ false)

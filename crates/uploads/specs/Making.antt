@@ -10,7 +10,7 @@ use Rattle.words.specs.Tests.{Test, firstFailing}
 use Rattle.tables.specs.Tables.{Tables, columnCount, mostRows}
 use Rattle.uploads.specs.declared.Made.{Made}
 use Rattle.uploads.specs.declared.Made.the-variants.{Words, Refused}
-use Rattle.uploads.specs.Uploads.{uploadCount, madeOf, reportOf}
+use Rattle.uploads.specs.Uploads.{uploadCount, madeTables, reportOf}
 
 -- the buffers that a call writes to
 pub record MadeBuffers : Type 0 where
@@ -44,7 +44,7 @@ roomRight t report b =
 abbrev pub makeTests : MakeInput → List Test
 makeTests i =
     (15, uploadRight (i .upload))
-    ∷ (16, roomRight (madeOf (i .upload)) (reportOf (i .upload)) (i .buffers))
+    ∷ (16, roomRight (madeTables (i .upload)) (reportOf (i .upload)) (i .buffers))
     ∷ []
 
 -- ---- what a call answers, and what it leaves
@@ -62,7 +62,7 @@ madeWith t report b =
 -- a refusal changes nothing
 abbrev pub madeAs : MakeInput → Option ℕ → MakeResult
 madeAs i (some n) = record { answer = Refused n; buffers = i .buffers }
-madeAs i none = madeWith (madeOf (i .upload)) (reportOf (i .upload)) (i .buffers)
+madeAs i none = madeWith (madeTables (i .upload)) (reportOf (i .upload)) (i .buffers)
 
 unfoldable pub makeOf : MakeInput → MakeResult
 makeOf i = madeAs i (firstFailing (makeTests i))

@@ -11,7 +11,7 @@ use Rattle.words.specs.Tests.{Test, firstFailing, numberOf, AllPass, FirstFails
 use Rattle.tables.specs.Tables.{Tables, columnCount, mostRows}
 use Rattle.uploads.specs.declared.Made.{Made}
 use Rattle.uploads.specs.declared.Made.the-variants.{Refused}
-use Rattle.uploads.specs.Uploads.{uploadCount, keptCount, droppedCount, entryWords, madeOf, reportOf}
+use Rattle.uploads.specs.Uploads.{uploadCount, keptCount, droppedCount, entryWords, madeTables, reportOf}
 use Rattle.uploads.specs.Making.{MakeInput, makeTests, makeOf, madeRefusal, MadeWords, noWords, madeWords}
 
 -- the words of some tables and a report; of the words that a call writes where all its tests pass, those that it writes
@@ -28,7 +28,7 @@ pub record MakeAnswers (i : MakeInput) (a : Made) : Type 0 where
   -- the number of the first test that fails, 0 where all pass
   pub number : madeRefusal a ≡ numberOf (firstFailing (makeTests i))
   -- the words of the tables and of the report where all pass, else none
-  pub words : madeWords a ≡ wordsBy (firstFailing (makeTests i)) (wordsOf (madeOf (i .upload)) (reportOf (i .upload)))
+  pub words : madeWords a ≡ wordsBy (firstFailing (makeTests i)) (wordsOf (madeTables (i .upload)) (reportOf (i .upload)))
 
 -- a refused call leaves the buffers as they were, and has written no words
 pub record NotMade (i : MakeInput) : Type 0 where
@@ -63,9 +63,9 @@ pub record Suffices (i : MakeInput) : Type 0 where
 
 -- a served call writes the tables and the report over the first words of the buffers, and counts them
 pub record MakeWrites (i : MakeInput) : Type 0 where
-  pub rows : Overwritten (madeOf (i .upload) .rows) (i .buffers .rows) (makeOf i .buffers .rows) (keptCount (i .upload) * columnCount)
-  pub pos : Overwritten (madeOf (i .upload) .pos) (i .buffers .pos) (makeOf i .buffers .pos) (keptCount (i .upload))
-  pub osp : Overwritten (madeOf (i .upload) .osp) (i .buffers .osp) (makeOf i .buffers .osp) (keptCount (i .upload))
+  pub rows : Overwritten (madeTables (i .upload) .rows) (i .buffers .rows) (makeOf i .buffers .rows) (keptCount (i .upload) * columnCount)
+  pub pos : Overwritten (madeTables (i .upload) .pos) (i .buffers .pos) (makeOf i .buffers .pos) (keptCount (i .upload))
+  pub osp : Overwritten (madeTables (i .upload) .osp) (i .buffers .osp) (makeOf i .buffers .osp) (keptCount (i .upload))
   pub report : Overwritten (reportOf (i .upload)) (i .buffers .report) (makeOf i .buffers .report) (droppedCount (i .upload) * entryWords)
   pub words : madeWords (makeOf i .answer)
       ≡ record {

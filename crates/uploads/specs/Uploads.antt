@@ -33,12 +33,12 @@ unfoldable pub sameRow : List ℕ → ℕ → ℕ → Bool
 sameRow up j i = allBelow (λ column. eqb (fieldOf up j column) (fieldOf up i column)) columnCount
 
 -- an earlier row is the same
-abbrev pub repeated : List ℕ → ℕ → Bool
-repeated up row = someBelow (λ j. sameRow up j row) row
+abbrev pub isRepeat : List ℕ → ℕ → Bool
+isRepeat up row = someBelow (λ j. sameRow up j row) row
 
 -- its kinds are looked at first
 unfoldable pub fateOf : List ℕ → ℕ → ℕ
-fateOf up row = cond (kindsGood up row) (cond (repeated up row) repeatCode keptCode) wrongCode
+fateOf up row = cond (kindsGood up row) (cond (isRepeat up row) repeatCode keptCode) wrongCode
 
 abbrev pub isKept : List ℕ → ℕ → Bool
 isKept up row = eqb (fateOf up row) keptCode
@@ -63,8 +63,8 @@ droppedCount up = length (droppedNumbers up)
 unfoldable pub madeRows : List ℕ → List ℕ
 madeRows up = flatten (map (fieldsOf Spo up) (sortBy (numberBefore Spo up) (keptNumbers up)))
 
-abbrev pub madeOf : List ℕ → Tables
-madeOf up = tablesFrom (madeRows up)
+abbrev pub madeTables : List ℕ → Tables
+madeTables up = tablesFrom (madeRows up)
 
 -- two words for each dropped row, in upload order: its place from 0, and its code
 abbrev pub entryWords : ℕ

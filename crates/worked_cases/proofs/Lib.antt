@@ -9,3 +9,4 @@ pub mod ClosingsHold
 pub mod SizesHold
 pub mod StepsHold
 pub mod UploadsHold
+pub mod OwnersHold

@@ -14,3 +14,4 @@ pub mod Faults
 pub mod Closings
 pub mod Sizes
 pub mod Uploads
+pub mod Owners

@@ -5,14 +5,15 @@ use std::ops::Range;
 use std::process::exit;
 
 use crate::evaluation::calls::{Merge, Open, Query, Turn};
+use crate::evaluation::queues::{Join, Serve, TopUp, MOST};
 use crate::evaluation::tables::Tables;
 use crate::evaluation::uploads::Make;
 use crate::evaluation::words::*;
 use crate::histories::{self, Calls};
 use crate::inputs::random::Random;
-use crate::inputs::{calls, damage, plans, uploads, woods};
-use crate::lending::{self, Made};
-use crate::libraries::{self, Library, Turned, Written};
+use crate::inputs::{calls, damage, plans, queues, uploads, woods};
+use crate::lending;
+use crate::libraries::{self, Library, Queued, Service, Turned, Written};
 
 /// Both libraries, and how often each answer came.
 struct Both {
@@ -33,7 +34,7 @@ fn named(refused: u32, served: &str) -> String {
 
 impl Both {
     /// The same call of both; a difference ends the program.
-    fn made<C: std::fmt::Debug, T: PartialEq + std::fmt::Debug>(&mut self, call: &C, make: fn(&Library, &C) -> Made<T>) -> Made<T> {
+    fn made<C: std::fmt::Debug, M: PartialEq + std::fmt::Debug>(&mut self, call: &C, make: fn(&Library, &C) -> M) -> M {
         let (right, other) = (make(&self.proved, call), make(&self.portable, call));
         if right != other {
             println!(
@@ -77,6 +78,25 @@ impl Calls for Both {
         let made = self.made(call, lending::make);
         self.note(named(made.answer.refused, "made"));
         made.answer
+    }
+
+    fn join(&mut self, call: &Join) -> Queued {
+        let answer = self.made(call, lending::join).made.answer;
+        self.note(named(answer.refused, "joined"));
+        answer
+    }
+
+    fn serve(&mut self, call: &Serve) -> Service {
+        let answer = self.made(call, lending::serve).made.answer;
+        let served = ["served, done", "served, spent", "served, full", ""][answer.ending as usize];
+        self.note(named(answer.refused, served));
+        answer
+    }
+
+    fn top_up(&mut self, call: &TopUp) -> Queued {
+        let answer = self.made(call, lending::top_up).made.answer;
+        self.note(named(answer.refused, "topped up"));
+        answer
     }
 }
 
@@ -162,6 +182,26 @@ pub fn uploaded(to: &mut impl Calls, random: &mut Random, most: usize) {
     to.make(&uploads::made_up(random));
 }
 
+/// Calls of queues of at most so many entries, with up to three things changed in each; some of them are still right.
+pub fn queued(to: &mut impl Calls, random: &mut Random, most: usize) {
+    let queries = queues::queries(random, 3);
+    let mut call = queues::join(random, &queries, most);
+    (0..random.below(4)).for_each(|_| queues::join_damage(random, &queries, &mut call));
+    to.join(&call);
+    for _ in 0..3 {
+        let lists = queues::lists(random, &queries, most);
+        let mut call = queues::serve(random, &queries, lists);
+        (0..random.below(4)).for_each(|_| queues::serve_damage(random, &queries, &mut call));
+        to.serve(&call);
+    }
+    for _ in 0..2 {
+        let lists = queues::lists(random, &queries, most);
+        let mut call = queues::top_up(random, lists);
+        (0..random.below(4)).for_each(|_| queues::top_up_damage(random, &mut call));
+        to.top_up(&call);
+    }
+}
+
 /// An upload with buffers that are long enough whatever it makes.
 fn with_room(upload: Vec<u32>) -> Make {
     let rows = upload.len() / 3;
@@ -236,6 +276,7 @@ pub fn compare(file: &str, seeds: Range<u64>) {
         damaged(&mut both, random, &query, 4);
         made_up(&mut both, random, &query);
         uploaded(&mut both, &mut Random::new(seed ^ 0x0AD5_0000), 25);
+        queued(&mut both, &mut Random::new(seed ^ 0x0E0E_0000), MOST);
     }
     let (apart, histories) = (both.calls, seeds.end - seeds.start);
     for seed in seeds {
@@ -248,9 +289,19 @@ pub fn compare(file: &str, seeds: Range<u64>) {
     largest(&mut both);
     largest_uploads(&mut both);
     println!("{:?}", both.came);
-    let whats = (1..=16)
-        .map(|number| named(number, ""))
-        .chain(["opened", "done", "spent", "full", "merged", "made"].map(String::from));
+    let served = [
+        "opened",
+        "done",
+        "spent",
+        "full",
+        "merged",
+        "made",
+        "joined",
+        "served, done",
+        "served, spent",
+        "topped up",
+    ];
+    let whats = (1..=19).map(|number| named(number, "")).chain(served.map(String::from));
     let rare: Vec<String> = whats
         .filter(|what| both.came.get(what).copied().unwrap_or(0) < OFTEN)
         .collect();

@@ -1,8 +1,9 @@
 //! Calls made of a library over copies of their buffers, with guard words around each: what they answer, and every word at exit.
 
 use crate::evaluation::calls::{Merge, Open, Turn};
+use crate::evaluation::queues::{Join, Lists, Serve, TopUp, Waiting};
 use crate::evaluation::uploads::Make;
-use crate::libraries::{self, Lent, Library, Turned, Written};
+use crate::libraries::{self, Entry, Lent, LentLists, Library, Queued, Service, Turned, Written};
 
 const GUARDS: usize = 8;
 const GUARD: u32 = 0xA5A5_C3C3;
@@ -109,4 +110,128 @@ pub fn make(library: &Library, call: &Make) -> Made<libraries::Made> {
         report.words_mut(),
     );
     Made::new(answer, vec![rows, pos, osp, report, upload])
+}
+
+/// An entry as C has it, and as the evaluation has it.
+pub fn entry(waiting: &Waiting) -> Entry {
+    Entry {
+        allowance: waiting.allowance,
+        owner: waiting.owner,
+        plan_words: waiting.planned,
+        state_words: waiting.saved,
+        plan: waiting.plan[..].try_into().expect("room for the longest plan"),
+        state: waiting.state[..].try_into().expect("room for a state"),
+    }
+}
+
+pub fn waiting(entry: &Entry) -> Waiting {
+    Waiting {
+        allowance: entry.allowance,
+        owner: entry.owner,
+        planned: entry.plan_words,
+        saved: entry.state_words,
+        plan: entry.plan.to_vec(),
+        state: entry.state.to_vec(),
+    }
+}
+
+/// What a call of a queue answered, its lists at exit, and its other buffers.
+#[derive(Debug, PartialEq)]
+pub struct MadeOfLists<T> {
+    pub made: Made<T>,
+    pub line: Vec<Waiting>,
+    pub aside: Vec<Waiting>,
+}
+
+/// Copies of both lists, with an entry of guard words before and behind each.
+struct CopiedLists {
+    line: Vec<Entry>,
+    aside: Vec<Entry>,
+}
+
+const BESIDE: Entry = Entry {
+    allowance: (GUARD as u64) << 32 | GUARD as u64,
+    owner: GUARD,
+    plan_words: GUARD,
+    state_words: GUARD,
+    plan: [GUARD; 256],
+    state: [GUARD; 11],
+};
+
+impl CopiedLists {
+    fn new(lists: &Lists) -> CopiedLists {
+        let copied = |entries: &[Waiting]| {
+            [BESIDE]
+                .into_iter()
+                .chain(entries.iter().map(entry))
+                .chain([BESIDE])
+                .collect()
+        };
+        CopiedLists {
+            line: copied(&lists.line),
+            aside: copied(&lists.aside),
+        }
+    }
+
+    fn lent(&mut self, lists: &Lists) -> LentLists<'_> {
+        let (line_end, aside_end) = (self.line.len() - 1, self.aside.len() - 1);
+        LentLists {
+            line: &mut self.line[1..line_end],
+            line_entries: lists.waiting,
+            aside: &mut self.aside[1..aside_end],
+            aside_entries: lists.resting,
+        }
+    }
+
+    /// What the call left.
+    fn made<T>(self, made: Made<T>) -> MadeOfLists<T> {
+        let whole = |list: &[Entry]| list[0] == BESIDE && list[list.len() - 1] == BESIDE;
+        assert!(whole(&self.line) && whole(&self.aside), "an entry beside a list has changed");
+        let entries = |list: &[Entry]| list[1..list.len() - 1].iter().map(waiting).collect();
+        MadeOfLists {
+            made,
+            line: entries(&self.line),
+            aside: entries(&self.aside),
+        }
+    }
+}
+
+pub fn join(library: &Library, call: &Join) -> MadeOfLists<Queued> {
+    let [rows, pos, osp, plan, state] =
+        [&call.tables.rows, &call.tables.pos, &call.tables.osp, &call.plan, &call.state].map(|words| Copied::new(words));
+    let mut lists = CopiedLists::new(&call.lists);
+    let lent = Lent {
+        rows: rows.words(),
+        pos: pos.words(),
+        osp: osp.words(),
+        plan: plan.words(),
+    };
+    let answer = library.join(&lent, lists.lent(&call.lists), call.owner, call.allowance, state.words());
+    lists.made(Made::new(answer, vec![rows, pos, osp, plan, state]))
+}
+
+pub fn serve(library: &Library, call: &Serve) -> MadeOfLists<Service> {
+    let [rows, pos, osp, threshold] =
+        [&call.tables.rows, &call.tables.pos, &call.tables.osp, &call.threshold].map(|words| Copied::new(words));
+    let (mut output, mut lists) = (Copied::new(&call.output), CopiedLists::new(&call.lists));
+    let lent = Lent {
+        rows: rows.words(),
+        pos: pos.words(),
+        osp: osp.words(),
+        plan: &[],
+    };
+    let answer = library.serve(
+        &lent,
+        lists.lent(&call.lists),
+        call.quantum,
+        threshold.words(),
+        output.words_mut(),
+    );
+    lists.made(Made::new(answer, vec![output, rows, pos, osp, threshold]))
+}
+
+pub fn top_up(library: &Library, call: &TopUp) -> MadeOfLists<Queued> {
+    let mut lists = CopiedLists::new(&call.lists);
+    let answer = library.top_up(lists.lent(&call.lists), call.owner, call.amount);
+    lists.made(Made::new(answer, Vec::new()))
 }

@@ -30,9 +30,44 @@ pub struct Made {
     pub report_words: usize,
 }
 
-/// A buffer that is read, as C has it, and one that is written.
+/// A waiting query, as bindings/c/sotjarn.h lays it out.
+#[derive(Clone, Copy, Debug, PartialEq)]
+#[repr(C)]
+pub struct Entry {
+    pub allowance: u64,
+    pub owner: u32,
+    pub plan_words: u32,
+    pub state_words: u32,
+    pub plan: [u32; 256],
+    pub state: [u32; 11],
+}
+
+#[derive(Clone, Copy, Debug, PartialEq)]
+#[repr(C)]
+pub struct Queued {
+    pub refused: u32,
+    pub line_entries: usize,
+    pub aside_entries: usize,
+}
+
+#[derive(Clone, Copy, Debug, PartialEq)]
+#[repr(C)]
+pub struct Service {
+    pub ending: u32,
+    pub refused: u32,
+    pub steps: u32,
+    pub owner: u32,
+    pub left: u64,
+    pub state_words: usize,
+    pub list_words: usize,
+    pub line_entries: usize,
+    pub aside_entries: usize,
+}
+
+/// A buffer that is read, as C has it, and one that is written; and a list of entries, which is.
 type Read = *const u32;
 type Write = *mut u32;
+type Entries = *mut Entry;
 type OpenCall = unsafe extern "C" fn(Read, usize, Read, usize, Read, usize, Read, usize, Write, usize) -> Written;
 type TurnCall = unsafe extern "C" fn(
     Read,
@@ -55,6 +90,46 @@ type TurnCall = unsafe extern "C" fn(
 type MergeCall = unsafe extern "C" fn(Read, usize, Write, usize, usize, Read, usize) -> Written;
 type LeastCall = unsafe extern "C" fn(Read, usize) -> Written;
 type MakeCall = unsafe extern "C" fn(Read, usize, Write, usize, Write, usize, Write, usize, Write, usize) -> Made;
+type JoinCall = unsafe extern "C" fn(
+    Read,
+    usize,
+    Read,
+    usize,
+    Read,
+    usize,
+    Entries,
+    usize,
+    usize,
+    Entries,
+    usize,
+    usize,
+    u32,
+    u64,
+    Read,
+    usize,
+    Read,
+    usize,
+) -> Queued;
+type ServeCall = unsafe extern "C" fn(
+    Read,
+    usize,
+    Read,
+    usize,
+    Read,
+    usize,
+    Entries,
+    usize,
+    usize,
+    Entries,
+    usize,
+    usize,
+    u32,
+    Read,
+    usize,
+    Write,
+    usize,
+) -> Service;
+type TopUpCall = unsafe extern "C" fn(Entries, usize, usize, Entries, usize, usize, u32, u64) -> Queued;
 
 #[link(name = "sotjarn", kind = "static")]
 extern "C" {
@@ -80,6 +155,46 @@ extern "C" {
     fn sotjarn_merge(_: Read, _: usize, _: Write, _: usize, _: usize, _: Read, _: usize) -> Written;
     fn sotjarn_least_output(_: Read, _: usize) -> Written;
     fn sotjarn_make(_: Read, _: usize, _: Write, _: usize, _: Write, _: usize, _: Write, _: usize, _: Write, _: usize) -> Made;
+    fn sotjarn_join(
+        _: Read,
+        _: usize,
+        _: Read,
+        _: usize,
+        _: Read,
+        _: usize,
+        _: Entries,
+        _: usize,
+        _: usize,
+        _: Entries,
+        _: usize,
+        _: usize,
+        _: u32,
+        _: u64,
+        _: Read,
+        _: usize,
+        _: Read,
+        _: usize,
+    ) -> Queued;
+    fn sotjarn_serve(
+        _: Read,
+        _: usize,
+        _: Read,
+        _: usize,
+        _: Read,
+        _: usize,
+        _: Entries,
+        _: usize,
+        _: usize,
+        _: Entries,
+        _: usize,
+        _: usize,
+        _: u32,
+        _: Read,
+        _: usize,
+        _: Write,
+        _: usize,
+    ) -> Service;
+    fn sotjarn_top_up(_: Entries, _: usize, _: usize, _: Entries, _: usize, _: usize, _: u32, _: u64) -> Queued;
 }
 
 #[link(name = "dl")]
@@ -98,6 +213,17 @@ pub struct Library {
     merge: MergeCall,
     least: LeastCall,
     make: MakeCall,
+    join: JoinCall,
+    serve: ServeCall,
+    top_up: TopUpCall,
+}
+
+/// Both lists of a call: their buffers, and how many entries each has.
+pub struct LentLists<'a> {
+    pub line: &'a mut [Entry],
+    pub line_entries: usize,
+    pub aside: &'a mut [Entry],
+    pub aside_entries: usize,
 }
 
 /// The tables and the plan of a call.
@@ -116,6 +242,9 @@ impl Library {
             merge: sotjarn_merge,
             least: sotjarn_least_output,
             make: sotjarn_make,
+            join: sotjarn_join,
+            serve: sotjarn_serve,
+            top_up: sotjarn_top_up,
         }
     }
 
@@ -140,6 +269,9 @@ impl Library {
                 merge: transmute_copy(&symbol(c"sotjarn_merge")),
                 least: transmute_copy(&symbol(c"sotjarn_least_output")),
                 make: transmute_copy(&symbol(c"sotjarn_make")),
+                join: transmute_copy(&symbol(c"sotjarn_join")),
+                serve: transmute_copy(&symbol(c"sotjarn_serve")),
+                top_up: transmute_copy(&symbol(c"sotjarn_top_up")),
             }
         }
     }
@@ -230,6 +362,77 @@ impl Library {
                 osp.len(),
                 report.as_mut_ptr(),
                 report.len(),
+            )
+        }
+    }
+
+    /// The plan of the tables joins, from this state.
+    pub fn join(&self, lent: &Lent, lists: LentLists, owner: u32, allowance: u64, state: &[u32]) -> Queued {
+        let Lent { rows, pos, osp, plan } = lent;
+        // Sound: each address and length is a slice's, and both lists are `&mut` slices of the header's layout.
+        unsafe {
+            (self.join)(
+                rows.as_ptr(),
+                rows.len(),
+                pos.as_ptr(),
+                pos.len(),
+                osp.as_ptr(),
+                osp.len(),
+                lists.line.as_mut_ptr(),
+                lists.line.len(),
+                lists.line_entries,
+                lists.aside.as_mut_ptr(),
+                lists.aside.len(),
+                lists.aside_entries,
+                owner,
+                allowance,
+                plan.as_ptr(),
+                plan.len(),
+                state.as_ptr(),
+                state.len(),
+            )
+        }
+    }
+
+    /// The plan of `lent` is none of the call's.
+    pub fn serve(&self, lent: &Lent, lists: LentLists, quantum: u32, threshold: &[u32], output: &mut [u32]) -> Service {
+        let Lent { rows, pos, osp, .. } = lent;
+        // Sound: each address and length is a slice's; both lists and the output are `&mut` slices.
+        unsafe {
+            (self.serve)(
+                rows.as_ptr(),
+                rows.len(),
+                pos.as_ptr(),
+                pos.len(),
+                osp.as_ptr(),
+                osp.len(),
+                lists.line.as_mut_ptr(),
+                lists.line.len(),
+                lists.line_entries,
+                lists.aside.as_mut_ptr(),
+                lists.aside.len(),
+                lists.aside_entries,
+                quantum,
+                threshold.as_ptr(),
+                threshold.len(),
+                output.as_mut_ptr(),
+                output.len(),
+            )
+        }
+    }
+
+    pub fn top_up(&self, lists: LentLists, owner: u32, amount: u64) -> Queued {
+        // Sound: each address and length is a slice's, and both lists are `&mut` slices.
+        unsafe {
+            (self.top_up)(
+                lists.line.as_mut_ptr(),
+                lists.line.len(),
+                lists.line_entries,
+                lists.aside.as_mut_ptr(),
+                lists.aside.len(),
+                lists.aside_entries,
+                owner,
+                amount,
             )
         }
     }

@@ -2,17 +2,18 @@
 
 use std::fs;
 
-use crate::comparing::{damaged, made_up, uploaded};
+use crate::comparing::{damaged, made_up, queued, uploaded};
 use crate::evaluation::calls::{Merge, Open, Query, Turn};
 use crate::evaluation::plan::{Branch, Condition, Ending, Plan};
+use crate::evaluation::queues::{Join, Lists, Serve, TopUp, Waiting, PLAN_ROOM, STATE_ROOM};
 use crate::evaluation::tables::Tables;
 use crate::evaluation::uploads::Make;
 use crate::evaluation::words::*;
 use crate::histories::{self, Calls};
 use crate::inputs::plans;
 use crate::inputs::random::Random;
-use crate::lending;
-use crate::libraries::{Library, Made, Turned, Written};
+use crate::lending::{self, MadeOfLists};
+use crate::libraries::{Library, Made, Queued, Service, Turned, Written};
 
 /// How many queries there are, each with damaged calls, made-up ones and a history, and how many more whose conditions keep no row.
 const QUERIES: u64 = 80;
@@ -32,12 +33,22 @@ const MERGE: u32 = 6;
 const MAKE: u32 = 7;
 const SHUFFLED: u32 = 8;
 const MAKE_STEMS: u32 = 9;
+const ENTRIES: u32 = 10;
+const JOIN: u32 = 11;
+const SERVE: u32 = 12;
+const TOP_UP: u32 = 13;
 
 /// How many small uploads there are, and the most rows of one.
 const UPLOADS: u64 = 60;
 const UPLOADED: usize = 14;
 
-/// The buffers, by their numbers in the file.
+/// How many small queues there are, and the most entries of one; and how many as large as they may be.
+const QUEUES: u64 = 45;
+const QUEUED: usize = 5;
+const LARGE_QUEUES: u64 = 2;
+const LARGEST: usize = 32;
+
+/// The buffers, by their numbers in the file. Behind them come the line and the list set aside, of entries.
 #[derive(Clone, Copy)]
 enum Name {
     Rows,
@@ -55,6 +66,72 @@ enum Name {
 
 /// How many buffers there are.
 const BUFFERS: usize = 11;
+
+/// The numbers of both lists.
+const LINE: usize = BUFFERS;
+const ASIDE: usize = BUFFERS + 1;
+
+/// An entry of zeros.
+fn nobody() -> Waiting {
+    Waiting {
+        allowance: 0,
+        owner: 0,
+        planned: 0,
+        saved: 0,
+        plan: vec![0; PLAN_ROOM],
+        state: vec![0; STATE_ROOM],
+    }
+}
+
+/// A number of 64 bits in two words, the low one first.
+fn two_words(number: u64) -> [u32; 2] {
+    [number as u32, (number >> 32) as u32]
+}
+
+/// So many words, less the zeros at their end, with their number before them.
+fn shortened(words: &[u32]) -> Vec<u32> {
+    let many = words.iter().rposition(|&word| word != 0).map_or(0, |last| last + 1);
+    [many as u32].into_iter().chain(words[..many].iter().copied()).collect()
+}
+
+/// An entry as the file has it.
+fn entry_words(entry: &Waiting) -> Vec<u32> {
+    let numbers = [entry.owner, entry.planned, entry.saved];
+    [
+        &two_words(entry.allowance)[..],
+        &numbers,
+        &shortened(&entry.plan),
+        &shortened(&entry.state),
+    ]
+    .concat()
+}
+
+/// Lists that take few words of the file: behind the entries, and behind plans and states, there are zeros; and so there are in the arrays of an
+/// entry that no query made.
+fn plain(lists: &Lists) -> Lists {
+    let zeroed = |words: &[u32], many: usize| {
+        let mut words = words.to_vec();
+        words.iter_mut().skip(many).for_each(|word| *word = 0);
+        words
+    };
+    let entry = |entry: &Waiting| {
+        let is_query = kind(entry.plan[0]) == HEAD;
+        Waiting {
+            plan: zeroed(&entry.plan, if is_query { entry.planned as usize } else { 0 }),
+            state: zeroed(&entry.state, if is_query { entry.saved as usize } else { 0 }),
+            ..entry.clone()
+        }
+    };
+    let list = |entries: &[Waiting], many: usize| {
+        let place = |(place, known): (usize, &Waiting)| if place < many { entry(known) } else { nobody() };
+        entries.iter().enumerate().map(place).collect()
+    };
+    Lists {
+        line: list(&lists.line, lists.waiting),
+        aside: list(&lists.aside, lists.resting),
+        ..*lists
+    }
+}
 
 /// The words of a filled buffer.
 fn filled(many: usize) -> Vec<u32> {
@@ -83,6 +160,7 @@ fn shuffled(many: u32) -> Vec<u32> {
 struct Vectors {
     proved: Library,
     held: [Vec<u32>; BUFFERS],
+    lists: [Vec<Waiting>; 2],
     words: Vec<u32>,
     calls: u32,
 }
@@ -164,6 +242,38 @@ impl Vectors {
         for (at, buffer) in [Name::Rows, Name::Pos, Name::Osp, Name::Report].into_iter().enumerate() {
             self.held[buffer as usize] = made.at_exit(at).to_vec();
         }
+    }
+
+    /// Has both lists hold these entries.
+    fn lend_lists(&mut self, lists: &Lists) {
+        for (number, entries) in [&lists.line, &lists.aside].into_iter().enumerate() {
+            if self.lists[number] != *entries {
+                let many = entries
+                    .iter()
+                    .rposition(|entry| *entry != nobody())
+                    .map_or(0, |last| last + 1);
+                self.words
+                    .extend([ENTRIES, (LINE + number) as u32, entries.len() as u32, many as u32]);
+                entries[..many].iter().for_each(|entry| self.words.extend(entry_words(entry)));
+                self.lists[number] = entries.clone();
+            }
+        }
+    }
+
+    /// The entries that a call changed, each with its list and place.
+    fn changed<T>(&mut self, made: &MadeOfLists<T>) {
+        let mut changed = Vec::new();
+        for (number, entries) in [(LINE, &made.line), (ASIDE, &made.aside)] {
+            for (place, entry) in entries.iter().enumerate() {
+                if self.lists[number - LINE][place] != *entry {
+                    changed.push([vec![number as u32, place as u32], entry_words(entry)].concat());
+                }
+            }
+            self.lists[number - LINE] = entries.clone();
+        }
+        self.words.push(changed.len() as u32);
+        self.words.extend(changed.concat());
+        self.calls += 1;
     }
 
     /// A buffer after a call that wrote so many words to its front.
@@ -258,6 +368,88 @@ impl Calls for Vectors {
         self.calls += 1;
         made.answer
     }
+
+    fn join(&mut self, call: &Join) -> Queued {
+        let call = Join {
+            lists: plain(&call.lists),
+            ..call.clone()
+        };
+        let made = lending::join(&self.proved, &call);
+        let answer = made.made.answer;
+        self.lend_tables(&call.tables);
+        self.lend(Name::Plan, &call.plan);
+        self.lend(Name::State, &call.state);
+        self.lend_lists(&call.lists);
+        let [low, high] = two_words(call.allowance);
+        self.words.extend([
+            JOIN,
+            given_word(call.lists.waiting),
+            given_word(call.lists.resting),
+            call.owner,
+            low,
+            high,
+        ]);
+        self.words
+            .extend([answer.refused, answer.line_entries as u32, answer.aside_entries as u32]);
+        self.changed(&made);
+        answer
+    }
+
+    fn serve(&mut self, call: &Serve) -> Service {
+        let call = Serve {
+            lists: plain(&call.lists),
+            output: filled(call.output.len()),
+            ..call.clone()
+        };
+        let made = lending::serve(&self.proved, &call);
+        let answer = made.made.answer;
+        self.lend_tables(&call.tables);
+        self.lend(Name::Threshold, &call.threshold);
+        self.lend(Name::Output, &call.output);
+        self.lend_lists(&call.lists);
+        let [low, high] = two_words(answer.left);
+        self.words.extend([
+            SERVE,
+            given_word(call.lists.waiting),
+            given_word(call.lists.resting),
+            call.quantum,
+        ]);
+        self.words
+            .extend([answer.ending, answer.refused, answer.steps, answer.owner, low, high]);
+        let lengths = [
+            answer.state_words,
+            answer.list_words,
+            answer.line_entries,
+            answer.aside_entries,
+        ];
+        self.words.extend(lengths.map(|words| words as u32));
+        self.written(Name::Output, made.made.at_exit(0), answer.list_words);
+        self.changed(&made);
+        answer
+    }
+
+    fn top_up(&mut self, call: &TopUp) -> Queued {
+        let call = TopUp {
+            lists: plain(&call.lists),
+            ..call.clone()
+        };
+        let made = lending::top_up(&self.proved, &call);
+        let answer = made.made.answer;
+        self.lend_lists(&call.lists);
+        let [low, high] = two_words(call.amount);
+        self.words.extend([
+            TOP_UP,
+            given_word(call.lists.waiting),
+            given_word(call.lists.resting),
+            call.owner,
+            low,
+            high,
+        ]);
+        self.words
+            .extend([answer.refused, answer.line_entries as u32, answer.aside_entries as u32]);
+        self.changed(&made);
+        answer
+    }
 }
 
 /// Short queries: damaged and made-up calls, and a history.
@@ -293,6 +485,13 @@ fn uploads(to: &mut Vectors) {
         osp: filled(1),
         report: filled(1),
     });
+}
+
+/// Queues: small ones and some as large as they may be, as they come and damaged.
+fn queues(to: &mut Vectors) {
+    for seed in 0..QUEUES + LARGE_QUEUES {
+        queued(to, &mut Random::new(seed), if seed < QUEUES { QUEUED } else { LARGEST });
+    }
 }
 
 /// The pairs of stems of one stand, counted.
@@ -334,11 +533,13 @@ pub fn write(file: &str) {
     let mut made = Vectors {
         proved,
         held: Default::default(),
+        lists: Default::default(),
         words: Vec::new(),
         calls: 0,
     };
     short(&mut made);
     uploads(&mut made);
+    queues(&mut made);
     long(&mut made);
     let bytes: Vec<u8> = made.words.iter().flat_map(|word| word.to_le_bytes()).collect();
     fs::write(file, &bytes).expect("the file is written");

@@ -4,8 +4,9 @@ use std::cell::Cell;
 use std::hint::black_box;
 
 use crate::evaluation::calls::{Answer, How, Merge, Open, Turn};
+use crate::evaluation::queues::{Counts, Join, Lists, Serve, Service, TopUp, Waiting};
 use crate::evaluation::uploads::{Make, Written};
-use sotjarn::{Refusal, Tables, TurnEnding};
+use sotjarn::{Entry, Queued, Refusal, Tables, TurnEnding, Turned, NO_ENTRY};
 
 thread_local! {
     /// Moves each buffer to another alignment than the one before.
@@ -104,15 +105,16 @@ pub fn turn(call: &Turn) -> (Result<Answer, u32>, Vec<u32>, Vec<u32>) {
         output_lent,
     );
     [rows, pos, osp, plan, threshold].into_iter().for_each(Guarded::unchanged);
-    let answer = answer.map_err(number).map(|turned| {
-        let how = match turned.ending {
-            TurnEnding::Done => How::Done,
-            TurnEnding::Spent => How::Spent,
-            TurnEnding::Full => How::Full,
-        };
-        (turned.steps, how, turned.state_words, turned.list_words)
-    });
-    (answer, state.at_exit(), output.at_exit())
+    (answer.map_err(number).map(answered), state.at_exit(), output.at_exit())
+}
+
+fn answered(turned: Turned) -> Answer {
+    let how = match turned.ending {
+        TurnEnding::Done => How::Done,
+        TurnEnding::Spent => How::Spent,
+        TurnEnding::Full => How::Full,
+    };
+    (turned.steps, how, turned.state_words, turned.list_words)
 }
 
 pub fn merge(call: &Merge) -> (Result<usize, u32>, Vec<u32>) {
@@ -144,4 +146,150 @@ pub fn make(call: &Make) -> (Result<Written, u32>, Make) {
     };
     let answer = answer.map(|made| (made.rows_words, made.pos_words, made.osp_words, made.report_words));
     (answer.map_err(number), at_exit)
+}
+
+/// An entry as the crate has it.
+fn entry(waiting: &Waiting) -> Entry {
+    Entry {
+        allowance: waiting.allowance,
+        owner: waiting.owner,
+        planned: waiting.planned,
+        saved: waiting.saved,
+        plan: waiting.plan[..].try_into().expect("an entry has room for the longest plan"),
+        state: waiting.state[..].try_into().expect("an entry has room for its state"),
+    }
+}
+
+pub fn waiting(entry: &Entry) -> Waiting {
+    Waiting {
+        allowance: entry.allowance,
+        owner: entry.owner,
+        planned: entry.planned,
+        saved: entry.saved,
+        plan: entry.plan.to_vec(),
+        state: entry.state.to_vec(),
+    }
+}
+
+/// Entries lent to a call, with an entry before and one behind.
+struct GuardedEntries(Vec<Entry>);
+
+/// What stands beside the entries.
+const BESIDE: Entry = Entry {
+    allowance: 0xA5A5_C3C3_A5A5_C3C3,
+    owner: 0xA5A5_C3C3,
+    planned: 0xA5A5_C3C3,
+    saved: 0xA5A5_C3C3,
+    ..NO_ENTRY
+};
+
+impl GuardedEntries {
+    fn new(given: &[Waiting]) -> GuardedEntries {
+        GuardedEntries([BESIDE].into_iter().chain(given.iter().map(entry)).chain([BESIDE]).collect())
+    }
+
+    fn lent(&mut self) -> &mut [Entry] {
+        let end = self.0.len() - 1;
+        &mut self.0[1..end]
+    }
+
+    /// The entries at exit; those beside must be as they were.
+    fn at_exit(self) -> Vec<Waiting> {
+        let entries = black_box(self.0);
+        let end = entries.len() - 1;
+        assert!(
+            entries[0] == BESIDE && entries[end] == BESIDE,
+            "an entry beside a list has changed"
+        );
+        entries[1..end].iter().map(waiting).collect()
+    }
+}
+
+/// Both lists at exit, with the counts of a served call.
+fn left(lists: &Lists, line: GuardedEntries, aside: GuardedEntries, counts: Option<Counts>) -> Lists {
+    let (waiting, resting) = counts.unwrap_or((lists.waiting, lists.resting));
+    Lists {
+        line: line.at_exit(),
+        waiting,
+        aside: aside.at_exit(),
+        resting,
+    }
+}
+
+fn counted(answer: Result<Queued, Refusal>) -> Result<Counts, u32> {
+    answer
+        .map(|queued| (queued.line_entries, queued.aside_entries))
+        .map_err(number)
+}
+
+pub fn join(call: &Join) -> (Result<Counts, u32>, Lists) {
+    let (rows, plan) = (Guarded::new("rows", &call.tables.rows), Guarded::new("plan", &call.plan));
+    let (pos, osp) = (Guarded::new("pos", &call.tables.pos), Guarded::new("osp", &call.tables.osp));
+    let (state, lists) = (Guarded::new("state", &call.state), &call.lists);
+    let (mut line, mut aside) = (GuardedEntries::new(&lists.line), GuardedEntries::new(&lists.aside));
+    let tables = Tables {
+        rows: rows.lent(),
+        pos: pos.lent(),
+        osp: osp.lent(),
+    };
+    let answer = counted(sotjarn::join(
+        tables,
+        line.lent(),
+        lists.waiting,
+        aside.lent(),
+        lists.resting,
+        call.owner,
+        call.allowance,
+        plan.lent(),
+        state.lent(),
+    ));
+    [rows, pos, osp, plan, state].into_iter().for_each(Guarded::unchanged);
+    (answer, left(lists, line, aside, answer.ok()))
+}
+
+pub fn serve(call: &Serve) -> (Result<Service, u32>, Lists, Vec<u32>) {
+    let (rows, threshold) = (
+        Guarded::new("rows", &call.tables.rows),
+        Guarded::new("threshold", &call.threshold),
+    );
+    let (pos, osp) = (Guarded::new("pos", &call.tables.pos), Guarded::new("osp", &call.tables.osp));
+    let (mut output, lists) = (Guarded::new("output", &call.output), &call.lists);
+    let (mut line, mut aside) = (GuardedEntries::new(&lists.line), GuardedEntries::new(&lists.aside));
+    let tables = Tables {
+        rows: rows.lent(),
+        pos: pos.lent(),
+        osp: osp.lent(),
+    };
+    let answer = sotjarn::serve(
+        tables,
+        line.lent(),
+        lists.waiting,
+        aside.lent(),
+        lists.resting,
+        call.quantum,
+        threshold.lent(),
+        output.lent_mut(),
+    );
+    [rows, pos, osp, threshold].into_iter().for_each(Guarded::unchanged);
+    let answer = answer.map_err(number).map(|served| {
+        let counts = (served.line_entries, served.aside_entries);
+        (answered(served.turned), served.owner, served.left, counts)
+    });
+    let counts = answer.ok().map(|(.., counts)| counts);
+    (answer, left(lists, line, aside, counts), output.at_exit())
+}
+
+pub fn top_up(call: &TopUp) -> (Result<Counts, u32>, Lists) {
+    let lists = &call.lists;
+    let (mut line, mut aside) = (GuardedEntries::new(&lists.line), GuardedEntries::new(&lists.aside));
+    let (waiting, resting) = (lists.waiting, lists.resting);
+    let answer = counted(sotjarn::top_up(
+        line.lent(),
+        waiting,
+        aside.lent(),
+        resting,
+        call.owner,
+        call.amount,
+    ));
+    (answer, left(lists, line, aside, answer.ok()))
 }

@@ -9,5 +9,6 @@ mod evaluation;
 mod guarded;
 mod inputs;
 mod long;
+mod queues;
 mod short;
 mod uploads;

@@ -46,7 +46,7 @@ use Rattle.queues.proofs.Entry as T
 use denote.Enum.Laws as EL
 use Rattle.tables.specs.Tables.{tablesOf as lent-tables}
 use Rattle.queues.specs.Lists.{lentAs}
-use Rattle.queues.specs.Joining.{QueuedResult, joinOf}
+use Rattle.queues.specs.Joining.{QueuedResult, joinQueueOf}
 use Rattle.queues.proofs.Queued as Q
 use Rattle.queues.proofs.Queued.Laws as Q′
 use Rattle.queue_entries.specs.declared.Seen.{Seen}
@@ -154,7 +154,7 @@ module _ {M : Type 1} (𝓤 : URA M) (H : Heap 𝓤) (A : Atoms 𝓤) (mem : Mem
   Told rows pos osp seen given kept owner allowance plan state d =
       (line aside : List Entry) → SeenOf (lentAs line given aside kept) owner seen
       → Decides (lentAs line given aside kept) d
-      (joinOf (lent-tables (rows .now) (pos .now) (osp .now)) (lentAs line given aside kept)
+      (joinQueueOf (lent-tables (rows .now) (pos .now) (osp .now)) (lentAs line given aside kept)
       (record { owner = owner; allowance = allowance; plan = plan .now; state = state .now }))
 
   join-of : (κ₀ κ₁ κ₂ κ₅ κ₆ : Lft) (rows pos osp : RefT (List ℕ)) (seen : Seen) (given kept owner allowance : ℕ)
@@ -249,7 +249,7 @@ module _ {M : Type 1} (𝓤 : URA M) (H : Heap 𝓤) (A : Atoms 𝓤) (W : Given
 
   exits : (d : Queueing) (us vs : List Entry) → Is D.the-row d (decided-vals d) → length us ≡ length (x .now) → length vs ≡ length (x′ .now)
       → _≡_ {A = QueuedResult} (record { answer = d .answer; line = us; aside = vs })
-      (joinOf (lent-tables (rows .now) (pos .now) (osp .now)) (lentAs (x .now) given (x′ .now) kept)
+      (joinQueueOf (lent-tables (rows .now) (pos .now) (osp .now)) (lentAs (x .now) given (x′ .now) kept)
       (record { owner = owner; allowance = allowance; plan = plan .now; state = state .now }))
       → ent 𝓤 (⋆ 𝓤 H A
       (‵ (flft κ₀ q₀) ∷ ‵ (flft κ₁ q₁) ∷ ‵ (flft κ₂ q₂) ∷ ‵ (flft κ₃ q₃) ∷ ‵ (flft κ₄ q₄) ∷ ‵

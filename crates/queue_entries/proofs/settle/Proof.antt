@@ -49,8 +49,8 @@ use Rattle.queues.specs.declared.Entry.{Entry}
 use Rattle.queue_entries.proofs.Big.{big-lit}
 use Rattle.queues.proofs.Entry as T
 use Rattle.queues.proofs.Entry.Laws as T′
-use Rattle.queue_entries.specs.Entries.{nobody, shifted, settled}
-use Rattle.queue_entries.proofs.Placing.{shifted-length}
+use Rattle.queue_entries.specs.Entries.{nobody, movedUp, settled}
+use Rattle.queue_entries.proofs.Placing.{moved-up-length}
 use Rattle.queue_entries.proofs.settle.Key.{name as #queue_entries·settle}
 use Rattle.queue_entries.proofs.settle as f
 use Rattle.queue_entries.proofs.settle.Statement as stated
@@ -112,7 +112,7 @@ module _ {M : Type 1} (𝓤 : URA M) (H : Heap 𝓤) (A : Atoms 𝓤) (W : Given
 
   -- the list after so many moves
   abbrev zs : ℕ → List Entry
-  zs k = shifted ys gap k
+  zs k = movedUp ys gap k
 
   abbrev y : List Entry → RefT (List Entry)
   y es = record { ptr = (b, o); name = γ; now = es }
@@ -235,7 +235,7 @@ module _ {M : Type 1} (𝓤 : URA M) (H : Heap 𝓤) (A : Atoms 𝓤) (W : Given
         move ! (1 ∷ []) $ drop ! $ owned ! T.the-row (Is T.the-row) ((LL.makes T.the-type T′.the-plain) 𝓤 H A) e _ ge $ move ! (1 ∷ 0 ∷ []) $
         elem-put ! T.the-row fullShare (zs (k .0)) last e (vals e) b o (here (last-in adding)) $
         exec ! C Λ En body.t-5 (atRet En Post) $
-        closes-slice ! tt T.the-row ys (set (zs (k .0)) last e) (length-set (zs (k .0)) last e ∙ shifted-length ys gap (k .0)) b o $
+        closes-slice ! tt T.the-row ys (set (zs (k .0)) last e) (length-set (zs (k .0)) last e ∙ moved-up-length ys gap (k .0)) b o $
         -- [obs; the borrow; the token; what the other parameters own; _16; …; _0; …]
         assigns ! (of-opd ! (unit-lit !)) (from ! (stop !)) (init ! 36 refl (tt, tt)) $
         returns ! (look ! 36 refl) $ forget ! 4 refl $ forget ! 6 refl $ forget ! 8 refl $ forget ! 22 refl $ forget ! 24 refl $ forget ! 26 refl $
@@ -245,9 +245,9 @@ module _ {M : Type 1} (𝓤 : URA M) (H : Heap 𝓤) (A : Atoms 𝓤) (W : Given
         move ! (22 ∷ 23 ∷ []) $ free1 ! $ move ! (20 ∷ 21 ∷ []) $ free1 ! $ move ! (18 ∷ 19 ∷ []) $ free1 ! $ move ! (16 ∷ 17 ∷ []) $
         free1 ! $ move ! (14 ∷ 15 ∷ []) $ free1 ! $ move ! (12 ∷ 13 ∷ []) $ free1 ! $ move ! (10 ∷ 11 ∷ []) $ free1 ! $ move ! (8 ∷ 9 ∷ []) $
         free1 ! $ move ! (6 ∷ 7 ∷ []) $ free1 ! $ move ! (4 ∷ 5 ∷ []) $ free1 ! $ free0 ! $
-        by ! (exits (set (zs (k .0)) last e) (length-set (zs (k .0)) last e ∙ shifted-length ys gap (k .0)) (added over adding))))
+        by ! (exits (set (zs (k .0)) last e) (length-set (zs (k .0)) last e ∙ moved-up-length ys gap (k .0)) (added over adding))))
         (λ kept. skips ! $ exec ! C Λ En body.t-5 (atRet En Post) $
-        closes-slice ! tt T.the-row ys (zs (k .0)) (shifted-length ys gap (k .0)) b o $
+        closes-slice ! tt T.the-row ys (zs (k .0)) (moved-up-length ys gap (k .0)) b o $
         -- [obs; the borrow; the token; what the other parameters own; _16; …; _0; …]
         assigns ! (of-opd ! (unit-lit !)) (from ! (stop !)) (init ! 36 refl (tt, tt)) $
         returns ! (look ! 36 refl) $ forget ! 8 refl $ forget ! 22 refl $ forget ! 24 refl $ forget ! 26 refl $ forget ! 28 refl $ forget ! 30 refl $
@@ -257,7 +257,7 @@ module _ {M : Type 1} (𝓤 : URA M) (H : Heap 𝓤) (A : Atoms 𝓤) (W : Given
         move ! (22 ∷ 23 ∷ []) $ free1 ! $ move ! (20 ∷ 21 ∷ []) $ free1 ! $ move ! (18 ∷ 19 ∷ []) $ free1 ! $ move ! (16 ∷ 17 ∷ []) $
         free1 ! $ move ! (14 ∷ 15 ∷ []) $ free1 ! $ move ! (12 ∷ 13 ∷ []) $ free1 ! $ move ! (10 ∷ 11 ∷ []) $ free1 ! $ move ! (8 ∷ 9 ∷ []) $
         free1 ! $ move ! (6 ∷ 7 ∷ []) $ free1 ! $ move ! (4 ∷ 5 ∷ []) $ free1 ! $ free0 ! $
-        by ! (exits (zs (k .0)) (shifted-length ys gap (k .0)) (not-added over kept))))
+        by ! (exits (zs (k .0)) (moved-up-length ys gap (k .0)) (not-added over kept))))
       where
         i : ℕ
         i = gap + k .0
@@ -282,7 +282,7 @@ module _ {M : Type 1} (𝓤 : URA M) (H : Heap 𝓤) (A : Atoms 𝓤) (W : Given
         next-fits less = let h : i + 1 < length ys = next-in less in let r : length ys < 2 ^ 64 = room .0 in record { fits = omega arith }
 
         here : {j : ℕ} → j < length ys → j < length (zs (k .0))
-        here {j} l = rw (shifted-length ys gap (k .0)) l
+        here {j} l = rw (moved-up-length ys gap (k .0)) l
 
         one-more : i + 1 ≡ gap + suc (k .0)
         one-more = omega arith

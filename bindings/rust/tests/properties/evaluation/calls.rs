@@ -84,9 +84,9 @@ pub fn open(query: &Query, call: &Open) -> (Result<usize, u32>, Vec<u32>) {
     (Ok(start.len()), written(&call.state, &start))
 }
 
-/// Test 9: the branch and places of the given words.
-fn state_of(plan: &Plan, call: &Turn) -> Option<Vec<u32>> {
-    let (first, places) = call.state.get(..call.given)?.split_first()?;
+/// Test 9: the branch and places of a state's words.
+pub fn state_of(plan: &Plan, words: &[u32]) -> Option<Vec<u32>> {
+    let (first, places) = words.split_first()?;
     let (branch, depth) = (count(*first) / 16, count(*first) % 16);
     let patterns = plan.branches.get(branch as usize)?.patterns.len();
     let right = kind(*first) == STATE
@@ -110,7 +110,8 @@ fn turn_start(query: &Query, call: &Turn) -> Result<usize, u32> {
     if !(1..=1_000_000).contains(&call.quantum) {
         return Err(8);
     }
-    let state = state_of(&query.plan, call).ok_or(9u32)?;
+    let given = call.state.get(..call.given).ok_or(9u32)?;
+    let state = state_of(&query.plan, given).ok_or(9u32)?;
     let number = query.run.number(&state).ok_or(10u32)?;
     threshold_right(&query.plan, &call.threshold).then_some(number).ok_or(11)
 }

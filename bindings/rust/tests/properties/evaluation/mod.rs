@@ -1,4 +1,5 @@
-//! What making tables, opening, a turn and merging answer, and every buffer at exit: an evaluation written from the rules' text.
+//! What making tables, opening, a turn and merging answer, and joining, serving and topping up a queue, and every buffer at exit: an
+//! evaluation written from the rules' text.
 //!
 //! It shares nothing with the engine nor with the crate under test. The uncut run is worked out whole; a turn is a part of it, and a
 //! state is accepted when it is among the run's.
@@ -6,6 +7,7 @@
 pub mod calls;
 pub mod lists;
 pub mod plan;
+pub mod queues;
 pub mod run;
 pub mod tables;
 pub mod uploads;

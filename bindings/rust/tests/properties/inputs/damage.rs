@@ -166,7 +166,7 @@ fn plan_damage(random: &mut Random, query: &Query, words: &mut Vec<u32>) {
     }
 }
 
-fn table_damage(random: &mut Random, tables: &mut Tables) {
+pub fn tables(random: &mut Random, tables: &mut Tables) {
     let many = tables.rows.len() / 3;
     match random.small(6) {
         0 if many > 1 => {
@@ -234,7 +234,7 @@ fn state_damage(random: &mut Random, query: &Query, call: &mut Turn) {
 
 pub fn open(random: &mut Random, query: &Query, call: &mut Open) {
     match random.small(5) {
-        0 | 1 => table_damage(random, &mut call.tables),
+        0 | 1 => tables(random, &mut call.tables),
         2 | 3 => plan_damage(random, query, &mut call.plan),
         _ => call.state.truncate(random.pick(&[0, 1, 8, 8])),
     }
@@ -242,7 +242,7 @@ pub fn open(random: &mut Random, query: &Query, call: &mut Open) {
 
 pub fn turn(random: &mut Random, query: &Query, call: &mut Turn) {
     match random.small(12) {
-        0 => table_damage(random, &mut call.tables),
+        0 => tables(random, &mut call.tables),
         1 | 2 => plan_damage(random, query, &mut call.plan),
         3 => call.state.truncate(random.pick(&[0, 1, 8, 8])),
         4 => call.quantum = random.pick(&[0, 1_000_001, u32::MAX]),

@@ -1,8 +1,9 @@
-//! Random inputs: woods, uploads and plans, calls of them, and damage.
+//! Random inputs: woods, uploads, plans and queues, calls of them, and damage.
 
 pub mod calls;
 pub mod damage;
 pub mod plans;
+pub mod queues;
 pub mod random;
 pub mod uploads;
 pub mod woods;

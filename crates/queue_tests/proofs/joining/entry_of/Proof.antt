@@ -2,7 +2,7 @@
 use borrow.Author.Needs.{needs}
 use mathlib.Core.Path.{_∙_}
 use lib.ListN.{length}
-use Rattle.queues.specs.Lists.{planRoom, stateRoom}
+use Rattle.queues.specs.Lists.{entryPlanRoom, entryStateRoom}
 use Rattle.queue_tests.proofs.Joins.{pasted}
 use Rattle.queue_tests.proofs.joining.entry_of.Statement.{statement}
 use Rattle.queue_tests.proofs.joining.entry_of.Tie as tie
@@ -33,8 +33,8 @@ returns c =
       owner = a .owner;
       planned = length (a .plan .now);
       saved = length (a .state .now);
-      plan = (c .before .before .before .before .copy-in .ensures ∙ pasted planRoom (a .plan .now)) i;
-      state = (c .before .copy-in2 .ensures ∙ pasted stateRoom (a .state .now)) i;
+      plan = (c .before .before .before .before .copy-in .ensures ∙ pasted entryPlanRoom (a .plan .now)) i;
+      state = (c .before .copy-in2 .ensures ∙ pasted entryStateRoom (a .state .now)) i;
     }
 
 pub entry-of-spec : {M : Type 1} → statement M

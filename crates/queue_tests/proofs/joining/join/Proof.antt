@@ -8,7 +8,7 @@ use Rattle.words.specs.Tests.{firstFailing, numberOf}
 use Rattle.tables.specs.Tables.{tablesOf}
 use Rattle.queues.specs.declared.Entry.{Entry}
 use Rattle.queues.specs.Lists.{lentAs}
-use Rattle.queues.specs.Joining.{Joining, joinOf}
+use Rattle.queues.specs.Joining.{Joining, joinQueueOf}
 use Rattle.queues.specs.ToppingUp.{topUpTestsBy}
 use Rattle.queue_tests.specs.declared.Queueing.{Queueing}
 use Rattle.queue_tests.specs.Changes.{roomBy, admittedBy, Decides}
@@ -51,7 +51,7 @@ returns c =
     (roomBy (a .seen .room) (a .seen .spare) (a .given) (a .kept) 1) (n .first-of .result) (q .query-number .result) (l .lists-number .result)
     (n .first-of .ensures) (q .query-number .ensures) (l .lists-number .ensures ∙ (λ i. numberOf (firstFailing (topUpTestsBy (f i) (g i))))) in
     λ line aside is.
-    subst (λ (d : Queueing). Decides (lentAs line (a .given) aside (a .kept)) d (joinOf t (lentAs line (a .given) aside (a .kept)) j))
+    subst (λ (d : Queueing). Decides (lentAs line (a .given) aside (a .kept)) d (joinQueueOf t (lentAs line (a .given) aside (a .kept)) j))
     (sym (c .refused .ensures))
     (join-refuses t line (a .given) aside (a .kept) j (a .seen) is (n .first-of .result) e (c .before .if1 .taken))
 
@@ -107,7 +107,7 @@ returns-2 c =
     (roomBy (a .seen .room) (a .seen .spare) (a .given) (a .kept) 1) (n .first-of .result) (q .query-number .result) (l .lists-number .result)
     (n .first-of .ensures) (q .query-number .ensures) (l .lists-number .ensures ∙ (λ i. numberOf (firstFailing (topUpTestsBy (f i) (g i))))) in
     λ line aside is.
-    subst (λ (d : Queueing). Decides (lentAs line (a .given) aside (a .kept)) d (joinOf t (lentAs line (a .given) aside (a .kept)) j))
+    subst (λ (d : Queueing). Decides (lentAs line (a .given) aside (a .kept)) d (joinQueueOf t (lentAs line (a .given) aside (a .kept)) j))
     (sym (c .admitted .ensures ∙ ap (λ (x : Entry). admittedBy x (a .given) (a .kept)) (c .before .entry-of .ensures)))
     (join-accepts t line (a .given) aside (a .kept) j (a .seen) is (sym e ∙ c .before .before .if1 .left))
 

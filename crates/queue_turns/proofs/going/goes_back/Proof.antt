@@ -5,7 +5,7 @@ use mathlib.Core.Path.{sym, _∙_, ap}
 use mathlib.Core.Bool.{Bool, cond}
 use borrow.Author.Tests.{eq-eqb, ne-eqb}
 use Rattle.queue_tests.specs.Changes.{unchanged, appended, removed, rotated}
-use Rattle.queue_turns.specs.declared.Served.{Served}
+use Rattle.queue_turns.specs.declared.ServeChanges.{ServeChanges}
 use Rattle.queue_turns.specs.Services.{answeredBy}
 use Rattle.queue_turns.proofs.going.goes_back.Statement.{statement}
 use Rattle.queue_turns.proofs.going.goes_back.Tie as tie
@@ -31,7 +31,7 @@ returns c =
     let a = t .before .before .before .args in
     let x = a .ended in
     (λ i. record { answer = c .before .before .answered .ensures i; line = c .before .removed .ensures i; aside = c .appended .ensures i; entry = x .entry })
-    ∙ ap (λ (b : Bool). cond {A = Served} b
+    ∙ ap (λ (b : Bool). cond {A = ServeChanges} b
     (record { answer = answeredBy x (a .given - 1) (a .kept + 1); line = removed 0 (a .given); aside = appended (a .kept); entry = x .entry })
     (record { answer = answeredBy x (a .given) (a .kept); line = rotated (a .given); aside = unchanged; entry = x .entry }))
     (sym (eq-eqb (x .entry .allowance) 0 (t .if1 .taken)))
@@ -51,7 +51,7 @@ returns-2 c =
     let a = t .before .before .before .args in
     let x = a .ended in
     (λ i. record { answer = c .before .before .answered2 .ensures i; line = c .before .rotated .ensures i; aside = c .unchanged .ensures i; entry = x .entry })
-    ∙ ap (λ (b : Bool). cond {A = Served} b
+    ∙ ap (λ (b : Bool). cond {A = ServeChanges} b
     (record { answer = answeredBy x (a .given - 1) (a .kept + 1); line = removed 0 (a .given); aside = appended (a .kept); entry = x .entry })
     (record { answer = answeredBy x (a .given) (a .kept); line = rotated (a .given); aside = unchanged; entry = x .entry }))
     (sym (ne-eqb (x .entry .allowance) 0 (t .if1 .left)))

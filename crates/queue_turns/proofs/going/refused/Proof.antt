@@ -1,6 +1,6 @@
 -- `refused` meets its contract: neither list changes.
 use borrow.Author.Needs.{needs}
-use Rattle.queue_turns.specs.Services.{refusedBy}
+use Rattle.queue_turns.specs.Services.{servingRefused}
 use Rattle.queue_turns.proofs.going.refused.Statement.{statement}
 use Rattle.queue_turns.proofs.going.refused.Tie as tie
 
@@ -17,7 +17,7 @@ returns : tie.Need-returns
 returns c =
     let n = c .before .before .before .args .number in
     λ i. record {
-      answer = refusedBy n .answer;
+      answer = servingRefused n .answer;
       line = c .before .before .unchanged .ensures i;
       aside = c .before .unchanged2 .ensures i;
       entry = c .nobody .ensures i;

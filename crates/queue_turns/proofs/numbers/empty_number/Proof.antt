@@ -2,7 +2,7 @@
 use borrow.Author.Needs.{needs}
 use mathlib.Core.Path.{_∙_}
 use Rattle.tables.specs.Tables.{tablesOf}
-use Rattle.queue_tests.specs.Changes.{firstOf}
+use Rattle.queue_tests.specs.Changes.{firstNumber}
 use Rattle.queue_turns.proofs.Numbering.{tables-then}
 use Rattle.queue_turns.proofs.numbers.empty_number.Statement.{statement}
 use Rattle.queue_turns.proofs.numbers.empty_number.Tie as tie
@@ -21,7 +21,7 @@ returns c =
     let q = c .before in
     let t = q .before in
     let a = t .before .before .before .before .args in
-    c .first-of .ensures ∙ (λ i. firstOf (t .check .ensures i) (q .quantum-number .ensures i))
+    c .first-of .ensures ∙ (λ i. firstNumber (t .check .ensures i) (q .quantum-number .ensures i))
     ∙ tables-then (tablesOf (a .rows .now) (a .pos .now) (a .osp .now)) (a .quantum)
 
 pub empty-number-spec : {M : Type 1} → statement M

@@ -7,11 +7,8 @@ use Rattle.queue_turns.proofs.turning.entry_with.Tie as tie
 sub-next : tie.Need-sub-next
 sub-next c = search needs
 
-cast-next : tie.Need-cast-next
-cast-next c = search needs
-
 returns : tie.Need-returns
 returns c = refl
 
 pub entry-with-spec : {M : Type 1} → statement M
-entry-with-spec = tie.close (tie.spec sub-next cast-next returns)
+entry-with-spec = tie.close (tie.spec sub-next returns)

@@ -36,9 +36,25 @@ cast-turn c = search needs
 turn-requires : tie.Need-turn-requires
 turn-requires c κs = search needs
 
+cast-entry-with : tie.Need-cast-entry-with
+cast-entry-with c =
+    let t = c .before .before .before .before in
+    let p = t .before .before .before .before .before in
+    let s = p .before .before .before .before .before .before .before .before in
+    let a = s .args in
+    let i = turnInput (a .rows .now) (a .pos .now) (a .osp .now) (take (p .planned .result) (a .e .plan)) (a .e .state) (a .e .saved) (a .steps)
+    (a .threshold .now)
+    (a .output .now) in
+    let e = t .turn .ensures .0 in
+    let b = bounded i in
+    let g = ap (λ (r : TurnResult). r .answer .saved) e in
+    let l = p .planned .ensures .1 .1 in
+    let k = b .saved in
+    omega arith
+
 entry-with-requires : tie.Need-entry-with-requires
 entry-with-requires c κs =
-    let t = c .before .before .before in
+    let t = c .before .before .before .before in
     let p = t .before .before .before .before .before in
     let s = p .before .before .before .before .before .before .before .before in
     let a = s .args in
@@ -48,17 +64,15 @@ entry-with-requires c κs =
     let e = t .turn .ensures .0 in
     let b = bounded i in
     let f = ap (λ (r : TurnResult). r .answer .steps) e in
-    let g = ap (λ (r : TurnResult). r .answer .saved) e in
-    let l = p .planned .ensures .1 .1 in
-    let h = b .steps in let k = b .saved in let w = s .pre in
-    (omega arith, omega arith)
+    let h = b .steps in let w = s .pre in
+    omega arith
 
 same-length : tie.Need-same-length
 same-length c = search needs
 
 returns : tie.Need-returns
 returns c =
-    let t = c .before .before .before .before in
+    let t = c .before .before .before .before .before in
     let p = t .before .before .before .before .before in
     let a = p .before .before .before .before .before .before .before .before .args in
     let e = t .turn .ensures .0
@@ -75,4 +89,5 @@ pub turn-entry-spec : {M : Type 1} → statement M
 turn-entry-spec =
     tie.close
     (tie.spec
-    planned-requires array-share-prefix-words slice-aggregate-turn slice-aggregate-turn-2 cast-turn turn-requires entry-with-requires same-length returns)
+    planned-requires array-share-prefix-words slice-aggregate-turn slice-aggregate-turn-2 cast-turn turn-requires
+    cast-entry-with entry-with-requires same-length returns)

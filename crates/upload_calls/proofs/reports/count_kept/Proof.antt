@@ -10,27 +10,27 @@ use borrow.Author.Tests.{eq-eqb, ne-eqb, eqb-true, eqb-false}
 use Rattle.words.specs.Sequences.{keep, numbers}
 use Rattle.words.proofs.Keeping.{keep-append, keep-yes, keep-no, keep-nil}
 use Rattle.words.proofs.Numbers.{numbers-none, numbers-next}
-use Rattle.upload_calls.specs.Writing.{keptBy}
+use Rattle.upload_calls.specs.Writing.{isKeptIn}
 use Rattle.upload_calls.proofs.reports.count_kept.Statement.{statement}
 use Rattle.upload_calls.proofs.reports.count_kept.Tie as tie
 
 abbrev Inv-loop : tie.InvT-loop
-Inv-loop fates count kept₀ row₀ kept row = (row ≤ count) × (kept ≤ row) × (kept ≡ length (keep (keptBy fates) (numbers row)))
+Inv-loop fates count kept₀ row₀ kept row = (row ≤ count) × (kept ≤ row) × (kept ≡ length (keep (isKeptIn fates) (numbers row)))
 
 abbrev μ-loop : tie.MeasureT-loop
 μ-loop fates count kept₀ row₀ kept row = count - row
 
 -- one row more
-next-length : (fates : List ℕ) (row : ℕ) → length (keep (keptBy fates) (numbers (row + 1)))
-    ≡ length (keep (keptBy fates) (numbers row)) + length (keep (keptBy fates) (row ∷ []))
+next-length : (fates : List ℕ) (row : ℕ) → length (keep (isKeptIn fates) (numbers (row + 1)))
+    ≡ length (keep (isKeptIn fates) (numbers row)) + length (keep (isKeptIn fates) (row ∷ []))
 next-length fates row =
-    ap (λ ns. length (keep (keptBy fates) ns)) (ap numbers (add-one row) ∙ sym (numbers-next row))
-    ∙ ap length (keep-append (keptBy fates) (numbers row) (row ∷ []))
-    ∙ length-append (keep (keptBy fates) (numbers row)) (keep (keptBy fates) (row ∷ []))
+    ap (λ ns. length (keep (isKeptIn fates) ns)) (ap numbers (add-one row) ∙ sym (numbers-next row))
+    ∙ ap length (keep-append (isKeptIn fates) (numbers row) (row ∷ []))
+    ∙ length-append (keep (isKeptIn fates) (numbers row)) (keep (isKeptIn fates) (row ∷ []))
 
 loop-holds : tie.Need-loop-holds Inv-loop μ-loop
 loop-holds c =
-    let f = keptBy (c .args .fates .now) in
+    let f = isKeptIn (c .args .fates .now) in
     (omega arith, omega arith, ap length (sym (ap (keep f) (sym numbers-none) ∙ keep-nil f)))
 
 shared-slice-read-if1 : tie.Need-shared-slice-read-if1 Inv-loop μ-loop
@@ -52,7 +52,7 @@ loop-again c =
     let e = eq-eqb (getD f (l .loop .row) 0) 0 (c .if1 .taken) in (
       omega arith,
       omega arith,
-      omega (arith, next-length f (l .loop .row), ap length (keep-yes (keptBy f) (l .loop .row) [] e), ap length (keep-nil (keptBy f)), l .loop .inv .2),
+      omega (arith, next-length f (l .loop .row), ap length (keep-yes (isKeptIn f) (l .loop .row) [] e), ap length (keep-nil (isKeptIn f)), l .loop .inv .2),
     )
 
 add-row-2 : tie.Need-add-row-2 Inv-loop μ-loop
@@ -68,14 +68,14 @@ loop-again-2 c =
     let e = ne-eqb (getD f (l .loop .row) 0) 0 (c .if1 .left) in (
       omega arith,
       omega arith,
-      omega (arith, next-length f (l .loop .row), ap length (keep-no (keptBy f) (l .loop .row) [] e), ap length (keep-nil (keptBy f)), l .loop .inv .2),
+      omega (arith, next-length f (l .loop .row), ap length (keep-no (isKeptIn f) (l .loop .row) [] e), ap length (keep-nil (isKeptIn f)), l .loop .inv .2),
     )
 
 returns : tie.Need-returns Inv-loop μ-loop
 returns c =
     let l = c .before in
     let n : l .loop .row ≡ l .before .args .count = omega arith in
-    l .loop .inv .2 ∙ ap (λ k. length (keep (keptBy (l .before .args .fates .now)) (numbers k))) n
+    l .loop .inv .2 ∙ ap (λ k. length (keep (isKeptIn (l .before .args .fates .now)) (numbers k))) n
 
 pub count-kept-spec : {M : Type 1} → statement M
 count-kept-spec =

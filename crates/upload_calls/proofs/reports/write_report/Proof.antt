@@ -10,7 +10,7 @@ use lib.Seq.{paste}
 use borrow.Author.Tests.{eq-eqb, ne-eqb}
 use Rattle.words.specs.Sequences.{numbers, over}
 use Rattle.words.proofs.Numbers.{numbers-none, numbers-next}
-use Rattle.upload_calls.specs.Writing.{written, keptBy, droppedWords}
+use Rattle.upload_calls.specs.Writing.{writtenFor, isKeptIn, droppedWords}
 use Rattle.upload_calls.proofs.Written.{over-more, written-none, written-yes, written-no, numbers-part, grow-whole, grow-count, grow-length}
 use Rattle.upload_calls.proofs.reports.write_report.Statement.{statement}
 use Rattle.upload_calls.proofs.reports.write_report.Tie as tie
@@ -39,40 +39,40 @@ abbrev entry : Loop → List ℕ
 entry l = l .loop .row ∷ getD (fates l) (l .loop .row) 0 ∷ []
 
 -- one row more
-next-yes : (l : Loop) → keptBy (fates l) (l .loop .row) ≡ true → droppedWords (fates l) (l .loop .row + 1) ≡ droppedWords (fates l) (l .loop .row)
+next-yes : (l : Loop) → isKeptIn (fates l) (l .loop .row) ≡ true → droppedWords (fates l) (l .loop .row + 1) ≡ droppedWords (fates l) (l .loop .row)
 next-yes l e =
-    ap (written (λ r. not (keptBy (fates l) r)) (λ r. r ∷ getD (fates l) r 0 ∷ [])) (ap numbers (add-one (l .loop .row))
+    ap (writtenFor (λ r. not (isKeptIn (fates l) r)) (λ r. r ∷ getD (fates l) r 0 ∷ [])) (ap numbers (add-one (l .loop .row))
     ∙ sym (numbers-next (l .loop .row)))
-    ∙ written-no (λ r. not (keptBy (fates l) r)) (λ r. r ∷ getD (fates l) r 0 ∷ []) (numbers (l .loop .row)) (l .loop .row) (rw e)
+    ∙ written-no (λ r. not (isKeptIn (fates l) r)) (λ r. r ∷ getD (fates l) r 0 ∷ []) (numbers (l .loop .row)) (l .loop .row) (rw e)
 
-next-no : (l : Loop) → keptBy (fates l) (l .loop .row) ≡ false
+next-no : (l : Loop) → isKeptIn (fates l) (l .loop .row) ≡ false
     → droppedWords (fates l) (l .loop .row + 1) ≡ droppedWords (fates l) (l .loop .row) ++ entry l
 next-no l e =
-    ap (written (λ r. not (keptBy (fates l) r)) (λ r. r ∷ getD (fates l) r 0 ∷ [])) (ap numbers (add-one (l .loop .row))
+    ap (writtenFor (λ r. not (isKeptIn (fates l) r)) (λ r. r ∷ getD (fates l) r 0 ∷ [])) (ap numbers (add-one (l .loop .row))
     ∙ sym (numbers-next (l .loop .row)))
-    ∙ written-yes (λ r. not (keptBy (fates l) r)) (λ r. r ∷ getD (fates l) r 0 ∷ []) (numbers (l .loop .row)) (l .loop .row) (rw e)
+    ∙ written-yes (λ r. not (isKeptIn (fates l) r)) (λ r. r ∷ getD (fates l) r 0 ∷ []) (numbers (l .loop .row)) (l .loop .row) (rw e)
 
 -- there is room for a row that is dropped
-room : (l : Loop) → l .loop .row < start l .args .count → keptBy (fates l) (l .loop .row) ≡ false
+room : (l : Loop) → l .loop .row < start l .args .count → isKeptIn (fates l) (l .loop .row) ≡ false
     → l .loop .used + 2 ≤ length (droppedWords (fates l) (start l .args .count))
 room l h e =
-    let a = numbers-part (λ r. not (keptBy (fates l) r)) (λ r. r ∷ getD (fates l) r 0 ∷ []) (l .loop .row + 1) (start l .args .count) (omega arith) in
+    let a = numbers-part (λ r. not (isKeptIn (fates l) r)) (λ r. r ∷ getD (fates l) r 0 ∷ []) (l .loop .row + 1) (start l .args .count) (omega arith) in
     let b = ap length (next-no l e) in
     let c = length-append (droppedWords (fates l) (l .loop .row)) (entry l) in
     omega (arith, l .loop .inv .2)
 
-is-kept : (c : tie.Then1 Inv-loop μ-loop) → let l = c .before .before .before in keptBy (fates l) (l .loop .row) ≡ true
+is-kept : (c : tie.Then1 Inv-loop μ-loop) → let l = c .before .before .before in isKeptIn (fates l) (l .loop .row) ≡ true
 is-kept c = eq-eqb _ _ (c .if1 .taken)
 
-not-kept : (c : tie.Else1 Inv-loop μ-loop) → let l = c .before .before .before in keptBy (fates l) (l .loop .row) ≡ false
+not-kept : (c : tie.Else1 Inv-loop μ-loop) → let l = c .before .before .before in isKeptIn (fates l) (l .loop .row) ≡ false
 not-kept c = ne-eqb _ _ (λ e. c .if1 .left e)
 
 loop-holds : tie.Need-loop-holds Inv-loop μ-loop
 loop-holds c =
     let a = c .before .before .args in
     let n : [] ≡ droppedWords (a .fates .now) 0 =
-    written-none (λ r. not (keptBy (a .fates .now) r)) (λ r. r ∷ getD (a .fates .now) r 0 ∷ [])
-    ∙ ap (written (λ r. not (keptBy (a .fates .now) r)) (λ r. r ∷ getD (a .fates .now) r 0 ∷ [])) numbers-none in
+    written-none (λ r. not (isKeptIn (a .fates .now) r)) (λ r. r ∷ getD (a .fates .now) r 0 ∷ [])
+    ∙ ap (writtenFor (λ r. not (isKeptIn (a .fates .now) r)) (λ r. r ∷ getD (a .fates .now) r 0 ∷ [])) numbers-none in
     (omega arith, refl, ap length n, omega arith, ap (λ ws. over ws (a .report .now)) n)
 
 shared-slice-read-fate : tie.Need-shared-slice-read-fate Inv-loop μ-loop

@@ -15,7 +15,7 @@ use Rattle.tables.specs.Tables.{columnCount, fieldsOf}
 use Rattle.tables.proofs.Columns.{fields-length}
 use Rattle.tables.specs.RowLists.{inRows}
 use Rattle.uploads.specs.Uploads.{uploadCount}
-use Rattle.upload_calls.specs.Writing.{written, keptBy, keptWords}
+use Rattle.upload_calls.specs.Writing.{writtenFor, isKeptIn, keptWords}
 use Rattle.upload_calls.proofs.Written.{over-more, written-none, written-yes, written-no, written-part, grow-whole, grow-count, grow-length}
 use Rattle.upload_calls.proofs.rows.write_rows.Statement.{statement}
 use Rattle.upload_calls.proofs.rows.write_rows.Tie as tie
@@ -56,21 +56,21 @@ judged l h = omega (arith, named l h, start l .pre .1 .0)
 next-place : (l : Loop) → l .loop .place < length (list l) → take (l .loop .place + 1) (list l) ≡ take (l .loop .place) (list l) ++ (row l ∷ [])
 next-place l h = rw (add-one (l .loop .place)) (take-suc (list l) (l .loop .place) 0 h)
 
-next-yes : (l : Loop) → l .loop .place < length (list l) → keptBy (start l .args .fates .now) (row l) ≡ true
+next-yes : (l : Loop) → l .loop .place < length (list l) → isKeptIn (start l .args .fates .now) (row l) ≡ true
     → wordsOf l (take (l .loop .place + 1) (list l)) ≡ wordsOf l (take (l .loop .place) (list l)) ++ fieldsOf Spo (start l .args .upload .now) (row l)
 next-yes l h e = ap (wordsOf l) (next-place l h)
-    ∙ written-yes (keptBy (start l .args .fates .now)) (fieldsOf Spo (start l .args .upload .now)) (take (l .loop .place) (list l)) (row l) e
+    ∙ written-yes (isKeptIn (start l .args .fates .now)) (fieldsOf Spo (start l .args .upload .now)) (take (l .loop .place) (list l)) (row l) e
 
-next-no : (l : Loop) → l .loop .place < length (list l) → keptBy (start l .args .fates .now) (row l) ≡ false
+next-no : (l : Loop) → l .loop .place < length (list l) → isKeptIn (start l .args .fates .now) (row l) ≡ false
     → wordsOf l (take (l .loop .place + 1) (list l)) ≡ wordsOf l (take (l .loop .place) (list l))
 next-no l h e = ap (wordsOf l) (next-place l h)
-    ∙ written-no (keptBy (start l .args .fates .now)) (fieldsOf Spo (start l .args .upload .now)) (take (l .loop .place) (list l)) (row l) e
+    ∙ written-no (isKeptIn (start l .args .fates .now)) (fieldsOf Spo (start l .args .upload .now)) (take (l .loop .place) (list l)) (row l) e
 
 -- there is room for a row that is kept
-room : (l : Loop) → l .loop .place < length (list l) → keptBy (start l .args .fates .now) (row l) ≡ true
+room : (l : Loop) → l .loop .place < length (list l) → isKeptIn (start l .args .fates .now) (row l) ≡ true
     → l .loop .used + columnCount ≤ length (wordsOf l (list l))
 room l h e =
-    let a = written-part (keptBy (start l .args .fates .now)) (fieldsOf Spo (start l .args .upload .now)) (l .loop .place + 1) (list l) in
+    let a = written-part (isKeptIn (start l .args .fates .now)) (fieldsOf Spo (start l .args .upload .now)) (l .loop .place + 1) (list l) in
     let b = ap length (next-yes l h e) in
     let c = length-append (wordsOf l (take (l .loop .place) (list l))) (fieldsOf Spo (start l .args .upload .now) (row l)) in
     let d = fields-length Spo (start l .args .upload .now) (row l) in
@@ -86,16 +86,16 @@ loopOf k = k .before .before .before .before
 fate-is : (k : AtTest) → let l = loopOf k in getD (start l .args .fates .now) (k .before .wide .result) 0 ≡ getD (start l .args .fates .now) (row l) 0
 fate-is k = let l = loopOf k in ap (λ r. getD (start l .args .fates .now) r 0) (k .before .wide .ensures)
 
-is-kept : (c : tie.Then1 Inv-loop μ-loop) → let l = loopOf (c .before) in keptBy (start l .args .fates .now) (row l) ≡ true
+is-kept : (c : tie.Then1 Inv-loop μ-loop) → let l = loopOf (c .before) in isKeptIn (start l .args .fates .now) (row l) ≡ true
 is-kept c = eq-eqb _ _ (sym (fate-is (c .before)) ∙ c .if1 .taken)
 
-not-kept : (c : tie.Else1 Inv-loop μ-loop) → let l = loopOf (c .before) in keptBy (start l .args .fates .now) (row l) ≡ false
+not-kept : (c : tie.Else1 Inv-loop μ-loop) → let l = loopOf (c .before) in isKeptIn (start l .args .fates .now) (row l) ≡ false
 not-kept c = ne-eqb _ _ (λ e. c .if1 .left (fate-is (c .before) ∙ e))
 
 loop-holds : tie.Need-loop-holds Inv-loop μ-loop
 loop-holds c =
     let a = c .before .before .before .before .args in
-    let n = written-none (keptBy (a .fates .now)) (fieldsOf Spo (a .upload .now)) in
+    let n = written-none (isKeptIn (a .fates .now)) (fieldsOf Spo (a .upload .now)) in
     (omega arith, refl, ap length n, omega arith, ap (λ ws. over ws (a .rows .now)) n)
 
 mul-row : tie.Need-mul-row Inv-loop μ-loop
