@@ -1,5 +1,5 @@
-/* Times the proved engine, the same step machine in C, the portable engine and SQLite on one wood, in turns, and prints the best time of
- * each in nanoseconds, a line a measure: name, steps, engine, C, SQLite, portable ('-': it has nothing like it, or is not there). The
+/* Times the proved engine, the same step machine in C, the portable engine and SQLite on three woods, in turns, and prints the best time of
+ * each in nanoseconds, a line a measure: wood, name, steps, engine, C, SQLite, portable ('-': it has nothing like it, or is not there). The
  * engines' and the C machine's steps and lists are compared word by word; SQLite's rows by their number, and but for ties in a best-of
  * list by the sum of their fields. Where tables are made of an upload, C++ by std::stable_sort stands in the C machine's place (tables.cpp),
  * and what is made is compared word by word. Compiled with -DPORTABLE_THERE it takes the portable engine's calls by names of their own. */
@@ -37,14 +37,31 @@ static double now(void)
     return (double)t.tv_sec * 1e9 + (double)t.tv_nsec;
 }
 
-/* ---- the wood: 32,768 stems with a stand and a diameter, drawn from a seed */
+/* ---- the woods: 32,768 stems with a stand and a diameter, drawn from a seed. They differ in the stems' names alone, and not in the names'
+ * order, so that steps and answers are alike: without gaps; with a gap of up to 1,000 before each; or the last eighth of them far off. */
 
-static uint32_t seed = 1;
+enum wood { DENSE, GAPS, FAR, WOODS };
+
+static const char *const WOOD[WOODS] = {"dense", "gaps", "far cluster"};
+
+static uint32_t seed, gap_seed;
+
+static uint32_t draw_from(uint32_t *s)
+{
+    *s = 1664525u * *s + 1013904223u;
+    return *s / 65536;
+}
 
 static uint32_t draw(void)
 {
-    seed = 1664525u * seed + 1013904223u;
-    return seed / 65536;
+    return draw_from(&seed);
+}
+
+static uint32_t next_name(enum wood wood, uint32_t last, uint32_t j)
+{
+    if (wood == GAPS)
+        return last + 1 + draw_from(&gap_seed) % 1000;
+    return last + (wood == FAR && j == STEMS / 8 * 7 ? 900000000 : 1);
 }
 
 static int order; /* the first column of the order that is sorted by */
@@ -60,11 +77,14 @@ static int by_order(const void *a, const void *b)
     return 0;
 }
 
-static void grow(void)
+static void grow(enum wood wood)
 {
+    uint32_t name = 999999;
+    seed = gap_seed = 1;
     for (uint32_t j = 0; j < STEMS; j++) {
         uint32_t stand = draw() % 20, diameter = draw() % 600;
-        uint32_t two[6] = {N(1000000 + j), N(10), N(100 + stand), N(1000000 + j), N(12), I(20 + diameter)};
+        name = next_name(wood, name, j);
+        uint32_t two[6] = {N(name), N(10), N(100 + stand), N(name), N(12), I(20 + diameter)};
         memcpy(rows + 6 * j, two, sizeof two);
     }
     for (uint32_t i = 0; i < COUNT; i++)
@@ -93,9 +113,9 @@ static sqlite3_stmt *prepare(const char *text)
 
 static void fill(void)
 {
-    if (sqlite3_open(":memory:", &db) != SQLITE_OK)
+    if (!db && sqlite3_open(":memory:", &db) != SQLITE_OK)
         fail("no database");
-    sql("create table t(s integer, p integer, o integer); begin");
+    sql("drop table if exists t; create table t(s integer, p integer, o integer); begin");
     sqlite3_stmt *s = prepare("insert into t values (?, ?, ?)");
     for (uint32_t i = 0; i < COUNT; i++) {
         for (int c = 0; c < 3; c++)
@@ -451,6 +471,8 @@ static void same_made(enum who w, const char *what)
 
 /* ---- one measure, in turns; the best of each */
 
+static const char *of = "-"; /* the wood that is measured */
+
 typedef double (*timer)(enum who, const struct query *, uint32_t);
 
 static void same_as(const struct result *a, const struct result *b, const char *what)
@@ -502,7 +524,7 @@ static void measure(const char *name, timer f, const struct query *q, uint32_t q
             if (t < best[w])
                 best[w] = t;
         }
-    printf("%s\t%u\t%.0f\t%.0f\t", name, f == time_turn || f == time_pairs ? results[0].turned.steps : 0, best[ENGINE], best[PEER]);
+    printf("%s\t%s\t%u\t%.0f\t%.0f\t", of, name, f == time_turn || f == time_pairs ? results[0].turned.steps : 0, best[ENGINE], best[PEER]);
     if (f != time_make)
         printf("%.0f\t", best[SQLITE]);
     else
@@ -548,27 +570,35 @@ static void measure_early(void)
         if (t < best)
             best = t;
     }
-    printf("top 10, SQLite by its index\t0\t-\t-\t%.0f\t-\n", best);
+    printf("%s\ttop 10, SQLite by its index\t0\t-\t-\t%.0f\t-\n", of, best);
+}
+
+static void measure_wood(enum wood wood)
+{
+    of = WOOD[wood];
+    grow(wood);
+    fill();
+    measure("check of 65,536 rows", time_check, 0, 0);
+    measure("opening", time_open, &whole, 0);
+    measure_turn(one_stand.name, &one_stand, 1000000, 831);
+    measure_turn(whole.name, &whole, 1000000, STEMS);
+    measure_turn(top.name, &top, 1000000, 10);
+    if (wood == DENSE)
+        measure_early();
+    measure_turn(groups.name, &groups, 1000000, 20);
+    measure_turn("turn of 1 step", &whole, 1, 1);
+    measure_turn("turn of 1,000 steps", &whole, 1000, 333);
+    measure_turn("turn of 1,000,000 steps", &pairs, 1000000, 20);
+    of = "-";
 }
 
 int main(int count, char **words)
 {
     if (count > 1)
         seconds = atof(words[1]);
-    grow();
-    fill();
+    measure_wood(DENSE);
     make_lists();
     fill_lists();
-    measure("check of 65,536 rows", time_check, 0, 0);
-    measure("opening", time_open, &whole, 0);
-    measure_turn(one_stand.name, &one_stand, 1000000, 831);
-    measure_turn(whole.name, &whole, 1000000, STEMS);
-    measure_turn(top.name, &top, 1000000, 10);
-    measure_early();
-    measure_turn(groups.name, &groups, 1000000, 20);
-    measure_turn("turn of 1 step", &whole, 1, 1);
-    measure_turn("turn of 1,000 steps", &whole, 1000, 333);
-    measure_turn("turn of 1,000,000 steps", &pairs, 1000000, 20);
     measure("merge of two lists of the best 64", time_merge_best, &best_merge, 0);
     same_merged(3 * BEST);
     measure("merge of 10,000 groups into 10,000", time_merge_groups, &groups, 0);
@@ -576,5 +606,7 @@ int main(int count, char **words)
     measure_make("tables of 65,536 rows, shuffled", upload_shuffled, COUNT);
     measure_make("tables of 65,536 rows, sorted before", upload_sorted, COUNT);
     measure_make("tables of 65,536 rows, a fourth dropped", upload_walk, COUNT - COUNT / 4);
+    measure_wood(GAPS);
+    measure_wood(FAR);
     return 0;
 }

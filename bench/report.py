@@ -2,8 +2,8 @@
 import math
 import sys
 
-TARGET, MAKING_TARGET = 1.5, 1.3
-MAKING = 'tables of '               # measures that begin so are of making tables: C++ stands beside them
+TARGETS = {'tables of ': 1.3, 'merge of ': 1.5, '': 1.0}  # times C, by how a measure's name begins; C++ where tables are made
+FIRST, OTHERS = 'dense', ('gaps', 'far cluster')          # woods
 ONE = 'turn of 1 step'
 BEGIN, END = '<!-- measured: begin -->\n', '<!-- measured: end -->\n'
 
@@ -13,10 +13,14 @@ def number(text):
 
 
 def read(path):
-    """A list of (name, steps, engine, C, SQLite, portable), in nanoseconds, None where there is nothing."""
+    """For each wood a list of (name, steps, engine, C, SQLite, portable), in nanoseconds, None where there is nothing. What is of no wood
+    stands with the first."""
+    woods = {}
     with open(path) as f:
-        lines = [line.rstrip('\n').split('\t') for line in f]
-    return [(name, int(steps), *map(number, times)) for name, steps, *times in lines]
+        for line in f:
+            wood, name, steps, *times = line.rstrip('\n').split('\t')
+            woods.setdefault(FIRST if wood == '-' else wood, []).append((name, int(steps), *map(number, times)))
+    return woods
 
 
 def span(ns):
@@ -36,18 +40,39 @@ def a_step(ns, one, steps):
     return (ns - one) / (steps - 1)
 
 
-def table(found):
+def steps_alone(found, measure):
+    """Nanoseconds a step of the engine and of C; none where the steps are too few to tell."""
     one = next(m for m in found if m[0] == ONE)
+    _, steps, e, c, *_ = measure
+    return (a_step(e, one[2], steps), a_step(c, one[3], steps)) if steps >= 1000 else None
+
+
+def table(found):
     lines = ['| measure | steps | Sotjarn | C, C++ -O2 | SQLite | Sotjarn / C | SQLite / Sotjarn | ns a step: Sotjarn, C | steps alone / C '
              '| portable | portable / Sotjarn |',
              '|---|---|---|---|---|---|---|---|---|---|---|']
-    for name, steps, e, c, s, p in found:
+    for measure in found:
+        name, steps, e, c, s, p = measure
         each = alone = '–'
-        if steps >= 1000:
-            a, b = a_step(e, one[2], steps), a_step(c, one[3], steps)
+        if steps_alone(found, measure):
+            a, b = steps_alone(found, measure)
             each, alone = f'{a:.0f}, {b:.0f}', f'{a / b:.2f}'
         lines.append(f'| {name} | {f"{steps:,}" if steps else "–"} | {span(e)} | {span(c)} | {span(s)} | {ratio(e, c)} | {ratio(s, e)} '
                      f'| {each} | {alone} | {span(p)} | {ratio(p, e)} |')
+    return '\n'.join(lines) + '\n'
+
+
+def other_woods(woods):
+    """The same queries on the other woods, a line a measure."""
+    lines = ['| measure | ' + ' | '.join(f'{w}: Sotjarn, C, SQLite | Sotjarn / C | SQLite / Sotjarn | steps alone / C' for w in OTHERS) + ' |',
+             '|---|' + '---|---|---|---|' * len(OTHERS)]
+    for beside in zip(*(woods[w] for w in OTHERS)):
+        cells = [beside[0][0]]
+        for w, measure in zip(OTHERS, beside):
+            _, _, e, c, s, _ = measure
+            alone = steps_alone(woods[w], measure)
+            cells += [f'{span(e)}, {span(c)}, {span(s)}', ratio(e, c), ratio(s, e), ratio(*alone) if alone else '–']
+        lines.append('| ' + ' | '.join(cells) + ' |')
     return '\n'.join(lines) + '\n'
 
 
@@ -57,9 +82,9 @@ def machine():
     return f'{models[0]}, {len(models)} cores' if models else 'unknown'
 
 
-def plot(found):
-    """Times as multiples of the C step machine's, or of C++'s, on a logarithmic scale."""
-    found = [m for m in found if m[2] is not None and m[3] is not None]
+def plot(woods):
+    """Times as multiples of the C step machine's, or of C++'s, on a logarithmic scale; the engine's on the other woods as rings."""
+    found = [m for m in woods[FIRST] if m[2] is not None and m[3] is not None]
     left, right, top, row = 250, 40, 40, 26
     width, height = 860, top + row * len(found) + 60
     beside = [m[4] / m[3] for m in found if m[4] is not None]
@@ -75,34 +100,40 @@ def plot(found):
         at = x(10 ** power)
         out.append(f'<line x1="{at:.1f}" y1="{top}" x2="{at:.1f}" y2="{bottom}" stroke="#ddd"/>')
         out.append(f'<text x="{at:.1f}" y="{bottom + 18}" text-anchor="middle">{10 ** power:g}</text>')
-    for value, colour, dash in ((1, '#444', ''), (TARGET, '#b00', ' stroke-dasharray="4 3"')):
-        out.append(f'<line x1="{x(value):.1f}" y1="{top}" x2="{x(value):.1f}" y2="{bottom}" stroke="{colour}"{dash}/>')
+    out.append(f'<line x1="{x(1):.1f}" y1="{top}" x2="{x(1):.1f}" y2="{bottom}" stroke="#444"/>')
     for i, (name, steps, e, c, s, _) in enumerate(found):
         y = top + row * i + row / 2
         out.append(f'<text x="{left - 12}" y="{y + 4:.1f}" text-anchor="end">{name}</text>')
         if s is not None:
             out.append(f'<rect x="{x(s / c) - 4:.1f}" y="{y - 4:.1f}" width="8" height="8" fill="#c80"/>')
+        for other in (m for w in OTHERS for m in woods[w] if m[0] == name):
+            out.append(f'<circle cx="{x(other[2] / other[3]):.1f}" cy="{y:.1f}" r="7" fill="none" stroke="#7b9"/>')
         out.append(f'<circle cx="{x(e / c):.1f}" cy="{y:.1f}" r="5" fill="#275"/>')
     out.append(f'<circle cx="{left}" cy="18" r="5" fill="#275"/><text x="{left + 10}" y="22">Sotjarn</text>')
-    out.append(f'<rect x="{left + 86}" y="14" width="8" height="8" fill="#c80"/><text x="{left + 100}" y="22">SQLite</text>')
-    out.append(f'<text x="{left + 170}" y="22" fill="#444">line: C (tables: C++) -O2; dashed: {TARGET} times its time</text>')
+    out.append(f'<circle cx="{left + 76}" cy="18" r="7" fill="none" stroke="#7b9"/><text x="{left + 88}" y="22">on the other woods</text>')
+    out.append(f'<rect x="{left + 210}" y="14" width="8" height="8" fill="#c80"/><text x="{left + 224}" y="22">SQLite</text>')
+    out.append(f'<text x="{left + 290}" y="22" fill="#444">line: C (tables: C++) -O2</text>')
     out.append(f'<text x="{(left + width - right) / 2}" y="{bottom + 42}" text-anchor="middle">'
                'time, as a multiple of that in C or C++ (less is faster)</text></svg>')
     return '\n'.join(out) + '\n'
 
 
 def target(name):
-    return MAKING_TARGET if name.startswith(MAKING) else TARGET
+    return next(most for begin, most in TARGETS.items() if name.startswith(begin))
 
 
-def missed(found):
+def missed(wood, found):
     """What does not meet a target, in words."""
-    one = next(m for m in found if m[0] == ONE)
-    lines = [f'{name}: {e / c:.2f} times that in C or C++' for name, _, e, c, _, _ in found if e and c and e > target(name) * c]
-    for name, steps, e, c, _, _ in found:
-        if steps >= 1000 and a_step(e, one[2], steps) > TARGET * a_step(c, one[3], steps):
-            lines.append(f'{name}: its steps alone are over {TARGET} times those of the C step machine')
-    lines += [f'{name}: SQLite is ahead, {span(s)} against {span(e)}' for name, _, e, _, s, _ in found if e and s and s < e]
+    lines = []
+    for measure in found:
+        name, _, e, c, s, _ = measure
+        alone = steps_alone(found, measure)
+        if e and c and e > target(name) * c:
+            lines.append(f'{wood}, {name}: {e / c:.2f} times that in C or C++')
+        if alone and alone[0] > target(name) * alone[1]:
+            lines.append(f'{wood}, {name}: its steps alone are {alone[0] / alone[1]:.2f} times those of the C step machine')
+        if e and s and s < e:
+            lines.append(f'{wood}, {name}: SQLite is ahead, {span(s)} against {span(e)}')
     return lines
 
 
@@ -118,19 +149,20 @@ def put_into(path, text):
 def main(words):
     docs = words[:1] == ['--docs']
     folder = words[-1]
-    found = read(f'{folder}/results.tsv')
-    text = f'Processor: {machine()}.\n\n' + table(found)
-    for path, content in ((f'{folder}/table.md', text), (f'{folder}/plot.svg', plot(found))):
+    woods = read(f'{folder}/results.tsv')
+    text = f'Processor: {machine()}.\n\nDense:\n\n{table(woods[FIRST])}\nThe other woods:\n\n{other_woods(woods)}'
+    for path, content in ((f'{folder}/table.md', text), (f'{folder}/plot.svg', plot(woods))):
         with open(path, 'w') as f:
             f.write(content)
     print()
     print(text)
-    for line in missed(found):
-        print(line)
+    for wood, found in woods.items():
+        for line in missed(wood, found):
+            print(line)
     if docs:
         put_into('docs/PERFORMANCE.md', text)
         with open('docs/performance.svg', 'w') as f:
-            f.write(plot(found))
+            f.write(plot(woods))
 
 
 main(sys.argv[1:])

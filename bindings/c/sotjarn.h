@@ -28,7 +28,7 @@ extern "C" {
 #endif
 
 /* The version of this header, which is that of the libraries made beside it. */
-#define SOTJARN_VERSION "0.6.0"
+#define SOTJARN_VERSION "0.7.0"
 
 /* How a turn ended. */
 enum {

@@ -8,6 +8,8 @@ use conditions::negation;
 use plans::MOST_DEPTH;
 use plans::Node;
 ghost use mathlib.Core.Path.{_≡_};
+ghost use mathlib.Core.Bool.{true};
+ghost use Rattle.words.specs.Bindings.{Bindings};
 ghost use Rattle.plans.specs.Conditions.{readCondition, mostDepth};
 ghost use Rattle.conditions.specs.Values.{valueAt, keepsAt};
 
@@ -55,10 +57,30 @@ pub fn evaluate(p: &[u32], left: u32, bound: &[u32; 16]) -> Value
     }
 }
 
+// Whether the condition at the start of p is the one that keeps every row: most plans have it.
+fn always(p: &[u32]) -> bool
+    ensures { λ r. ⌜ (r ≡ true → (b : Bindings) → keepsAt b (readCondition mostDepth (now (p .entry))) ≡ true) ⌝ }
+{
+    if p.len() == 0 {
+        return false;
+    }
+    let word = p[0];
+    match plans::node_of(word) {
+        Node::Wrong => false,
+        Node::Always => true,
+        Node::Compared => false,
+        Node::Negated => false,
+        Node::Pair => false,
+    }
+}
+
 // Whether the condition at the start of p is true: only then is a row kept.
 pub fn keeps(p: &[u32], bound: &[u32; 16]) -> bool
     ensures { λ r. ⌜ r ≡ keepsAt (now (bound .entry)) (readCondition mostDepth (now (p .entry))) ⌝ }
 {
+    if always(p) {
+        return true;
+    }
     match evaluate(p, MOST_DEPTH, bound) {
         Value::Unread => false,
         Value::Is { truth, words } => is_true(truth),

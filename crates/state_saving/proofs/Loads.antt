@@ -13,18 +13,20 @@ use Rattle.words.specs.Words.{kind, positionKind, branchOf, depthOf}
 use Rattle.words.specs.Bindings.{Bindings}
 use Rattle.words.specs.Tests.{firstFailing}
 use Rattle.words.proofs.Booleans.{and-left, and-right}
+use Rattle.tables.specs.declared.Place.{Place}
 use Rattle.tables.specs.Tables.{Tables}
+use Rattle.tables.specs.Ranges.{rangeEnd}
 use Rattle.plans.specs.Branches.{mostPatterns, readBranch}
 use Rattle.plans.specs.Plans.{Plan, readPlan, hasForm, planOf, branchAt}
 use Rattle.plans.specs.Reading.{Gives}
 use Rattle.steps.specs.declared.Fields.{Fields}
-use Rattle.steps.specs.Levels.{hasLevel, fieldsFixed, bindings, Inside}
+use Rattle.steps.specs.Levels.{hasLevel, fieldsFixed, levelPrefix, bindings, under, Inside}
 use Rattle.steps.specs.Steps.{State, stateRight}
 use Rattle.steps.specs.Saved.{positionRight, shapeRight, stateIn, placesRight}
 use Rattle.step_cursors.specs.declared.Cursor.{Cursor}
-use Rattle.step_cursors.specs.Held.{upperOf, stateOf, currentBranch, BeginsAt, Held}
+use Rattle.step_cursors.specs.Held.{upperOf, stateOf, currentBranch, BeginsAt, Held, EndsAbove, EndsHeld}
 use Rattle.step_cursors.proofs.Agreement.{agrees-refl}
-use Rattle.step_cursors.proofs.Cursors.{bound-length, level-inside, level-few}
+use Rattle.step_cursors.proofs.Cursors.{upper-length, bound-length, level-inside, level-few}
 use Rattle.state_saving.specs.Loading.{Whole, stateRefusal}
 
 -- ---- the number of the first test that fails
@@ -80,6 +82,20 @@ pub begins : (plan part : List ℕ) (i j n at : ℕ) → part ≡ drop n plan �
 begins plan part i j n at e g p a = rw (a, e, drop-back plan n, ← e, ← p) g
 
 -- ---- the cursor read from words that pass test 9
+-- with the fixed fields of its last level, and the ends of all
+abbrev pub withEnds : Cursor → Fields → Place → List Place → Cursor
+withEnds c f end ends =
+    record {
+      branch = c .branch;
+      at = c .at;
+      level = c .level;
+      place = c .place;
+      end = end;
+      upper = c .upper;
+      ends = ends;
+      fields = f;
+    }
+
 module _ (plan ws : List ℕ) (planned : hasForm (readPlan plan) ≡ true) (shape : shapeRight (planOf plan) ws ≡ true) where
   abbrev q : Plan
   q = planOf plan
@@ -114,6 +130,14 @@ module _ (plan ws : List ℕ) (planned : hasForm (readPlan plan) ≡ true) (shap
       level-few plan planned (c .branch) (c .level) in-plan has-level,
     )
 
+    -- the ends that its walk found
+    pub loads-ends : (t : Tables) (b : Bindings) → b ≡ bindings t terms (upperOf (c .upper) (c .level))
+        → (f : Fields) (end : Place) (ends : List Place) → end .0 ≡ rangeEnd t (levelPrefix terms (c .level) b) → length ends ≡ mostPatterns
+        → EndsAbove t terms (c .upper) ends (c .level) → EndsHeld t (currentBranch plan (withEnds c f end ends) .terms) (withEnds c f end ends)
+    loads-ends t b eb f end ends last room above =
+        let x : levelPrefix terms (c .level) b ≡ under t terms (upperOf (c .upper) (c .level)) = rw (upper-length (c .upper) (c .level), eb) in
+        rw (← terms-are) (record { room = room; last = last ∙ ap (rangeEnd t) x; above = above })
+
     module _ (t : Tables) (r : Bool) (er : r ≡ stateRight t terms (stateOf c)) where
       places-are : placesRight t q ws ≡ r
       places-are =
@@ -129,9 +153,8 @@ module _ (plan ws : List ℕ) (planned : hasForm (readPlan plan) ≡ true) (shap
 
       pub loads-held : r ≡ true → BeginsAt plan (branchOf (getD ws 0 0)) (c .at) → length (c .upper) ≡ mostPatterns
           → (b : Bindings) → b ≡ bindings t terms (upperOf (c .upper) (c .level))
-          → (f : Fields) → f ≡ fieldsFixed terms (c .level) b
-          → Held t plan (record { branch = c .branch; at = c .at; level = c .level; place = c .place; upper = c .upper; fields = f }) b
-      loads-held h a l b eb f ef =
+          → (f : Fields) → f ≡ fieldsFixed terms (c .level) b → (end : Place) (ends : List Place) → Held t plan (withEnds c f end ends) b
+      loads-held h a l b eb f ef end ends =
           record {
             planned = planned;
             branch = in-plan;

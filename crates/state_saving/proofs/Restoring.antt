@@ -1,19 +1,18 @@
 -- A cursor read from a state's words, and its last place tested: laws that the code's loading goes by.
-use Prim.Native.Nat.{ℕ, _+_, _-_, _<_}
+use Prim.Native.Nat.{ℕ, _+_, _-_, _≤_, _<_}
 use native.Mathlib.Omega.{arith}
 use native.Mathlib.Numerals.{add-one}
 use mathlib.Core.Path.{_≡_, refl, sym, _∙_, ap, ap₂}
-use mathlib.Core.Bool.{Bool, true, false}
+use mathlib.Core.Bool.{false}
 use mathlib.Core.List.{List, _∷_}
-use lib.Dec.{ltb, leb}
+use lib.Dec.{leb}
 use lib.ListN.{length, getD, set}
-use borrow.Author.Tests.{lt-ltb, le-ltb, le-leb, lt-leb, leb-true, leb-false}
+use borrow.Author.Tests.{le-leb, lt-leb}
 use Rattle.words.specs.Words.{low, depthOf, branchOf}
 use Rattle.tables.specs.declared.Place.{Place}
 use Rattle.tables.specs.declared.Prefix.{Prefix}
 use Rattle.tables.specs.Tables.{Tables}
-use Rattle.tables.specs.Ranges.{rangeStart, rangeEnd, inRange}
-use Rattle.tables.proofs.Ranges.{start-le-end}
+use Rattle.tables.specs.Ranges.{rangeStart, rangeEnd}
 use Rattle.steps.specs.Saved.{upperIn, stateIn}
 use Rattle.step_cursors.specs.declared.Cursor.{Cursor}
 use Rattle.step_cursors.specs.Held.{upperOf, stateOf}
@@ -50,16 +49,6 @@ module _ (t : Tables) (x : Prefix) (place : ℕ) where
   pub before-start : place < rangeStart t x → upToEnd t x place ≡ false
   before-start h = rw (lt-leb (rangeStart t x) place h)
 
-  pub at-start : place ≡ rangeStart t x → upToEnd t x place ≡ true
-  at-start h =
-      let l = start-le-end t x in
-      rw (le-leb (rangeStart t x) place (omega arith), le-leb place (rangeEnd t x) (omega arith))
-
-  -- past the first place, the place before is in the range
-  pub past-start : rangeStart t x < place → inRange t x (place - 1) ≡ upToEnd t x place
-  unfolding inRange
-  past-start h = rw (le-leb (rangeStart t x) place (omega arith), le-leb (rangeStart t x) (place - 1) (omega arith)) (go (leb place (rangeEnd t x)) refl)
-    where
-      go : (b : Bool) → leb place (rangeEnd t x) ≡ b → ltb (place - 1) (rangeEnd t x) ≡ leb place (rangeEnd t x)
-      go true e = let l = leb-true place (rangeEnd t x) e in lt-ltb (place - 1) (rangeEnd t x) (omega arith) ∙ sym e
-      go false e = let l = leb-false place (rangeEnd t x) e in le-ltb (place - 1) (rangeEnd t x) (omega arith) ∙ sym e
+  -- from the first place on, the end decides
+  pub from-start : rangeStart t x ≤ place → (end : ℕ) → end ≡ rangeEnd t x → leb place end ≡ upToEnd t x place
+  from-start h end e = rw (le-leb (rangeStart t x) place h, e)

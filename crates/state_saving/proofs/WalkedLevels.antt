@@ -6,19 +6,21 @@ use native.Mathlib.Decide.{decLt}
 use mathlib.Core.Path.{_≡_, refl, sym, _∙_, ap}
 use mathlib.Core.Bool.{Bool, true, false, _&&_}
 use mathlib.Core.List.{List, _∷_}
-use lib.ListN.{length}
+use lib.Dec.{eqb}
+use lib.ListN.{length, set}
+use borrow.Author.Tests.{eqb-true, eqb-false}
 use Rattle.words.specs.Bindings.{Bindings, nothingBound}
 use Rattle.words.proofs.Booleans.{and-left, and-right}
 use Rattle.tables.specs.declared.Place.{Place}
 use Rattle.tables.specs.Tables.{Tables}
-use Rattle.tables.specs.Ranges.{inRange}
+use Rattle.tables.specs.Ranges.{rangeEnd, inRange}
 use Rattle.steps.specs.Levels.{levelPrefix, passes, bindPlace, bindings, under}
 use Rattle.steps.specs.Steps.{upperRight, stateRight}
 use Rattle.step_levels.specs.Showing.{shownAt, boundAfter}
 use Rattle.step_cursors.specs.declared.Cursor.{Cursor}
 use Rattle.step_cursors.specs.Carried.{placeAt}
-use Rattle.step_cursors.specs.Held.{upperOf, stateOf}
-use Rattle.step_cursors.proofs.Cursors.{upper-length, upper-next}
+use Rattle.step_cursors.specs.Held.{upperOf, stateOf, EndsAbove}
+use Rattle.step_cursors.proofs.Cursors.{upper-length, upper-next, place-set, place-other}
 use Rattle.state_saving.specs.Loading.{upToEnd}
 
 module _ (t : Tables) (terms : List ℕ) where
@@ -73,6 +75,22 @@ module _ (t : Tables) (terms : List ℕ) where
                 ∙ sym (ap (bindings t terms) (upper-next places level) ∙ bindings-next (placeAt places level) (upperOf places level)
                 ∙ rw (upper-length places level, w .bound));
           }
+
+      -- what the level selects, with the values that the array holds
+      pub walked-prefix : levelPrefix terms level b ≡ under t terms (upperOf places level)
+      walked-prefix = rw (upper-length places level, w .bound)
+
+      -- its end, set beside those of the levels above it
+      pub ends-next : (ends : List Place) (e : Place) → level < length ends → e .0 ≡ rangeEnd t (levelPrefix terms level b)
+          → EndsAbove t terms places ends level → EndsAbove t terms places (set ends level e) (level + 1)
+      ends-next ends e room found k l h = go (eqb l level) refl
+        where
+          go : (here : Bool) → eqb l level ≡ here → placeAt (set ends level e) l ≡ rangeEnd t (under t terms (upperOf places l))
+          go true q = rw (eqb-true l level q) (place-set ends level e room ∙ found ∙ ap (rangeEnd t) walked-prefix)
+          go false q =
+              let n = eqb-false l level q in
+              let g : l < level = omega arith in
+              place-other ends level e l g ∙ k l g
 
       -- a level that fails: the places of any level below it fail
       pub walked-fails : levelRight level b ≡ false → (n : ℕ) → level < n → upperRight t terms (upperOf places n) ≡ false

@@ -15,7 +15,7 @@ ghost use Rattle.tables.specs.Right.{Right};
 ghost use Rattle.plans.specs.Endings.{endingForm, endingAt};
 ghost use Rattle.plans.specs.Plans.{readPlan, hasForm, planOf, planTests};
 ghost use Rattle.steps.specs.Saved.{stateIn, leastStateWords, shapeRight, placesRight};
-ghost use Rattle.step_cursors.specs.Held.{stateOf, Held};
+ghost use Rattle.step_cursors.specs.Held.{stateOf, currentBranch, Held, EndsHeld};
 ghost use Rattle.lists.specs.Gathering.{leastOutput, thresholdRight};
 ghost use Rattle.turns.specs.Turns.{mostSteps, turnTests, turnInput};
 ghost use Rattle.turn_tests.specs.Testing.{sizeNumber, lateNumber};
@@ -87,6 +87,8 @@ fn load(
         (thresholdRight (planOf (now (plan .entry)) .ending) (now (threshold .entry))) ⌝ }
     ensures { λ r. ⌜ (r .refused ≡ 0 → (stateOf (r .from) ≡ stateIn (take given (now (state .entry))))
         × Held (tablesOf (now (rows .entry)) (now (pos .entry)) (now (osp .entry))) (now (plan .entry)) (r .from) (now (bound .exit))) ⌝ }
+    ensures ends { λ r. ⌜ (r .refused ≡ 0 → EndsHeld (tablesOf (now (rows .entry)) (now (pos .entry)) (now (osp .entry)))
+        (currentBranch (now (plan .entry)) (r .from) .terms) (r .from)) ⌝ }
 {
     if given > state.len() {
         return refused(STATE);
@@ -119,6 +121,8 @@ pub fn prepare(
         (now (state .entry)) given quantum (now (threshold .entry)) (now (output .entry))))) ⌝ }
     ensures { λ r. ⌜ (r .refused ≡ 0 → (stateOf (r .from) ≡ stateIn (take given (now (state .entry))))
         × Held (tablesOf (now (rows .entry)) (now (pos .entry)) (now (osp .entry))) (now (plan .entry)) (r .from) (now (bound .exit))) ⌝ }
+    ensures ends { λ r. ⌜ (r .refused ≡ 0 → EndsHeld (tablesOf (now (rows .entry)) (now (pos .entry)) (now (osp .entry)))
+        (currentBranch (now (plan .entry)) (r .from) .terms) (r .from)) ⌝ }
 {
     let number = check(rows, pos, osp, plan);
     if number != ACCEPTED {

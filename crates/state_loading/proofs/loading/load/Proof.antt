@@ -1,4 +1,4 @@
--- `state_saving::load` meets its contract.
+-- `state_loading::load` meets its contract.
 use borrow.Author.Needs.{needs}
 use Prim.Native.Nat.{ℕ, _-_}
 use mathlib.Core.Path.{_≡_, sym, ap, _∙_}
@@ -14,7 +14,7 @@ use Rattle.plans.specs.Plans.{Plan, planOf, branchAt}
 use Rattle.plans.specs.Reading.{branchStart}
 use Rattle.plans.proofs.Given.{given-read, given-is}
 use Rattle.steps.specs.Saved.{shapeRight}
-use Rattle.state_saving.proofs.Loads.{refused-shape, placed, whole, begins, level-there, loads-not, loads, loads-held}
+use Rattle.state_saving.proofs.Loads.{refused-shape, placed, whole, begins, level-there, loads-not, loads, loads-held, loads-ends}
 use Rattle.state_loading.proofs.loading.load.Statement.{statement}
 use Rattle.state_loading.proofs.loading.load.Tie as tie
 
@@ -57,10 +57,10 @@ returns c =
     let s = f .before .before .before .before .before .before in
     let shape = sym (f .has-form .ensures) ∙ not-true _ (c .before .if1 .taken) in
     let e = c .refused .ensures in
-    (e ∙ sym (refused-shape (lent s) (asked s) (s .args .state .now) shape), λ z. absurd (omega (arith, z, e)))
+    (e ∙ sym (refused-shape (lent s) (asked s) (s .args .state .now) shape), (λ z. absurd (omega (arith, z, e)), λ z. absurd (omega (arith, z, e))))
 
-shared-slice-read-t17 : tie.Need-shared-slice-read-t17
-shared-slice-read-t17 c = let p = placed (asked (entry c)) (words (entry c)) (shape c) in omega (arith, p .long)
+shared-slice-read-t20 : tie.Need-shared-slice-read-t20
+shared-slice-read-t20 c = let p = placed (asked (entry c)) (words (entry c)) (shape c) in omega (arith, p .long)
 
 branch-requires : tie.Need-branch-requires
 branch-requires c κs = search needs
@@ -97,7 +97,7 @@ places-right-requires c κs =
 
 level-of-requires : tie.Need-level-of-requires
 level-of-requires c κs =
-    let t = c .before .before .before .before .before .before in
+    let t = c .before .before .before .before .before .before .before .before in
     let f = t .before in
     let k = f .before .before .before in
     let s = entry k in
@@ -106,8 +106,9 @@ level-of-requires c κs =
 
 returns-2 : tie.Need-returns-2
 returns-2 c =
-    let r = c .before .before .before .before .before in
-    let passes = c .before .before .before .before .if2 .taken in
+    let w = c .before .before .before .before .before .before in
+    let r = w .before in
+    let passes = w .if2 .taken in
     let t = r .before .before in
     let f = t .before in
     let p = f .before in
@@ -117,13 +118,18 @@ returns-2 c =
     let e = f .cursor-in .ensures in
     let plan = s .args .plan .now in
     let from = f .cursor-in .result in
-    let g = p .branch-part .ensures in (
+    let g = p .branch-part .ensures in
+    let k = r .places-right .ensures .1 .1 passes in (
       sym (loads plan ws (s .pre .1) (shape (b .before)) from (e .0) (e .2) _ (terms-are t) (lent s) _ (r .places-right .ensures .0) passes),
-      λ z. (
-        e .0,
-        loads-held plan ws (s .pre .1) (shape (b .before)) from (e .0) (e .2) _ (terms-are t) (lent s) _ (r .places-right .ensures .0)
-            passes (begins plan (p .branch-part .result .now) (b .branch .result) _ (branchStart (b .branch .result) plan) (from .at) (g .0) (g .1)
-            (b .branch .ensures) (e .1)) (e .3) _ (r .places-right .ensures .1 passes) _ (c .level-of .ensures),
+      (
+        λ z. (
+          e .0,
+          loads-held plan ws (s .pre .1) (shape (b .before)) from (e .0) (e .2) _ (terms-are t) (lent s) _ (r .places-right .ensures .0)
+              passes (begins plan (p .branch-part .result .now) (b .branch .result) _ (branchStart (b .branch .result) plan) (from .at) (g .0) (g .1)
+              (b .branch .ensures) (e .1)) (e .3) _ (r .places-right .ensures .1 .0 passes) _ (c .level-of .ensures) _ _,
+        ),
+        λ z. loads-ends plan ws (s .pre .1) (shape (b .before)) from (e .0) (e .2) _ (terms-are t) (lent s) _ (r .places-right .ensures .1 .0 passes)
+            (c .level-of .result) _ _ (k .0) (k .1) (k .2),
       ),
     )
 
@@ -140,7 +146,7 @@ returns-3 c =
     let n = c .refused2 .ensures in (
       n ∙ sym (loads-not (s .args .plan .now) (words s) (s .pre .1) (shape (f .before .before .before)) (f .cursor-in .result) (e .0) (e .2) _
           (terms-are t) (lent s) _ (r .places-right .ensures .0) (c .before .if2 .left)),
-      λ z. absurd (omega (arith, z, n)),
+      (λ z. absurd (omega (arith, z, n)), λ z. absurd (omega (arith, z, n))),
     )
 
 pub load-spec : {M : Type 1} → statement M
@@ -150,7 +156,7 @@ load-spec =
     has-form-requires
     refused-requires
     returns
-    shared-slice-read-t17
+    shared-slice-read-t20
     branch-requires
     branch-part-requires
     sub-cursor-in

@@ -1,4 +1,4 @@
--- `state_saving::places_right` meets its contract.
+-- `state_loading::places_right` meets its contract.
 use borrow.Author.Needs.{needs}
 use mathlib.Core.Path.{refl, sym, _∙_}
 use Rattle.words.proofs.Booleans.{absurd-true}
@@ -18,18 +18,23 @@ last-right-requires c κs = search needs
 
 returns : tie.Need-returns
 returns c =
-    let u = c .before .before .before .before in
+    let l = c .before in
+    let u = l .before .before .before .before .before in
     let s = u .before .before .before .before .before .before in
-    let passes = c .before .before .before .if1 .taken in
-    let b = u .upper-right .ensures .1 passes in
+    let passes = l .before .before .if1 .taken in
+    let b = u .upper-right .ensures .1 .0 passes in
     let right = sym (u .upper-right .ensures .0) ∙ passes in
-    (c .last-right .ensures ∙ sym (upper-passes (lent s) (s .args .terms .now) (s .args .c) _ (record { right = right; bound = b })), λ e. b)
+    let k = u .upper-right .ensures .1 .1 passes in (
+      l .last-right .ensures .0 ∙ sym (upper-passes (lent s) (s .args .terms .now) (s .args .c) _ (record { right = right; bound = b })),
+      (λ e. b, λ e. (l .last-right .ensures .1, k .0, k .1)),
+    )
 
 returns-2 : tie.Need-returns-2
 returns-2 c =
-    let u = c .before in
+    let u = c .before .before .before in
     let s = u .before .before .before .before .before .before in
-    (sym (upper-fails (lent s) (s .args .terms .now) (s .args .c) (sym (u .upper-right .ensures .0) ∙ c .if1 .left)), λ e. absurd-true e refl)
+    let fails = upper-fails (lent s) (s .args .terms .now) (s .args .c) (sym (u .upper-right .ensures .0) ∙ c .if1 .left) in
+    (sym fails, (λ e. absurd-true e refl, λ e. absurd-true e refl))
 
 pub places-right-spec : {M : Type 1} → statement M
 places-right-spec = tie.close (tie.spec upper-right-requires last-right-requires returns returns-2)

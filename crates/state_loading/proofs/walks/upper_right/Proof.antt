@@ -1,20 +1,24 @@
--- `state_saving::upper_right` meets its contract. The loop's invariant: the levels before `level` are right, and the array holds what they bind.
+-- `state_loading::upper_right` meets its contract. The loop's invariant: the levels before `level` are right, the array holds what they bind, and
+-- their ends are found.
 use Prim.Native.Nat.{_+_, _-_, _≤_, zero-le}
 use mathlib.Core.Path.{_≡_, refl, sym, _∙_, subst}
 use native.Mathlib.Omega.{arith}
+use lib.ListN.{length, length-set}
 use borrow.Author.Tests.{not-true, not-false}
 use Rattle.words.proofs.Booleans.{absurd-true}
 use Rattle.tables.specs.Tables.{Tables, tablesOf}
-use Rattle.state_saving.proofs.WalkedLevels.{Walked, walked-none, walked-next, walked-fails}
+use Rattle.step_cursors.specs.Held.{EndsAbove}
+use Rattle.state_saving.proofs.WalkedLevels.{Walked, walked-none, walked-next, walked-fails, ends-next}
 use Rattle.state_loading.proofs.walks.upper_right.Statement.{statement}
 use Rattle.state_loading.proofs.walks.upper_right.Tie as tie
 
 abbrev Inv-loop : tie.InvT-loop
-Inv-loop rows pos osp terms bound₀ upper last level₀ bound level =
-    (level ≤ last) × Walked (tablesOf rows pos osp) terms upper level bound
+Inv-loop rows pos osp terms bound₀ upper last ends₀ level₀ bound ends level =
+    (level ≤ last) × Walked (tablesOf rows pos osp) terms upper level bound × (length ends ≡ 8)
+    × EndsAbove (tablesOf rows pos osp) terms upper ends level
 
 abbrev μ-loop : tie.MeasureT-loop
-μ-loop rows pos osp terms bound₀ upper last level₀ bound level = last - level
+μ-loop rows pos osp terms bound₀ upper last ends₀ level₀ bound ends level = last - level
 
 abbrev lent : tie.Start Inv-loop μ-loop → Tables
 lent s = tablesOf (s .args .rows .now) (s .args .pos .now) (s .args .osp .now)
@@ -22,7 +26,7 @@ lent s = tablesOf (s .args .rows .now) (s .args .pos .now) (s .args .osp .now)
 loop-holds : tie.Need-loop-holds Inv-loop μ-loop
 loop-holds c =
     let s = c .before .before .before .before .before .before in
-    (zero-le, walked-none (lent s) (s .args .terms .now) (s .args .c .upper))
+    (zero-le, walked-none (lent s) (s .args .terms .now) (s .args .c .upper), refl, λ l h. absurd (omega (arith, h)))
 
 mul-place : tie.Need-mul-place Inv-loop μ-loop
 mul-place c = omega arith
@@ -37,14 +41,20 @@ level-passes-requires c κs =
 
 returns : tie.Need-returns Inv-loop μ-loop
 returns c =
-    let p = c .before in
+    let p = c .before .before in
     let l = p .before .before .before .before in
     let s = l .before .before .before .before .before .before .before in
     let upper = s .args .c .upper in
     let fails = sym (p .level-passes .ensures .0) ∙ not-true _ (c .if1 .taken) in (
       sym (walked-fails (lent s) (s .args .terms .now) upper (l .loop .level) (l .loop .bound) (l .loop .inv .1) fails (s .args .c .level) (omega arith)),
-      λ e. absurd-true e refl,
+      (λ e. absurd-true e refl, λ e. absurd-true e refl),
     )
+
+mul-ends : tie.Need-mul-ends Inv-loop μ-loop
+mul-ends c = omega arith
+
+array-set-from-ends : tie.Need-array-set-from-ends Inv-loop μ-loop
+array-set-from-ends c = omega arith
 
 add-level : tie.Need-add-level Inv-loop μ-loop
 add-level c = omega arith
@@ -54,13 +64,21 @@ loop-less c = omega arith
 
 loop-again : tie.Need-loop-again Inv-loop μ-loop
 loop-again c =
-    let p = c .before in
+    let t = c .before in
+    let p = t .before .before in
     let l = p .before .before .before .before in
     let s = l .before .before .before .before .before .before .before in
     let upper = s .args .c .upper in
-    let passed = sym (p .level-passes .ensures .0) ∙ not-false _ (c .if1 .left) in
+    let passes = not-false _ (t .if1 .left) in
+    let passed = sym (p .level-passes .ensures .0) ∙ passes in
     let next = walked-next (lent s) (s .args .terms .now) upper (l .loop .level) (l .loop .bound) (l .loop .inv .1) passed in
-    (omega arith, subst (Walked (lent s) (s .args .terms .now) upper (l .loop .level + 1)) (sym (p .level-passes .ensures .1)) next)
+    let k = l .loop .inv in (
+      omega arith,
+      subst (Walked (lent s) (s .args .terms .now) upper (l .loop .level + 1)) (sym (p .level-passes .ensures .1 .0)) next,
+      (simp length-set) ∙ k .2,
+      ends-next (lent s) (s .args .terms .now) upper (l .loop .level) (l .loop .bound) (k .1) (l .loop .ends) _
+          (omega (arith, k .2, s .pre .1)) (p .level-passes .ensures .1 .1) (k .3),
+    )
 
 returns-2 : tie.Need-returns-2 Inv-loop μ-loop
 returns-2 c =
@@ -68,7 +86,8 @@ returns-2 c =
     let s = l .before .before .before .before .before .before .before in
     let e : l .loop .level ≡ s .args .c .level = omega arith in
     let w = subst (λ n. Walked (lent s) (s .args .terms .now) (s .args .c .upper) n (l .loop .bound)) e (l .loop .inv .1) in
-    (sym (w .right), λ h. w .bound)
+    let k = subst (λ n. EndsAbove (lent s) (s .args .terms .now) (s .args .c .upper) (l .loop .ends) n) e (l .loop .inv .3) in
+    (sym (w .right), (λ h. w .bound, λ h. (l .loop .inv .2, k)))
 
 pub upper-right-spec : {M : Type 1} → statement M
 upper-right-spec =
@@ -81,6 +100,8 @@ upper-right-spec =
     array-copy-out-place
     level-passes-requires
     returns
+    mul-ends
+    array-set-from-ends
     add-level
     loop-less
     loop-again

@@ -44,7 +44,7 @@ save-requires c κs =
     let s = k .before .before .before .before .before .before in
     let t = tablesOf (s .args .rows .now) (s .args .pos .now) (s .args .osp .now) in
     let z = sym (k .check .ensures) ∙ b .before .before .before .if1 .left in (
-      held-storable t (s .args .plan .now) (b .start-branch .result) _ (early-right t (s .args .plan .now) z) (b .start-branch .ensures .1 .1 .1),
+      held-storable t (s .args .plan .now) (b .start-branch .result) _ (early-right t (s .args .plan .now) z) (b .start-branch .ensures .1 .1 .1 .0),
       b .before .before .if2 .left,
     )
 

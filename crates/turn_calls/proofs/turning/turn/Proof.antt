@@ -34,7 +34,7 @@ run-requires c κs =
     let i = turnInput (s .args .rows .now) (s .args .pos .now) (s .args .osp .now) (s .args .plan .now) (s .args .state .now) (s .args .given)
     (s .args .quantum) (s .args .threshold .now) (s .args .output .now) in
     let a = accepted i (turn-passes i (sym (p .prepare .ensures .0) ∙ f .if1 .left)) in
-    (a .right, (p .prepare .ensures .1 (f .if1 .left) .1, runnable i a))
+    (a .right, (p .prepare .ensures .1 .0 (f .if1 .left) .1, (p .prepare .ensures .1 .1 (f .if1 .left), runnable i a)))
 
 finish-requires : tie.Need-finish-requires
 finish-requires c κs =
@@ -62,7 +62,7 @@ returns-2 c =
     let i = turnInput (s .args .rows .now) (s .args .pos .now) (s .args .osp .now) (s .args .plan .now) (s .args .state .now) (s .args .given)
     (s .args .quantum) (s .args .threshold .now) (s .args .output .now) in
     let a = serves i (turn-passes i (sym (p .prepare .ensures .0) ∙ f .if1 .left)) (stateOf (p .prepare .result .from))
-    (p .prepare .ensures .1 (f .if1 .left) .0)
+    (p .prepare .ensures .1 .0 (f .if1 .left) .0)
     (r .run .result) (r .run .last .1 .1 .1 .1 .1 .1 .1 .1 .0) (r .run .ensures) in
     turn-told i (rw (n .finish .ensures .0, n .finish .ensures .1) a)
 

@@ -23,7 +23,7 @@ returns c =
     let ws = take (s .args .given) (s .args .state .now) in (
       c .refused .ensures ∙ not-given (s .args .given) (length (s .args .state .now)) (shapeRight q ws) (placesRight t q ws)
           (thresholdRight (q .ending) (s .args .threshold .now)) (c .before .if1 .taken),
-      λ z. absurd (omega arith),
+      (λ z. absurd (omega arith), λ z. absurd (omega arith)),
     )
 
 slice-aggregate-load : tie.Need-slice-aggregate-load
@@ -81,7 +81,7 @@ returns-4 c =
       c .refused2 .ensures ∙ threshold-fails (s .args .given) (length (s .args .state .now)) (shapeRight q ws) (placesRight t q ws)
           (thresholdRight (q .ending) (s .args .threshold .now)) (l .before .before .before .if1 .left) _ (l .load .ensures .0) (p .before .if2 .left)
           (r .threshold-right .result) (rw (p .ending-part .ensures .1) at (r .threshold-right .ensures)) (c .before .if3 .left),
-      λ z. absurd (omega arith),
+      (λ z. absurd (omega arith), λ z. absurd (omega arith)),
     )
 
 pub load-spec : {M : Type 1} → statement M

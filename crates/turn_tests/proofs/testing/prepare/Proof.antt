@@ -21,7 +21,7 @@ returns c =
     let i = turnInput (s .args .rows .now) (s .args .pos .now) (s .args .osp .now) (s .args .plan .now) (s .args .state .now) (s .args .given)
     (s .args .quantum) (s .args .threshold .now) (s .args .output .now) in (
       c .refused .ensures ∙ early-fails i (k .check .result) (k .check .ensures) (c .before .if1 .taken),
-      λ z. absurd (c .before .if1 .taken (sym (c .refused .ensures) ∙ z)),
+      (λ z. absurd (c .before .if1 .taken (sym (c .refused .ensures) ∙ z)), λ z. absurd (c .before .if1 .taken (sym (c .refused .ensures) ∙ z))),
     )
 
 ending-part-requires : tie.Need-ending-part-requires
@@ -46,7 +46,7 @@ returns-2 c =
     (s .args .quantum) (s .args .threshold .now) (s .args .output .now) in (
       c .refused2 .ensures ∙ size-fails i (sym (k .check .ensures) ∙ p .before .if1 .left) (endingAt (p .ending-part .result .now))
           (p .ending-part .ensures .1) (z .sizes .result) (z .sizes .ensures) (c .before .if2 .taken),
-      λ h. absurd (c .before .if2 .taken (sym (c .refused2 .ensures) ∙ h)),
+      (λ h. absurd (c .before .if2 .taken (sym (c .refused2 .ensures) ∙ h)), λ h. absurd (c .before .if2 .taken (sym (c .refused2 .ensures) ∙ h))),
     )
 
 load-requires : tie.Need-load-requires
