@@ -1,4 +1,4 @@
-"""What the engine makes of a text's rows, and says of its words, by the portable library: tables and what was dropped; the number that
+"""What the engine makes of a text's rows, and says of its words, by the portable library: tables, what was dropped, and what an adviser sees; the number that
 refuses them, and the line that is at fault.
 
 The line is found by asking the engine about parts: of the rows so many from the front, of the plan a branch or the ending alone. Nothing
@@ -53,6 +53,10 @@ class Made(ctypes.Structure):
                 ('osp_words', ctypes.c_size_t), ('report_words', ctypes.c_size_t)]
 
 
+class Tables(ctypes.Structure):
+    _fields_ = [('refused', ctypes.c_uint32), ('rows_words', ctypes.c_size_t), ('pos_words', ctypes.c_size_t), ('osp_words', ctypes.c_size_t)]
+
+
 @functools.lru_cache
 def built():
     """The path of the portable library, made again by cargo where its source is newer."""
@@ -86,6 +90,8 @@ class Engine:
         self.open_call.restype, self.turn_call.restype, self.least_call.restype = Written, Turned, Written
         self.make_call = library.sotjarn_make
         self.make_call.restype = Made
+        self.view_call = library.sotjarn_view
+        self.view_call.restype = Tables
 
     def make(self, upload):
         """The rows that are kept of an upload, sorted, both lists of row numbers, and place and code of each row that is dropped."""
@@ -98,6 +104,17 @@ class Engine:
         rows, pos, osp, report = (buffer[:length] for buffer, length in zip(lent[::2], lengths))
         kept = [tuple(rows[at:at + ROW_WORDS]) for at in range(0, len(rows), ROW_WORDS)]
         return kept, pos, osp, list(zip(report[::2], report[1::2]))
+
+    def view(self, rows, pos, osp, grant, membership):
+        """The rows that a grant makes visible, and both lists of their numbers."""
+        lent = list(buffers([0] * ROW_WORDS * len(rows), [0] * len(rows), [0] * len(rows)))
+        tables = buffers([w for row in rows for w in row], pos, osp, grant)
+        answer = self.view_call(*tables, ctypes.c_uint32(membership), *lent)
+        if answer.refused:
+            raise Refused(answer.refused)
+        lengths = (answer.rows_words, answer.pos_words, answer.osp_words)
+        seen, seen_pos, seen_osp = (buffer[:length] for buffer, length in zip(lent[::2], lengths))
+        return [tuple(seen[at:at + ROW_WORDS]) for at in range(0, len(seen), ROW_WORDS)], seen_pos, seen_osp
 
     def open(self, rows, pos, osp, plan):
         """The number that refuses an opening, or 0."""

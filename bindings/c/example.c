@@ -1,6 +1,6 @@
 /* The three-stem wood from C: tables made from an upload and the report of what was dropped, a row query in turns of four steps, a best-of
- * list with a threshold, totals merged turn by turn, the total of nothing, two owners on the line, and refused calls. Each buffer comes from
- * malloc with exactly the words it needs, so that a memory checker sees every word beside it.
+ * list with a threshold, totals merged turn by turn, the total of nothing, two owners on the line, an adviser's view, and refused calls. Each
+ * buffer comes from malloc with exactly the words it needs, so that a memory checker sees every word beside it.
  * Compiles as C99 and as C++. Prints what it does; exits with 1 where something is not as the rules say. */
 #include "sotjarn.h"
 #include "sotjarn_words.h"
@@ -387,6 +387,50 @@ static void two_owners(void)
     free_query(&query);
 }
 
+static struct sotjarn_tables view_tables(const struct query *q, struct buffer grant, uint32_t membership, const struct query *view)
+{
+    return sotjarn_view(q->rows.words, q->rows.len, q->pos.words, q->pos.len, q->osp.words, q->osp.len, grant.words, grant.len, membership,
+                        view->rows.words, view->rows.len, view->pos.words, view->pos.len, view->osp.words, view->osp.len);
+}
+
+/* What an adviser gets who is let in to stem n2, and to the whole stand: the query runs on the view, and counts its steps. */
+static void adviser(void)
+{
+    struct query query = make_query(plan_rows, sizeof plan_rows / sizeof *plan_rows), view;
+    uint32_t stem[] = {NAME(2)}, stand[] = {NAME(100)}, falling[] = {NAME(3), NAME(2)};
+    struct buffer grant = copied(stem, 1), wide = copied(stand, 1), wrong = copied(falling, 2);
+    struct buffer state = make_buffer(SOTJARN_STATE_WORDS), output = make_buffer(2);
+    struct sotjarn_tables viewed;
+    struct sotjarn_written opened;
+    struct sotjarn_turned turned;
+    view.rows = make_buffer(2 * SOTJARN_ROW_WORDS);
+    view.pos = make_buffer(2);
+    view.osp = make_buffer(2);
+    view.plan = copied(plan_rows, sizeof plan_rows / sizeof *plan_rows);
+    viewed = view_tables(&query, grant, NAME(10), &view);
+    expect(viewed.refused == 0 && viewed.rows_words == 6 && viewed.pos_words == 2 && viewed.osp_words == 2, "stem n2 has two rows");
+    expect(memcmp(view.rows.words, wood_rows + 2 * SOTJARN_ROW_WORDS, 6 * sizeof(uint32_t)) == 0, "they are rows 2 and 3");
+    expect(view.pos.words[0] == 0 && view.pos.words[1] == 1 && view.osp.words[0] == 0 && view.osp.words[1] == 1, "numbered from 0");
+    opened = open_query(&view, state);
+    turned = run_turn(&view, state, opened.words, 10, no_words, 0, output);
+    printf("the adviser of stem n2: steps %" PRIu32 " %s\n", turned.steps, ending_name(turned.ending));
+    print_rows(output.words, turned.list_words, 2);
+    expect(turned.ending == SOTJARN_DONE && turned.list_words == 2 && output.words[0] == NAME(2), "one stem is seen");
+    viewed = view_tables(&query, wrong, NAME(10), &view);
+    printf("a grant of n3 and n2: refused by %" PRIu32 ": %s\n", viewed.refused, sotjarn_refusal_text(viewed.refused));
+    expect(viewed.refused == SOTJARN_REFUSED_GRANT && viewed.rows_words == 0, "a grant ascends");
+    viewed = view_tables(&query, wide, NAME(10), &view);
+    printf("a view of all rows in so short buffers: refused by %" PRIu32 "\n", viewed.refused);
+    expect(viewed.refused == SOTJARN_REFUSED_VIEW_LENGTHS && view.rows.words[0] == NAME(2), "six rows have no room, and the view stays");
+    free(grant.words);
+    free(wide.words);
+    free(wrong.words);
+    free(state.words);
+    free(output.words);
+    free_query(&query);
+    free_query(&view);
+}
+
 /* Calls that are refused by number and change nothing: short buffers, tables out of order, a quantum of 0, merged rows, part of a plan. */
 static void refusals(void)
 {
@@ -424,6 +468,7 @@ int main(void)
     totals();
     felled();
     two_owners();
+    adviser();
     refusals();
     return 0;
 }

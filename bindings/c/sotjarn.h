@@ -1,5 +1,6 @@
-/* Sotjarn's calls for C and C++: making tables from an upload; opening a query, one turn of it, and merging a turn's list into a kept
- * one; how long an output has to be for a plan; and queries of several owners in a queue: joining, serving and topping up.
+/* Sotjarn's calls for C and C++: making tables from an upload, and those that an adviser may see from tables; opening a query, one turn of
+ * it, and merging a turn's list into a kept one; how long an output has to be for a plan; and queries of several owners in a queue: joining,
+ * serving and topping up.
  *
  * Link with libsotjarn.a, the proved library, which `rt staticlib sotjarn` writes to target/staticlib/; or with libsotjarn_portable.a,
  * the same source without its proofs, which cargo makes in portable/. `make install` installs either. No call allocates, keeps an
@@ -28,7 +29,7 @@ extern "C" {
 #endif
 
 /* The version of this header, which is that of the libraries made beside it. */
-#define SOTJARN_VERSION "0.7.0"
+#define SOTJARN_VERSION "0.8.0"
 
 /* How a turn ended. */
 enum {
@@ -46,8 +47,9 @@ enum { SOTJARN_MOST_ROWS = 65536, SOTJARN_ROW_WORDS = 3, SOTJARN_REPORT_WORDS = 
 
 /* The bytes of stack to provide for sotjarn_make. It keeps what it sorts in 448 KiB of local arrays, whatever the upload's length, and
  * allocates nothing; with its frames, threads of 456 KiB were enough (tests/stack measures it). Some threads have less by default, as
- * musl's with 128 KiB. The other calls have no such arrays. */
-enum { SOTJARN_MAKE_STACK = 524288 };
+ * musl's with 128 KiB. sotjarn_view keeps a mark and a flag for each row, in 320 KiB, and 328 KiB were
+ * enough. The other calls have no such arrays. */
+enum { SOTJARN_MAKE_STACK = 524288, SOTJARN_VIEW_STACK = 393216 };
 
 /* The most entries of a queue, in the line and set aside together: each of its two buffers has so many at least. The words that an entry has
  * for its plan, as many as the longest has, and for its state. */
@@ -108,6 +110,14 @@ struct sotjarn_made {
     size_t report_words; /* two words for each row that is dropped */
 };
 
+/* What writing tables answers: the words written to the front of each buffer; 0 of each if refused. */
+struct sotjarn_tables {
+    uint32_t refused;  /* the number of the first test that failed; 0: none */
+    size_t rows_words; /* three words for each row */
+    size_t pos_words;  /* as many as there are rows */
+    size_t osp_words;  /* the same */
+};
+
 /* Makes tables from an upload: rows of three words as they were measured, in any order. Rows of wrong kinds are dropped, and of equal
  * rows all but the first; the others are written to `rows` in ascending order, and both lists of row numbers to `pos` and `osp`. The tables
  * pass tests 1 to 4. The report names each dropped row in upload order, by its place from 0 and a code: 1 wrong kind, tested first, 2 repeat.
@@ -119,6 +129,21 @@ struct sotjarn_made sotjarn_make(const uint32_t *upload, size_t upload_len,
                                  uint32_t *pos, size_t pos_len,
                                  uint32_t *osp, size_t osp_len,
                                  uint32_t *report, size_t report_len);
+
+/* Writes the tables of the rows that an adviser may see. `grant` has names in strictly ascending order; none is a grant too. A row is visible if
+ * its subject is granted, or if some row of the same subject has `membership` as predicate and a granted object; that row is one of them. The
+ * visible rows keep their order and are numbered from 0; the tables pass tests 1 to 4, and the adviser's queries run on them. What is written
+ * depends on visible rows alone: tables that differ only in rows that are hidden where they stand give the same view. `membership` is not
+ * tested: if it is no name, no row has it. Of v visible rows 3 v, v and v words are written; buffers of exactly so many are enough, those of the
+ * tables' own lengths always, and what longer ones have behind those words stays. Refused by 1 to 4, then by 20 (the grant has a word that is no
+ * name, or does not ascend strictly), then by 21 (a buffer is too short). Needs a stack of SOTJARN_VIEW_STACK bytes. */
+struct sotjarn_tables sotjarn_view(const uint32_t *rows, size_t rows_len,
+                                   const uint32_t *pos, size_t pos_len,
+                                   const uint32_t *osp, size_t osp_len,
+                                   const uint32_t *grant, size_t grant_len, uint32_t membership,
+                                   uint32_t *view_rows, size_t view_rows_len,
+                                   uint32_t *view_pos, size_t view_pos_len,
+                                   uint32_t *view_osp, size_t view_osp_len);
 
 /* Writes the start state of a query over the front of `state`. Refused by 1 to 7. */
 struct sotjarn_written sotjarn_open(const uint32_t *rows, size_t rows_len,

@@ -108,7 +108,9 @@ enum {
     SOTJARN_REFUSED_MADE_LENGTHS = 16,
     SOTJARN_REFUSED_ENTRIES = 17,
     SOTJARN_REFUSED_QUEUE_ROOM = 18,
-    SOTJARN_REFUSED_EMPTY_LINE = 19
+    SOTJARN_REFUSED_EMPTY_LINE = 19,
+    SOTJARN_REFUSED_GRANT = 20,
+    SOTJARN_REFUSED_VIEW_LENGTHS = 21
 };
 
 /* What is wrong and what to do, in a line, by the number that a call refused by. */
@@ -154,6 +156,10 @@ static inline const char *sotjarn_refusal_text(uint32_t refused)
         "a list has no room for 32 entries, or there would be more than 32 in all; lend 32 entries for each list, and "
         "let others join when somebody has left",
         "the line is empty; serve again when somebody has joined or was topped up",
+        "the grant has a word that is no name, or its words do not ascend strictly; sort the granted names as unsigned "
+        "words, each once",
+        "a buffer is too short for the visible rows; for tables of n rows lend 3 n words for rows and n for each list: "
+        "that is always enough",
     };
     return refused < sizeof texts / sizeof *texts ? texts[refused] : "a number that this header does not know: the library is newer";
 }

@@ -7,6 +7,7 @@ from ctypes import CDLL, POINTER, Structure, addressof, c_size_t, c_uint32, c_ui
 from evaluation import Turned, Written
 from making import Made
 from queueing import PLAN_ROOM, STATE_ROOM, Entry, Queued, Service
+from viewing import Viewed
 
 GUARD = 4
 GUARD_WORD = 0xA5A5C3C3
@@ -39,6 +40,10 @@ class CQueued(Structure):
 class CService(Structure):
     _fields_ = [('ending', c_uint32), ('refused', c_uint32), ('steps', c_uint32), ('owner', c_uint32), ('left', c_uint64),
                 ('state_words', c_size_t), ('list_words', c_size_t), ('line_entries', c_size_t), ('aside_entries', c_size_t)]
+
+
+class CTables(Structure):
+    _fields_ = [('refused', c_uint32), ('rows_words', c_size_t), ('pos_words', c_size_t), ('osp_words', c_size_t)]
 
 
 class Touched(Exception):
@@ -132,6 +137,8 @@ class Engine:
         self.joining.restype, self.joining.argtypes = CQueued, table_types[:6] + lists + [c_uint32, c_uint64] + [WORDS, c_size_t] * 2
         self.serving.restype, self.serving.argtypes = CService, table_types[:6] + lists + [c_uint32] + [WORDS, c_size_t] * 2
         self.topping.restype, self.topping.argtypes = CQueued, lists + [c_uint32, c_uint64]
+        self.viewing = library.sotjarn_view
+        self.viewing.restype, self.viewing.argtypes = CTables, table_types + [c_uint32] + [WORDS, c_size_t] * 3
 
     def open(self, tables, words, state):
         read, buffer = lent(tables, words), Buffer(state)
@@ -178,3 +185,10 @@ class Engine:
         own, other = EntryBuffer(line), EntryBuffer(aside)
         answer = self.topping(*own.arguments(), waiting, *other.arguments(), resting, owner, amount)
         return Queued(answer.refused, answer.line_entries, answer.aside_entries), own.entries('line'), other.entries('aside')
+
+    def view(self, tables, grant, membership, rows, pos, osp):
+        read, buffers = lent(tables, grant), [Buffer(rows), Buffer(pos), Buffer(osp)]
+        answer = self.viewing(*passed(read), membership, *(argument for buffer in buffers for argument in buffer.arguments()))
+        check(read)
+        viewed = Viewed(answer.refused, answer.rows_words, answer.pos_words, answer.osp_words)
+        return (viewed, *(buffer.words(name) for name, buffer in zip(('view rows', 'view pos', 'view osp'), buffers)))

@@ -7,9 +7,9 @@
 #include <stdlib.h>
 #include <string.h>
 
-enum { SET = 1, FILL, STEMS, OPEN, TURN, MERGE, MAKE, SHUFFLED, MAKE_STEMS, ENTRIES, JOIN, SERVE, TOP_UP };
-enum { ROWS, POS, OSP, PLAN, STATE, THRESHOLD, OUTPUT, KEPT, LIST, UPLOAD, REPORT, LINE, ASIDE, BUFFERS };
-enum { GUARDS = 8, NUMBERS = 20, ENTRY_WORDS = sizeof(struct sotjarn_entry) / sizeof(uint32_t) };
+enum { SET = 1, FILL, STEMS, OPEN, TURN, MERGE, MAKE, SHUFFLED, MAKE_STEMS, ENTRIES, JOIN, SERVE, TOP_UP, VIEW, VIEW_ALL };
+enum { ROWS, POS, OSP, PLAN, STATE, THRESHOLD, OUTPUT, KEPT, LIST, UPLOAD, REPORT, LINE, ASIDE, GRANT, SEEN_ROWS, SEEN_POS, SEEN_OSP, BUFFERS };
+enum { GUARDS = 8, NUMBERS = 22, ENTRY_WORDS = sizeof(struct sotjarn_entry) / sizeof(uint32_t) };
 
 #define GUARD UINT32_C(0xA5A5C3C3)
 
@@ -327,6 +327,44 @@ static void run_top_up(void)
     queued(sotjarn_top_up(entries_of(LINE), count_of(LINE), line, entries_of(ASIDE), count_of(ASIDE), aside, owner, amount));
 }
 
+/* The buffers that a view is written to, and those of the tables. */
+static const int seen[3] = {SEEN_ROWS, SEEN_POS, SEEN_OSP}, lent[3] = {ROWS, POS, OSP};
+
+static void must_view(uint32_t membership, uint32_t refused, const uint32_t *words)
+{
+    struct sotjarn_tables made = sotjarn_view(
+        words_of(ROWS), buffers[ROWS].len, words_of(POS), buffers[POS].len, words_of(OSP), buffers[OSP].len, words_of(GRANT),
+        buffers[GRANT].len, membership, words_of(SEEN_ROWS), buffers[SEEN_ROWS].len, words_of(SEEN_POS), buffers[SEEN_POS].len,
+        words_of(SEEN_OSP), buffers[SEEN_OSP].len);
+    if (made.refused != refused || made.rows_words != words[0] || made.pos_words != words[1] || made.osp_words != words[2])
+        fail("the answer is another");
+    count(refused);
+}
+
+static void run_view(void)
+{
+    uint32_t membership = word(), refused = word(), words[3];
+    for (int i = 0; i < 3; i++)
+        words[i] = word();
+    must_view(membership, refused, words);
+    for (int i = 0; i < 3; i++)
+        must_write(seen[i], words[i]);
+}
+
+/* The view must be the tables themselves. */
+static void run_view_all(void)
+{
+    uint32_t membership = word(), words[3];
+    for (int i = 0; i < 3; i++) {
+        words[i] = (uint32_t)buffers[lent[i]].len;
+        if (buffers[seen[i]].len < words[i])
+            fail("the file asks for more words than the buffer");
+    }
+    must_view(membership, 0, words);
+    for (int i = 0; i < 3; i++)
+        memcpy(buffers[seen[i]].right + GUARDS, words_of(lent[i]), words[i] * sizeof(uint32_t));
+}
+
 static void run(void)
 {
     uint32_t instruction = word();
@@ -344,6 +382,8 @@ static void run(void)
     case JOIN: run_join(); break;
     case SERVE: run_serve(); break;
     case TOP_UP: run_top_up(); break;
+    case VIEW: run_view(); break;
+    case VIEW_ALL: run_view_all(); break;
     default: fail("there is no such instruction");
     }
     compare();

@@ -5,13 +5,14 @@
 import { readFileSync } from 'node:fs';
 
 const [SET, FILL, STEMS, OPEN, TURN, MERGE, MAKE, SHUFFLED, MAKE_STEMS, ENTRIES, JOIN, SERVE, TOP_UP] = [1, 2, 3, 4, 5, 6, 7, 8, 9, 10, 11, 12, 13];
+const [VIEW, VIEW_ALL] = [14, 15];
 const [ROWS, POS, OSP, PLAN, STATE, THRESHOLD, OUTPUT, KEPT, LIST, UPLOAD, REPORT] = [0, 1, 2, 3, 4, 5, 6, 7, 8, 9, 10];
-const [LINE, ASIDE, BUFFERS] = [11, 12, 13];
+const [LINE, ASIDE, GRANT, SEEN_ROWS, SEEN_POS, SEEN_OSP, BUFFERS] = [11, 12, 13, 14, 15, 16, 17];
 const [PLAN_ROOM, STATE_ROOM] = [256, 11];
 const ENTRY_WORDS = 5 + PLAN_ROOM + STATE_ROOM;
 const GUARDS = 8;
 const GUARD = 0xa5a5c3c3;
-const NUMBERS = 20;
+const NUMBERS = 22;
 const PAGE = 65536;
 
 let calls = 0;
@@ -29,7 +30,7 @@ if (vectorFile === undefined) {
   process.exit(2);
 }
 const { instance } = await WebAssembly.instantiate(readFileSync(libraryFile));
-const { memory, sotjarn_open, sotjarn_turn, sotjarn_merge, sotjarn_make, sotjarn_join, sotjarn_serve, sotjarn_top_up } = instance.exports;
+const { memory, sotjarn_open, sotjarn_turn, sotjarn_merge, sotjarn_make, sotjarn_join, sotjarn_serve, sotjarn_top_up, sotjarn_view } = instance.exports;
 const answerAt = memory.buffer.byteLength;
 const ROOM = 16 * PAGE;
 memory.grow(1 + (BUFFERS * ROOM) / PAGE);
@@ -203,6 +204,31 @@ function topUp() {
   queued();
 }
 
+// Views.
+
+const seen = [SEEN_ROWS, SEEN_POS, SEEN_OSP];
+
+function mustView(membership, refused, lengths) {
+  sotjarn_view(answerAt, ...buffer(ROWS), ...buffer(POS), ...buffer(OSP), ...buffer(GRANT), membership, ...seen.flatMap(buffer));
+  mustAnswer(answer(4), [refused, ...lengths], refused);
+}
+
+function viewSome() {
+  const [membership, refused, ...lengths] = words(5);
+  mustView(membership, refused, lengths);
+  seen.forEach((number, i) => mustWrite(number, lengths[i]));
+}
+
+// The view must be the tables themselves.
+function viewAll() {
+  const membership = word();
+  const own = [ROWS, POS, OSP].map((number) => right[number]);
+  mustView(membership, 0, own.map((lent) => lent.length));
+  seen.forEach((number, i) => {
+    right[number] = [...own[i], ...right[number].slice(own[i].length)];
+  });
+}
+
 // Every word of every buffer, and beside it, must be right.
 function compare() {
   for (let number = 0; number < BUFFERS; number += 1) {
@@ -216,6 +242,7 @@ function compare() {
 const lending = { [SET]: set, [FILL]: fill, [STEMS]: stems, [SHUFFLED]: shuffled, [ENTRIES]: entries };
 const calling = {
   [OPEN]: open, [TURN]: turn, [MERGE]: merge, [MAKE]: make, [MAKE_STEMS]: makeStems, [JOIN]: join, [SERVE]: serve, [TOP_UP]: topUp,
+  [VIEW]: viewSome, [VIEW_ALL]: viewAll,
 };
 
 for (let number = 0; number < BUFFERS; number += 1) lend(number, []);

@@ -17,6 +17,9 @@ pub const MOST_ROWS: usize = 65_536;
 /// less needs this much.
 pub const MAKE_STACK: usize = 524_288;
 
+/// The bytes of stack that [`view`] may use: it marks each row there.
+pub const VIEW_STACK: usize = 393_216;
+
 /// The most entries of a queue, in the line and set aside together; each of its two lists has room for so many.
 pub const MOST_ENTRIES: usize = 32;
 
@@ -55,6 +58,17 @@ pub struct Made {
     pub osp_words: usize,
     /// Two for each row that is dropped.
     pub report_words: usize,
+}
+
+/// What writing a view answers: the words written over the front of each buffer.
+#[derive(Clone, Copy, Debug, PartialEq, Eq, Hash)]
+pub struct Viewed {
+    /// Three for each visible row.
+    pub rows_words: usize,
+    /// One for each visible row.
+    pub pos_words: usize,
+    /// The same.
+    pub osp_words: usize,
 }
 
 /// What joining and topping up answer: how many entries each list has now.
@@ -235,6 +249,44 @@ pub fn make(upload: &[u32], rows: &mut [u32], pos: &mut [u32], osp: &mut [u32], 
             pos_words: answer.pos,
             osp_words: answer.osp,
             report_words: answer.report,
+        }),
+        code => Err(refusal(code)),
+    }
+}
+
+/// Writes the tables of the rows that an adviser may see over the front of `rows`, `pos` and `osp`. The grant has names in strictly ascending
+/// order, or none. A row is visible if its subject is granted, or if some row of the same subject has `membership` as predicate and a granted
+/// object. Visible rows keep their order and are numbered from 0; the adviser's queries run on these tables. Buffers of exactly the words
+/// written are enough. Refused by 1 to 4, 20 and 21. It needs [`VIEW_STACK`] bytes of stack.
+/// [`TableWords::view`](crate::TableWords::view) has buffers of its own.
+///
+/// ```
+/// use sotjarn::{view, Refusal, Tables, Viewed};
+///
+/// let rows = [1, 10, 100, 2, 10, 101, 2, 12, 0x4000_0136]; // n1 n10 n100, n2 n10 n101, n2 n12 i310
+/// let tables = Tables { rows: &rows, pos: &[0, 1, 2], osp: &[0, 1, 2] };
+/// let (mut seen, mut pos, mut osp) = ([0; 6], [0; 2], [0; 2]);
+/// let viewed = view(tables, &[101], 10, &mut seen, &mut pos, &mut osp)?; // what belongs, by n10, to n101
+/// assert_eq!(viewed, Viewed { rows_words: 6, pos_words: 2, osp_words: 2 });
+/// assert_eq!((&seen[..], pos, osp), (&rows[3..], [0, 1], [0, 1]));
+/// assert_eq!(view(tables, &[101, 100], 10, &mut seen, &mut pos, &mut osp), Err(Refusal::Grant));
+/// assert_eq!(view(tables, &[100, 101], 10, &mut seen, &mut pos, &mut osp), Err(Refusal::ViewLengths)); // three rows are visible
+/// # Ok::<(), Refusal>(())
+/// ```
+pub fn view(
+    tables: Tables,
+    grant: &[u32],
+    membership: u32,
+    rows: &mut [u32],
+    pos: &mut [u32],
+    osp: &mut [u32],
+) -> Result<Viewed, Refusal> {
+    let answer = engine::sotjarn_view(tables.rows, tables.pos, tables.osp, grant, membership, rows, pos, osp);
+    match answer.refused {
+        0 => Ok(Viewed {
+            rows_words: answer.rows,
+            pos_words: answer.pos,
+            osp_words: answer.osp,
         }),
         code => Err(refusal(code)),
     }

@@ -31,6 +31,15 @@ pub struct MadeNumbers {
     pub report: usize,
 }
 
+/// What writing tables answers.
+#[repr(C)]
+pub struct TablesNumbers {
+    pub refused: u32,
+    pub rows: usize,
+    pub pos: usize,
+    pub osp: usize,
+}
+
 /// A waiting query, as the header lays it out.
 #[derive(Clone, Copy, Debug, PartialEq, Eq)]
 #[repr(C)]
@@ -79,7 +88,7 @@ pub const REFUSED: u32 = 3;
 
 /// The calls as the header declares them.
 mod foreign {
-    use super::{Entry, MadeNumbers, QueuedNumbers, ServiceNumbers, TurnedNumbers, WrittenNumbers};
+    use super::{Entry, MadeNumbers, QueuedNumbers, ServiceNumbers, TablesNumbers, TurnedNumbers, WrittenNumbers};
 
     extern "C" {
         pub fn sotjarn_open(
@@ -138,6 +147,24 @@ mod foreign {
             report: *mut u32,
             report_len: usize,
         ) -> MadeNumbers;
+
+        pub fn sotjarn_view(
+            rows: *const u32,
+            rows_len: usize,
+            pos: *const u32,
+            pos_len: usize,
+            osp: *const u32,
+            osp_len: usize,
+            grant: *const u32,
+            grant_len: usize,
+            membership: u32,
+            view_rows: *mut u32,
+            view_rows_len: usize,
+            view_pos: *mut u32,
+            view_pos_len: usize,
+            view_osp: *mut u32,
+            view_osp_len: usize,
+        ) -> TablesNumbers;
 
         pub fn sotjarn_join(
             rows: *const u32,
@@ -282,6 +309,40 @@ pub fn sotjarn_make(upload: &[u32], rows: &mut [u32], pos: &mut [u32], osp: &mut
             osp.len(),
             report.as_mut_ptr(),
             report.len(),
+        )
+    }
+}
+
+#[allow(clippy::too_many_arguments)]
+pub fn sotjarn_view(
+    rows: &[u32],
+    pos: &[u32],
+    osp: &[u32],
+    grant: &[u32],
+    membership: u32,
+    view_rows: &mut [u32],
+    view_pos: &mut [u32],
+    view_osp: &mut [u32],
+) -> TablesNumbers {
+    // Sound: each address and length is a slice's; the three that are written are `&mut` slices, so they overlap neither each other
+    // nor the rest (see the module).
+    unsafe {
+        foreign::sotjarn_view(
+            rows.as_ptr(),
+            rows.len(),
+            pos.as_ptr(),
+            pos.len(),
+            osp.as_ptr(),
+            osp.len(),
+            grant.as_ptr(),
+            grant.len(),
+            membership,
+            view_rows.as_mut_ptr(),
+            view_rows.len(),
+            view_pos.as_mut_ptr(),
+            view_pos.len(),
+            view_osp.as_mut_ptr(),
+            view_osp.len(),
         )
     }
 }

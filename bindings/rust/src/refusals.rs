@@ -10,7 +10,7 @@ use std::fmt;
 ///
 /// assert_eq!(Refusal::Quantum.code(), 8);
 /// assert_eq!(Refusal::from_code(8), Some(Refusal::Quantum));
-/// assert_eq!(Refusal::from_code(20), None);
+/// assert_eq!(Refusal::from_code(22), None);
 /// assert_eq!(Refusal::Quantum.fault(), "the quantum is outside its range");
 /// assert_eq!(Refusal::Quantum.remedy(), "give 1 to 1,000,000 steps");
 /// assert_eq!(Refusal::Quantum.to_string(), "refused by 8: the quantum is outside its range; give 1 to 1,000,000 steps");
@@ -57,10 +57,14 @@ pub enum Refusal {
     QueueRoom = 18,
     /// Queue: serving an empty line.
     EmptyLine = 19,
+    /// View: the grant has a word that is no name, or does not ascend strictly.
+    Grant = 20,
+    /// View: a buffer is too short for the visible rows.
+    ViewLengths = 21,
 }
 
 /// All of them, by their numbers from 1 on.
-const ALL: [Refusal; 19] = [
+const ALL: [Refusal; 21] = [
     Refusal::TableLengths,
     Refusal::FieldKind,
     Refusal::RowOrder,
@@ -80,6 +84,8 @@ const ALL: [Refusal; 19] = [
     Refusal::Entries,
     Refusal::QueueRoom,
     Refusal::EmptyLine,
+    Refusal::Grant,
+    Refusal::ViewLengths,
 ];
 
 impl Refusal {
@@ -120,6 +126,8 @@ impl Refusal {
             }
             Refusal::QueueRoom => "a list has no room for 32 entries, or there would be more than 32 in all",
             Refusal::EmptyLine => "the line is empty",
+            Refusal::Grant => "the grant has a word that is no name, or its words do not ascend strictly",
+            Refusal::ViewLengths => "a buffer is too short for the visible rows",
         }
     }
 
@@ -162,6 +170,8 @@ impl Refusal {
             }
             Refusal::QueueRoom => "lend 32 entries for each list, and let others join when somebody has left",
             Refusal::EmptyLine => "serve again when somebody has joined or was topped up",
+            Refusal::Grant => "sort the granted names as unsigned words, each once",
+            Refusal::ViewLengths => "for tables of n rows lend 3 n words for rows and n for each list: that is always enough",
         }
     }
 }

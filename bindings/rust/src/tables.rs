@@ -1,9 +1,9 @@
-//! Tables: lent, and made from rows in any order.
+//! Tables: lent, made from rows in any order, and those that an adviser may see.
 
 use std::error::Error;
 use std::fmt;
 
-use crate::calls::{make, MOST_ROWS};
+use crate::calls::{make, view, MOST_ROWS};
 use crate::refusals::Refusal;
 use crate::terms::{Term, TooLarge};
 use crate::uploads::{read_report, Dropped, Reason};
@@ -129,6 +129,34 @@ impl TableWords {
             Some(wrong) => Err(RowFault::WrongKind(wrong.place)),
             None => Ok(made),
         }
+    }
+
+    /// The tables of the rows that a grant makes visible, by the engine's call ([`view`]): names in strictly ascending order, and the
+    /// predicate of membership. Refused by 1 to 4 and 20.
+    ///
+    /// ```
+    /// use sotjarn::{Refusal, TableWords, Term::Name, Term::Number};
+    ///
+    /// let stems = [(1, 100), (2, 101), (3, 100)].map(|(stem, stand)| [Name(stem), Name(10), Name(stand)]);
+    /// let sizes = [(1, 45), (2, 310), (3, 310)].map(|(stem, size)| [Name(stem), Name(12), Number(size)]);
+    /// let wood = TableWords::from_rows(stems.into_iter().chain(sizes))?;
+    /// let seen = TableWords::view(wood.tables(), &[101], 10)?; // stand n101 is granted
+    /// assert_eq!(seen, TableWords::from_rows([stems[1], sizes[1]])?);
+    /// assert_eq!(TableWords::view(wood.tables(), &[], 10)?, TableWords::default()); // nothing is granted
+    /// assert_eq!(TableWords::view(wood.tables(), &[101, 101], 10), Err(Refusal::Grant));
+    /// # Ok::<(), Box<dyn std::error::Error>>(())
+    /// ```
+    pub fn view(tables: Tables, grant: &[u32], membership: u32) -> Result<TableWords, Refusal> {
+        let mut seen = TableWords {
+            rows: vec![0; tables.rows.len()],
+            pos: vec![0; tables.pos.len()],
+            osp: vec![0; tables.osp.len()],
+        };
+        let words = view(tables, grant, membership, &mut seen.rows, &mut seen.pos, &mut seen.osp)?;
+        seen.rows.truncate(words.rows_words);
+        seen.pos.truncate(words.pos_words);
+        seen.osp.truncate(words.osp_words);
+        Ok(seen)
     }
 
     /// The tables, to lend to a call.

@@ -3,7 +3,9 @@
 use std::collections::BTreeSet;
 
 use sotjarn::Term::{Name, Number};
-use sotjarn::{join, make, merge, open, serve, top_up, turn, Branch, Entry, Plan, PlanBuilder, Refusal, TableWords, Variable};
+use sotjarn::{
+    join, make, merge, open, serve, top_up, turn, view, Branch, Entry, Plan, PlanBuilder, Refusal, TableWords, Variable,
+};
 use sotjarn::{MOST_ENTRIES, NO_ENTRY};
 
 const STEM: Variable = Variable(0);
@@ -200,6 +202,29 @@ fn each_refusal_of_a_queue_has_its_call() {
     );
 }
 
+/// What refuses a view of the wood after a change, with buffers for so many rows.
+fn view_refused(change: impl Fn(&mut Lent), grant: &[u32], rows: usize) -> Option<u32> {
+    let mut lent = lent();
+    change(&mut lent);
+    let (mut seen, mut pos, mut osp) = (vec![0; 3 * rows], vec![0; rows], vec![0; rows]);
+    view(lent.wood.tables(), grant, 10, &mut seen, &mut pos, &mut osp)
+        .err()
+        .map(Refusal::code)
+}
+
+#[test]
+fn each_refusal_of_a_view_has_its_call() {
+    assert_eq!(view_refused(|_| (), &[2], 2), None);
+    assert_eq!(view_refused(|lent| lent.wood.rows.truncate(17), &[2, 2], 0), Some(1));
+    assert_eq!(view_refused(|lent| lent.wood.rows[0] |= 1 << 30, &[2, 2], 0), Some(2));
+    assert_eq!(view_refused(|lent| lent.wood.rows[..6].rotate_left(3), &[2, 2], 0), Some(3));
+    assert_eq!(view_refused(|lent| lent.wood.osp[5] = 3, &[2, 2], 0), Some(4));
+    assert_eq!(view_refused(|_| (), &[2, 2], 0), Some(20));
+    assert_eq!(view_refused(|_| (), &[1 << 30], 6), Some(20));
+    assert_eq!(view_refused(|_| (), &[100], 5), Some(21));
+    assert_eq!(view_refused(|_| (), &[100], 6), None);
+}
+
 #[test]
 fn each_refusal_has_its_call() {
     assert_eq!(refused(|_| ()), None);
@@ -260,15 +285,15 @@ fn a_record_of_no_rows_passes_only_without_keys() {
 
 #[test]
 fn each_refusal_says_its_number_and_something_of_its_own() {
-    let said: BTreeSet<String> = (1..=19)
+    let said: BTreeSet<String> = (1..=21)
         .filter_map(Refusal::from_code)
         .map(|refusal| refusal.to_string())
         .collect();
-    assert_eq!(said.len(), 19);
-    for code in 1..=19 {
+    assert_eq!(said.len(), 21);
+    for code in 1..=21 {
         let refusal = Refusal::from_code(code).expect("the rules have it");
         assert_eq!(refusal.code(), code);
         assert!(refusal.to_string().starts_with(&format!("refused by {code}: ")));
     }
-    assert_eq!((Refusal::from_code(0), Refusal::from_code(20)), (None, None));
+    assert_eq!((Refusal::from_code(0), Refusal::from_code(22)), (None, None));
 }

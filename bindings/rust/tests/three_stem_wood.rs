@@ -2,9 +2,10 @@
 
 use sotjarn::Term::{Name, Number};
 use sotjarn::{
-    make, open, turn, Branch, Comparison, Condition, Group, Kept, Key, List, Place, Plan, PlanBuilder, Query, Queue, Refusal, State,
+    make, open, turn, view, Branch, Comparison, Condition, Group, Kept, Key, List, Place, Plan, PlanBuilder, Query, Queue, Refusal,
+    State,
 };
-use sotjarn::{Dropped, Made, Reason, TableWords, Tables, TurnEnding, Value, Variable};
+use sotjarn::{Dropped, Made, Reason, TableWords, Tables, TurnEnding, Value, Variable, Viewed};
 
 const STEM: Variable = Variable(0);
 const SIZE: Variable = Variable(1);
@@ -104,6 +105,96 @@ fn five_words_are_refused_by_15_and_a_short_report_by_16() {
 #[test]
 fn nothing_uploaded_makes_no_rows() {
     assert_eq!(TableWords::make(&[]), Ok((TableWords::default(), vec![])));
+}
+
+/// The tables of some of the wood's rows.
+fn part(rows: std::ops::Range<usize>) -> TableWords {
+    let words = &wood().rows[3 * rows.start..3 * rows.end];
+    TableWords::make(words).expect("the upload is taken").0
+}
+
+#[test]
+fn an_adviser_of_one_stem_sees_its_rows_whatever_membership_is() {
+    for membership in [10, 12, 0, 0x4000_000A, u32::MAX] {
+        assert_eq!(TableWords::view(wood().tables(), &[2], membership), Ok(part(2..4)));
+    }
+    assert_eq!(TableWords::view(wood().tables(), &[2, 3], 12), Ok(part(2..6)));
+}
+
+#[test]
+fn an_adviser_of_a_stand_sees_its_stems_by_their_membership() {
+    assert_eq!(TableWords::view(wood().tables(), &[100], 10), Ok(wood()));
+    assert_eq!(TableWords::view(wood().tables(), &[100], 12), Ok(TableWords::default()));
+    assert_eq!(
+        TableWords::view(wood().tables(), &[10], 10),
+        Ok(TableWords::default()),
+        "a predicate is no subject"
+    );
+}
+
+#[test]
+fn nothing_granted_shows_nothing() {
+    assert_eq!(TableWords::view(wood().tables(), &[], 10), Ok(TableWords::default()));
+    let none = Viewed {
+        rows_words: 0,
+        pos_words: 0,
+        osp_words: 0,
+    };
+    assert_eq!(view(wood().tables(), &[], 10, &mut [], &mut [], &mut []), Ok(none));
+}
+
+#[test]
+fn grants_out_of_order_are_refused_by_20_and_then_short_buffers_by_21() {
+    let wood = wood();
+    let (mut rows, mut pos, mut osp) = ([9; 6], [9; 2], [9; 2]);
+    for grant in [&[3, 2][..], &[2, 2], &[2, 0x4000_0003], &[0x8000_0002], &[0xC000_0000]] {
+        assert_eq!(
+            view(wood.tables(), grant, 10, &mut rows, &mut pos, &mut osp),
+            Err(Refusal::Grant)
+        );
+        assert_eq!(
+            view(wood.tables(), grant, 10, &mut [], &mut [], &mut []),
+            Err(Refusal::Grant),
+            "20 comes first"
+        );
+    }
+    assert_eq!(
+        view(wood.tables(), &[2], 10, &mut rows[1..], &mut pos, &mut osp),
+        Err(Refusal::ViewLengths)
+    );
+    assert_eq!(
+        view(wood.tables(), &[2], 10, &mut rows, &mut pos[1..], &mut osp),
+        Err(Refusal::ViewLengths)
+    );
+    assert_eq!(
+        view(wood.tables(), &[2], 10, &mut rows, &mut pos, &mut osp[1..]),
+        Err(Refusal::ViewLengths)
+    );
+    assert_eq!((rows, pos, osp), ([9; 6], [9; 2], [9; 2]), "a refused view writes nothing");
+    assert!(
+        view(wood.tables(), &[2], 10, &mut rows, &mut pos, &mut osp).is_ok(),
+        "exact lengths suffice"
+    );
+    assert_eq!((&rows[..], pos, osp), (&wood.rows[6..12], [0, 1], [0, 1]));
+}
+
+#[test]
+fn what_is_hidden_may_change_unseen_and_what_is_visible_may_not() {
+    let seen = |stem: u32, size: u32| {
+        let mut rows = wood().rows;
+        rows[6 * (stem as usize - 1) + 5] = 0x4000_0000 | size;
+        let (other, _) = TableWords::make(&rows).expect("the upload is taken");
+        TableWords::view(other.tables(), &[2], 10).expect("the view is written")
+    };
+    assert_eq!(seen(3, 7), part(2..4));
+    assert_ne!(seen(2, 7), part(2..4));
+}
+
+#[test]
+fn an_advisers_query_runs_on_the_view() {
+    let seen = TableWords::view(wood().tables(), &[2], 10).expect("the view is written");
+    let (turns, list) = run(seen.tables(), &plan_a(), 10, 128);
+    assert_eq!((turns, list), (vec![(4, TurnEnding::Done)], List::Rows(vec![row(2, 310)])));
 }
 
 #[test]

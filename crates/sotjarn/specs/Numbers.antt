@@ -8,6 +8,8 @@ use Rattle.turns.specs.declared.Turned.{Turned}
 use Rattle.turns.specs.Turns.{refusalOf}
 use Rattle.uploads.specs.declared.Made.{Made}
 use Rattle.uploads.specs.Making.{madeRefusal, madeWords}
+use Rattle.views.specs.declared.Viewed.{Viewed}
+use Rattle.views.specs.Viewing.{viewRefusal, viewWords}
 use Rattle.queues.specs.declared.Queued.{Queued}
 use Rattle.queues.specs.declared.Service.{Service}
 use Rattle.queues.specs.Refusals.{refusalBy, lineBy, asideBy}
@@ -15,6 +17,7 @@ use Rattle.sotjarn.specs.declared.WrittenNumbers.{WrittenNumbers}
 use Rattle.sotjarn.specs.declared.EndingNumbers.{EndingNumbers}
 use Rattle.sotjarn.specs.declared.TurnedNumbers.{TurnedNumbers}
 use Rattle.sotjarn.specs.declared.MadeNumbers.{MadeNumbers}
+use Rattle.sotjarn.specs.declared.TablesNumbers.{TablesNumbers}
 use Rattle.sotjarn.specs.declared.QueuedNumbers.{QueuedNumbers}
 use Rattle.sotjarn.specs.declared.ServiceNumbers.{ServiceNumbers}
 
@@ -50,6 +53,9 @@ madeNumbers m =
       osp = madeWords m .osp;
       report = madeWords m .report;
     }
+
+abbrev pub viewedNumbers : Viewed → TablesNumbers
+viewedNumbers v = record { refused = viewRefusal v; rows = viewWords v .rows; pos = viewWords v .pos; osp = viewWords v .osp }
 
 abbrev pub queuedNumbers : Queued → QueuedNumbers
 queuedNumbers q = record { refused = refusalBy q; waiting = lineBy q; resting = asideBy q }

@@ -6,6 +6,7 @@ use queues::Service;
 use turns::TurnEnding;
 use turns::Turned;
 use uploads::Made;
+use views::Viewed;
 use words::Written;
 ghost use mathlib.Core.Path.{_≡_};
 ghost use Rattle.tables.specs.Tables.{tablesOf};
@@ -14,11 +15,12 @@ ghost use Rattle.turns.specs.Turns.{turnOf, turnInput};
 ghost use Rattle.merges.specs.Merging.{mergeInput, mergeOf};
 ghost use Rattle.list_endings.specs.PlanOutputs.{planOutput};
 ghost use Rattle.uploads.specs.Making.{makeInput, makeOf};
+ghost use Rattle.views.specs.Viewing.{viewInput, viewCallOf};
 ghost use Rattle.queues.specs.Lists.{lentAs};
 ghost use Rattle.queues.specs.Joining.{joinQueueOf};
 ghost use Rattle.queues.specs.Serving.{serveOf};
 ghost use Rattle.queues.specs.ToppingUp.{topUpOf};
-ghost use Rattle.sotjarn.specs.Numbers.{writtenNumbers, endingNumbers, turnedNumbers, madeNumbers, queuedNumbers, serviceNumbers};
+ghost use Rattle.sotjarn.specs.Numbers.{writtenNumbers, endingNumbers, turnedNumbers, madeNumbers, queuedNumbers, serviceNumbers, viewedNumbers};
 
 // What a call that writes to one buffer answers, or that says how long one has to be: the number of the test that refused it, or 0; and
 // the words written or asked for.
@@ -54,6 +56,15 @@ pub struct MadeNumbers {
     pub pos: usize,
     pub osp: usize,
     pub report: usize,
+}
+
+// What writing tables answers: the number of the test that refused it, or 0; and the words written to the rows, to POS and to OSP.
+#[repr(C)]
+pub struct TablesNumbers {
+    pub refused: u32,
+    pub rows: usize,
+    pub pos: usize,
+    pub osp: usize,
 }
 
 // What joining and topping up answer: the number of the test that refused it, or 0; and how many entries the line and the list set aside
@@ -167,6 +178,26 @@ fn made_numbers(m: Made) -> MadeNumbers
             pos: 0,
             osp: 0,
             report: 0,
+        },
+    }
+}
+
+// The numbers of what writing a view answers: no words are written by a refused call.
+fn viewed_numbers(v: Viewed) -> TablesNumbers
+    ensures { λ r. ⌜ r ≡ viewedNumbers v ⌝ }
+{
+    match v {
+        Viewed::Words { rows, pos, osp } => TablesNumbers {
+            refused: 0,
+            rows: rows,
+            pos: pos,
+            osp: osp,
+        },
+        Viewed::Refused(number) => TablesNumbers {
+            refused: number,
+            rows: 0,
+            pos: 0,
+            osp: 0,
         },
     }
 }
@@ -402,4 +433,37 @@ pub extern "C" fn sotjarn_top_up(
         × (now (aside .exit) ≡ topUpOf (lentAs (now (line .entry)) given (now (aside .entry)) kept) owner amount .aside)) ⌝ }
 {
     queued_numbers(queue_calls::top_up(line, given, aside, kept, owner, amount))
+}
+
+// Writes the tables of the rows that an adviser's grant makes visible, or refuses.
+#[no_mangle]
+pub extern "C" fn sotjarn_view(
+    rows: &[u32],
+    pos: &[u32],
+    osp: &[u32],
+    grant: &[u32],
+    membership: u32,
+    view_rows: &mut [u32],
+    view_pos: &mut [u32],
+    view_osp: &mut [u32],
+) -> TablesNumbers
+    ensures answer { λ r. ⌜ r ≡ viewedNumbers (viewCallOf (viewInput (now (rows .entry)) (now (pos .entry)) (now (osp .entry)) (now (grant .entry))
+        membership (now («view_rows» .entry)) (now («view_pos» .entry)) (now («view_osp» .entry))) .answer) ⌝ }
+    ensures rows { λ _. ⌜ now («view_rows» .exit) ≡ viewCallOf (viewInput (now (rows .entry)) (now (pos .entry)) (now (osp .entry))
+        (now (grant .entry)) membership (now («view_rows» .entry)) (now («view_pos» .entry)) (now («view_osp» .entry))) .buffers .rows ⌝ }
+    ensures pos { λ _. ⌜ now («view_pos» .exit) ≡ viewCallOf (viewInput (now (rows .entry)) (now (pos .entry)) (now (osp .entry))
+        (now (grant .entry)) membership (now («view_rows» .entry)) (now («view_pos» .entry)) (now («view_osp» .entry))) .buffers .pos ⌝ }
+    ensures osp { λ _. ⌜ now («view_osp» .exit) ≡ viewCallOf (viewInput (now (rows .entry)) (now (pos .entry)) (now (osp .entry))
+        (now (grant .entry)) membership (now («view_rows» .entry)) (now («view_pos» .entry)) (now («view_osp» .entry))) .buffers .osp ⌝ }
+{
+    viewed_numbers(view_calls::view(
+        rows,
+        pos,
+        osp,
+        grant,
+        membership,
+        view_rows,
+        view_pos,
+        view_osp,
+    ))
 }

@@ -11,6 +11,7 @@ use Rattle.turns.specs.Computing as turns
 use Rattle.merges.specs.Computing as merges
 use Rattle.uploads.specs.Computing as uploads
 use Rattle.queues.specs.Computing as queues
+use Rattle.views.specs.Computing as views
 use Rattle.worked_cases.specs.Calls.{Hold, all, _&_}
 use Rattle.worked_cases.specs.Starred.{starred}
 use Rattle.worked_cases.specs.Refusals.{ofTables, ofPlans, ofTurns, ofMerges}
@@ -19,7 +20,7 @@ use Rattle.worked_cases.specs.Misreadings.{Told, readings, same}
 -- one name for all that the calls' definitions are made of
 unfoldable pub computing : Unit {0}
 unfolding words.computing tables.computing plans.computing conditions.computing steps.computing lists.computing turns.computing merges.computing
-    uploads.computing queues.computing flatten
+    uploads.computing queues.computing views.computing flatten
 computing = tt
 
 -- the starred cases of the rules (docs/RULES.md, 11), those of k = 0 and of the record of no rows

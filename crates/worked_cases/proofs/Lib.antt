@@ -10,3 +10,4 @@ pub mod SizesHold
 pub mod StepsHold
 pub mod UploadsHold
 pub mod OwnersHold
+pub mod ViewsHold

@@ -18,13 +18,16 @@ use Rattle.merges.specs.Merging.{MergeInput, MergeResult, mergeOf}
 use Rattle.cuts.specs.Uncut.{runList}
 use Rattle.uploads.specs.declared.Made.the-variants as answer
 use Rattle.uploads.specs.Making.{MakeInput, MakeResult, makeOf}
+use Rattle.views.specs.declared.Viewed.the-variants as view
+use Rattle.views.specs.Viewing.{ViewInput, ViewResult, viewCallOf}
 
--- the four calls; the uncut run after n steps, with its list; and the tests of a turn alone, for a turn too long to compute
+-- the five calls; the uncut run after n steps, with its list; and the tests of a turn alone, for a turn too long to compute
 pub data Call : Type 0 where
   opening : Tables → List ℕ → List ℕ → Call
   turning : TurnInput → Call
   merging : MergeInput → Call
   making : MakeInput → Call
+  viewing : ViewInput → Call
   running : Tables → List ℕ → ℕ → Call
   testing : TurnInput → Call
 
@@ -33,6 +36,7 @@ pub data Result : Type 0 where
   turned : TurnResult → Result
   merged : MergeResult → Result
   made : MakeResult → Result
+  viewed : ViewResult → Result
   ran : Option State → List ℕ → Result
   -- the number of the first test that fails, none where all pass
   tested : Option ℕ → Result
@@ -42,6 +46,7 @@ resultFor (opening t plan state) = opened (openOf t plan state)
 resultFor (turning i) = turned (turnOf i)
 resultFor (merging i) = merged (mergeOf i)
 resultFor (making i) = made (makeOf i)
+resultFor (viewing i) = viewed (viewCallOf i)
 resultFor (running t plan n) =
     ran (after t (planOf plan) n .state) (runList (planOf plan .ending) (after t (planOf plan) n))
 resultFor (testing i) = tested (firstFailing (turnTests i))
@@ -94,3 +99,6 @@ notMerged i x = (merging i, merged (record { answer = Refused x; kept = i .kept 
 
 abbrev pub notMade : MakeInput → ℕ → Case
 notMade i x = (making i, made (record { answer = answer.Refused x; buffers = i .buffers }))
+
+abbrev pub notViewed : ViewInput → ℕ → Case
+notViewed i x = (viewing i, viewed (record { answer = view.Refused x; buffers = i .buffers }))

@@ -15,3 +15,4 @@ pub mod Closings
 pub mod Sizes
 pub mod Uploads
 pub mod Owners
+pub mod Views

@@ -8,12 +8,13 @@ use crate::evaluation::calls::{Merge, Open, Query, Turn};
 use crate::evaluation::queues::{Join, Serve, TopUp, MOST};
 use crate::evaluation::tables::Tables;
 use crate::evaluation::uploads::Make;
+use crate::evaluation::views::View;
 use crate::evaluation::words::*;
 use crate::histories::{self, Calls};
 use crate::inputs::random::Random;
-use crate::inputs::{calls, damage, plans, queues, uploads, woods};
+use crate::inputs::{calls, damage, plans, queues, uploads, views, woods};
 use crate::lending;
-use crate::libraries::{self, Library, Queued, Service, Turned, Written};
+use crate::libraries::{self, Library, Queued, Service, Turned, Viewed, Written};
 
 /// Both libraries, and how often each answer came.
 struct Both {
@@ -78,6 +79,12 @@ impl Calls for Both {
         let made = self.made(call, lending::make);
         self.note(named(made.answer.refused, "made"));
         made.answer
+    }
+
+    fn view(&mut self, call: &View) -> (Viewed, [Vec<u32>; 3]) {
+        let made = self.made(call, lending::view);
+        self.note(named(made.answer.refused, "viewed"));
+        (made.answer, [0, 1, 2].map(|at| made.at_exit(at).to_vec()))
     }
 
     fn join(&mut self, call: &Join) -> Queued {
@@ -182,6 +189,33 @@ pub fn uploaded(to: &mut impl Calls, random: &mut Random, most: usize) {
     to.make(&uploads::made_up(random));
 }
 
+/// Views of woods of at most so many rows: as they come, damaged, and made up. What a served one writes passes an opening's tests 1 to 4.
+pub fn viewed(to: &mut impl Calls, random: &mut Random, most: usize) {
+    let mut call = views::view(random, most);
+    let (answer, [rows, pos, osp]) = to.view(&call);
+    let tables = Tables {
+        rows: rows[..answer.rows_words].to_vec(),
+        pos: pos[..answer.pos_words].to_vec(),
+        osp: osp[..answer.osp_words].to_vec(),
+    };
+    let plan = plans::plan(random, &tables).words();
+    let (opened, _) = to.open(&Open {
+        tables,
+        plan,
+        state: random.words(9),
+    });
+    assert!(
+        opened.refused == 0 || opened.refused > 4,
+        "a view is refused by {}",
+        opened.refused
+    );
+    for _ in 0..random.pick(&[1, 2, 2, 3]) {
+        views::damage(random, &mut call);
+        to.view(&call);
+    }
+    to.view(&views::made_up(random));
+}
+
 /// Calls of queues of at most so many entries, with up to three things changed in each; some of them are still right.
 pub fn queued(to: &mut impl Calls, random: &mut Random, most: usize) {
     let queries = queues::queries(random, 3);
@@ -256,6 +290,26 @@ fn largest(to: &mut impl Calls) {
     }
 }
 
+/// Views of the largest woods: of nothing, of a stand, of all stands, and of single stems; and one row more than there may be.
+fn largest_views(to: &mut impl Calls) {
+    let random = &mut Random::new(65_536);
+    for stems in [32_768, 32_769] {
+        let tables = woods::stems(random, stems);
+        let stands = (100..120).map(name).collect();
+        for grant in [vec![], vec![name(107)], stands, vec![name(1_000_000), name(1_032_767)]] {
+            let many = tables.pos.len();
+            to.view(&View {
+                tables: tables.clone(),
+                grant,
+                membership: name(10),
+                rows: vec![5; 3 * many],
+                pos: vec![5; many],
+                osp: vec![5; many],
+            });
+        }
+    }
+}
+
 /// Every number of a refusal and every ending must come so often in a run of the usual size.
 const OFTEN: u64 = 100;
 
@@ -277,6 +331,7 @@ pub fn compare(file: &str, seeds: Range<u64>) {
         made_up(&mut both, random, &query);
         uploaded(&mut both, &mut Random::new(seed ^ 0x0AD5_0000), 25);
         queued(&mut both, &mut Random::new(seed ^ 0x0E0E_0000), MOST);
+        viewed(&mut both, &mut Random::new(seed ^ 0x0ADE_0000), 40);
     }
     let (apart, histories) = (both.calls, seeds.end - seeds.start);
     for seed in seeds {
@@ -288,6 +343,7 @@ pub fn compare(file: &str, seeds: Range<u64>) {
     }
     largest(&mut both);
     largest_uploads(&mut both);
+    largest_views(&mut both);
     println!("{:?}", both.came);
     let served = [
         "opened",
@@ -300,8 +356,9 @@ pub fn compare(file: &str, seeds: Range<u64>) {
         "served, done",
         "served, spent",
         "topped up",
+        "viewed",
     ];
-    let whats = (1..=19).map(|number| named(number, "")).chain(served.map(String::from));
+    let whats = (1..=21).map(|number| named(number, "")).chain(served.map(String::from));
     let rare: Vec<String> = whats
         .filter(|what| both.came.get(what).copied().unwrap_or(0) < OFTEN)
         .collect();

@@ -4,9 +4,10 @@ use crate::evaluation::calls::{Merge, Open, Query, Turn};
 use crate::evaluation::plan::Ending;
 use crate::evaluation::queues::{Join, Serve, TopUp};
 use crate::evaluation::uploads::Make;
+use crate::evaluation::views::View;
 use crate::inputs::random::Random;
 use crate::inputs::{calls, damage};
-use crate::libraries::{Made, Queued, Service, Turned, Written};
+use crate::libraries::{Made, Queued, Service, Turned, Viewed, Written};
 
 /// Where the calls of a history go: each is made, and answered with the written buffers at exit.
 pub trait Calls {
@@ -14,6 +15,7 @@ pub trait Calls {
     fn turn(&mut self, call: &Turn) -> (Turned, Vec<u32>, Vec<u32>);
     fn merge(&mut self, call: &Merge) -> (Written, Vec<u32>);
     fn make(&mut self, call: &Make) -> Made;
+    fn view(&mut self, call: &View) -> (Viewed, [Vec<u32>; 3]);
     fn join(&mut self, call: &Join) -> Queued;
     fn serve(&mut self, call: &Serve) -> Service;
     fn top_up(&mut self, call: &TopUp) -> Queued;

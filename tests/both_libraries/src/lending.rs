@@ -3,7 +3,8 @@
 use crate::evaluation::calls::{Merge, Open, Turn};
 use crate::evaluation::queues::{Join, Lists, Serve, TopUp, Waiting};
 use crate::evaluation::uploads::Make;
-use crate::libraries::{self, Entry, Lent, LentLists, Library, Queued, Service, Turned, Written};
+use crate::evaluation::views::View;
+use crate::libraries::{self, Entry, Lent, LentLists, Library, Queued, Service, Turned, Viewed, Written};
 
 const GUARDS: usize = 8;
 const GUARD: u32 = 0xA5A5_C3C3;
@@ -110,6 +111,21 @@ pub fn make(library: &Library, call: &Make) -> Made<libraries::Made> {
         report.words_mut(),
     );
     Made::new(answer, vec![rows, pos, osp, report, upload])
+}
+
+pub fn view(library: &Library, call: &View) -> Made<Viewed> {
+    let [rows, pos, osp, grant] =
+        [&call.tables.rows, &call.tables.pos, &call.tables.osp, &call.grant].map(|words| Copied::new(words));
+    let [mut seen, mut seen_pos, mut seen_osp] = [&call.rows, &call.pos, &call.osp].map(|words| Copied::new(words));
+    let lent = Lent {
+        rows: rows.words(),
+        pos: pos.words(),
+        osp: osp.words(),
+        plan: &[],
+    };
+    let buffers = [seen.words_mut(), seen_pos.words_mut(), seen_osp.words_mut()];
+    let answer = library.view(&lent, grant.words(), call.membership, buffers);
+    Made::new(answer, vec![seen, seen_pos, seen_osp, rows, pos, osp, grant])
 }
 
 /// An entry as C has it, and as the evaluation has it.

@@ -30,6 +30,15 @@ pub struct Made {
     pub report_words: usize,
 }
 
+#[derive(Clone, Copy, Debug, PartialEq)]
+#[repr(C)]
+pub struct Viewed {
+    pub refused: u32,
+    pub rows_words: usize,
+    pub pos_words: usize,
+    pub osp_words: usize,
+}
+
 /// A waiting query, as bindings/c/sotjarn.h lays it out.
 #[derive(Clone, Copy, Debug, PartialEq)]
 #[repr(C)]
@@ -90,6 +99,23 @@ type TurnCall = unsafe extern "C" fn(
 type MergeCall = unsafe extern "C" fn(Read, usize, Write, usize, usize, Read, usize) -> Written;
 type LeastCall = unsafe extern "C" fn(Read, usize) -> Written;
 type MakeCall = unsafe extern "C" fn(Read, usize, Write, usize, Write, usize, Write, usize, Write, usize) -> Made;
+type ViewCall = unsafe extern "C" fn(
+    Read,
+    usize,
+    Read,
+    usize,
+    Read,
+    usize,
+    Read,
+    usize,
+    u32,
+    Write,
+    usize,
+    Write,
+    usize,
+    Write,
+    usize,
+) -> Viewed;
 type JoinCall = unsafe extern "C" fn(
     Read,
     usize,
@@ -155,6 +181,23 @@ extern "C" {
     fn sotjarn_merge(_: Read, _: usize, _: Write, _: usize, _: usize, _: Read, _: usize) -> Written;
     fn sotjarn_least_output(_: Read, _: usize) -> Written;
     fn sotjarn_make(_: Read, _: usize, _: Write, _: usize, _: Write, _: usize, _: Write, _: usize, _: Write, _: usize) -> Made;
+    fn sotjarn_view(
+        _: Read,
+        _: usize,
+        _: Read,
+        _: usize,
+        _: Read,
+        _: usize,
+        _: Read,
+        _: usize,
+        _: u32,
+        _: Write,
+        _: usize,
+        _: Write,
+        _: usize,
+        _: Write,
+        _: usize,
+    ) -> Viewed;
     fn sotjarn_join(
         _: Read,
         _: usize,
@@ -213,6 +256,7 @@ pub struct Library {
     merge: MergeCall,
     least: LeastCall,
     make: MakeCall,
+    view: ViewCall,
     join: JoinCall,
     serve: ServeCall,
     top_up: TopUpCall,
@@ -242,6 +286,7 @@ impl Library {
             merge: sotjarn_merge,
             least: sotjarn_least_output,
             make: sotjarn_make,
+            view: sotjarn_view,
             join: sotjarn_join,
             serve: sotjarn_serve,
             top_up: sotjarn_top_up,
@@ -269,6 +314,7 @@ impl Library {
                 merge: transmute_copy(&symbol(c"sotjarn_merge")),
                 least: transmute_copy(&symbol(c"sotjarn_least_output")),
                 make: transmute_copy(&symbol(c"sotjarn_make")),
+                view: transmute_copy(&symbol(c"sotjarn_view")),
                 join: transmute_copy(&symbol(c"sotjarn_join")),
                 serve: transmute_copy(&symbol(c"sotjarn_serve")),
                 top_up: transmute_copy(&symbol(c"sotjarn_top_up")),
@@ -362,6 +408,32 @@ impl Library {
                 osp.len(),
                 report.as_mut_ptr(),
                 report.len(),
+            )
+        }
+    }
+
+    /// The plan of `lent` is none of the call's.
+    pub fn view(&self, lent: &Lent, grant: &[u32], membership: u32, seen: [&mut [u32]; 3]) -> Viewed {
+        let Lent { rows, pos, osp, .. } = lent;
+        let [view_rows, view_pos, view_osp] = seen;
+        // Sound: each address and length is a slice's, and the written buffers are `&mut` slices.
+        unsafe {
+            (self.view)(
+                rows.as_ptr(),
+                rows.len(),
+                pos.as_ptr(),
+                pos.len(),
+                osp.as_ptr(),
+                osp.len(),
+                grant.as_ptr(),
+                grant.len(),
+                membership,
+                view_rows.as_mut_ptr(),
+                view_rows.len(),
+                view_pos.as_mut_ptr(),
+                view_pos.len(),
+                view_osp.as_mut_ptr(),
+                view_osp.len(),
             )
         }
     }

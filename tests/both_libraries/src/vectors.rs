@@ -2,18 +2,19 @@
 
 use std::fs;
 
-use crate::comparing::{damaged, made_up, queued, uploaded};
+use crate::comparing::{damaged, made_up, queued, uploaded, viewed};
 use crate::evaluation::calls::{Merge, Open, Query, Turn};
 use crate::evaluation::plan::{Branch, Condition, Ending, Plan};
 use crate::evaluation::queues::{Join, Lists, Serve, TopUp, Waiting, PLAN_ROOM, STATE_ROOM};
 use crate::evaluation::tables::Tables;
 use crate::evaluation::uploads::Make;
+use crate::evaluation::views::View;
 use crate::evaluation::words::*;
 use crate::histories::{self, Calls};
 use crate::inputs::plans;
 use crate::inputs::random::Random;
 use crate::lending::{self, MadeOfLists};
-use crate::libraries::{Library, Made, Queued, Service, Turned, Written};
+use crate::libraries::{Library, Made, Queued, Service, Turned, Viewed, Written};
 
 /// How many queries there are, each with damaged calls, made-up ones and a history, and how many more whose conditions keep no row.
 const QUERIES: u64 = 80;
@@ -37,10 +38,16 @@ const ENTRIES: u32 = 10;
 const JOIN: u32 = 11;
 const SERVE: u32 = 12;
 const TOP_UP: u32 = 13;
+const VIEW: u32 = 14;
+const VIEW_ALL: u32 = 15;
 
 /// How many small uploads there are, and the most rows of one.
 const UPLOADS: u64 = 60;
 const UPLOADED: usize = 14;
+
+/// How many small woods are viewed, and the most rows of one.
+const VIEWS: u64 = 60;
+const VIEWED: usize = 12;
 
 /// How many small queues there are, and the most entries of one; and how many as large as they may be.
 const QUEUES: u64 = 45;
@@ -48,7 +55,7 @@ const QUEUED: usize = 5;
 const LARGE_QUEUES: u64 = 2;
 const LARGEST: usize = 32;
 
-/// The buffers, by their numbers in the file. Behind them come the line and the list set aside, of entries.
+/// The buffers, by their numbers in the file. Between them stand the line and the list set aside, of entries.
 #[derive(Clone, Copy)]
 enum Name {
     Rows,
@@ -62,14 +69,21 @@ enum Name {
     List,
     Upload,
     Report,
+    Grant = 13,
+    SeenRows,
+    SeenPos,
+    SeenOsp,
 }
 
-/// How many buffers there are.
-const BUFFERS: usize = 11;
+/// How many buffers there are, both lists included.
+const BUFFERS: usize = 17;
 
 /// The numbers of both lists.
-const LINE: usize = BUFFERS;
-const ASIDE: usize = BUFFERS + 1;
+const LINE: usize = 11;
+const ASIDE: usize = 12;
+
+/// The buffers that a view is written to.
+const SEEN: [Name; 3] = [Name::SeenRows, Name::SeenPos, Name::SeenOsp];
 
 /// An entry of zeros.
 fn nobody() -> Waiting {
@@ -244,6 +258,42 @@ impl Vectors {
         }
     }
 
+    /// Lends all of a view's buffers.
+    fn lend_view(&mut self, call: &View) {
+        self.lend_tables(&call.tables);
+        self.lend(Name::Grant, &call.grant);
+        for (buffer, words) in SEEN.into_iter().zip([&call.rows, &call.pos, &call.osp]) {
+            self.lend(buffer, words);
+        }
+    }
+
+    /// Writes the view of the stems that are lent, so many, for the stand that all of them have, and asks for the tables themselves.
+    fn view_all(&mut self, many: u32) {
+        let (tables, rows) = (stems(many), many as usize);
+        let call = View {
+            grant: vec![name(100)],
+            membership: name(10),
+            rows: filled(3 * rows + 1),
+            pos: filled(rows + 1),
+            osp: filled(rows),
+            tables,
+        };
+        let made = lending::view(&self.proved, &call);
+        assert!(made.answer.refused == 0, "the view is written");
+        for (at, words) in [&call.tables.rows, &call.tables.pos, &call.tables.osp]
+            .into_iter()
+            .enumerate()
+        {
+            assert!(made.at_exit(at)[..words.len()] == words[..], "all rows are visible");
+        }
+        self.lend_view(&call);
+        self.words.extend([VIEW_ALL, call.membership]);
+        for (at, buffer) in SEEN.into_iter().enumerate() {
+            self.held[buffer as usize] = made.at_exit(at).to_vec();
+        }
+        self.calls += 1;
+    }
+
     /// Has both lists hold these entries.
     fn lend_lists(&mut self, lists: &Lists) {
         for (number, entries) in [&lists.line, &lists.aside].into_iter().enumerate() {
@@ -367,6 +417,31 @@ impl Calls for Vectors {
         self.held_after(&made);
         self.calls += 1;
         made.answer
+    }
+
+    fn view(&mut self, call: &View) -> (Viewed, [Vec<u32>; 3]) {
+        let call = View {
+            rows: filled(call.rows.len()),
+            pos: filled(call.pos.len()),
+            osp: filled(call.osp.len()),
+            ..call.clone()
+        };
+        let made = lending::view(&self.proved, &call);
+        let Viewed {
+            refused,
+            rows_words,
+            pos_words,
+            osp_words,
+        } = made.answer;
+        self.lend_view(&call);
+        let lengths = [rows_words, pos_words, osp_words];
+        self.words.extend([VIEW, call.membership, refused]);
+        self.words.extend(lengths.map(|words| words as u32));
+        for (at, buffer) in SEEN.into_iter().enumerate() {
+            self.written(buffer, made.at_exit(at), lengths[at]);
+        }
+        self.calls += 1;
+        (made.answer, [0, 1, 2].map(|at| made.at_exit(at).to_vec()))
     }
 
     fn join(&mut self, call: &Join) -> Queued {
@@ -494,6 +569,27 @@ fn queues(to: &mut Vectors) {
     }
 }
 
+/// Views: small ones as they come, damaged and made up; then of the most rows, the last few or all of them, and one row more.
+fn views(to: &mut Vectors) {
+    for seed in 0..VIEWS {
+        viewed(to, &mut Random::new(seed), VIEWED);
+    }
+    for many in [1_050, 65_536, 65_537] {
+        let tables = to.lend_stems(many);
+        to.view(&View {
+            tables,
+            grant: (many - 5..many).map(name).collect(),
+            membership: name(12),
+            rows: filled(16),
+            pos: filled(5),
+            osp: filled(5),
+        });
+        if many <= 65_536 {
+            to.view_all(many);
+        }
+    }
+}
+
 /// The pairs of stems of one stand, counted.
 fn pairs() -> Plan {
     let patterns = vec![[variable(0), name(10), variable(1)], [variable(2), name(10), variable(1)]];
@@ -540,6 +636,7 @@ pub fn write(file: &str) {
     short(&mut made);
     uploads(&mut made);
     queues(&mut made);
+    views(&mut made);
     long(&mut made);
     let bytes: Vec<u8> = made.words.iter().flat_map(|word| word.to_le_bytes()).collect();
     fs::write(file, &bytes).expect("the file is written");

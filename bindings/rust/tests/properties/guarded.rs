@@ -6,6 +6,7 @@ use std::hint::black_box;
 use crate::evaluation::calls::{Answer, How, Merge, Open, Turn};
 use crate::evaluation::queues::{Counts, Join, Lists, Serve, Service, TopUp, Waiting};
 use crate::evaluation::uploads::{Make, Written};
+use crate::evaluation::views::{self, View};
 use sotjarn::{Entry, Queued, Refusal, Tables, TurnEnding, Turned, NO_ENTRY};
 
 thread_local! {
@@ -145,6 +146,29 @@ pub fn make(call: &Make) -> (Result<Written, u32>, Make) {
         report: report.at_exit(),
     };
     let answer = answer.map(|made| (made.rows_words, made.pos_words, made.osp_words, made.report_words));
+    (answer.map_err(number), at_exit)
+}
+
+pub fn view(call: &View) -> (Result<views::Written, u32>, View) {
+    let (rows, grant) = (Guarded::new("rows", &call.tables.rows), Guarded::new("grant", &call.grant));
+    let (pos, osp) = (Guarded::new("pos", &call.tables.pos), Guarded::new("osp", &call.tables.osp));
+    let (mut seen, mut seen_pos) = (Guarded::new("view rows", &call.rows), Guarded::new("view pos", &call.pos));
+    let mut seen_osp = Guarded::new("view osp", &call.osp);
+    let tables = Tables {
+        rows: rows.lent(),
+        pos: pos.lent(),
+        osp: osp.lent(),
+    };
+    let (view_rows, view_pos, view_osp) = (seen.lent_mut(), seen_pos.lent_mut(), seen_osp.lent_mut());
+    let answer = sotjarn::view(tables, grant.lent(), call.membership, view_rows, view_pos, view_osp);
+    [rows, pos, osp, grant].into_iter().for_each(Guarded::unchanged);
+    let at_exit = View {
+        rows: seen.at_exit(),
+        pos: seen_pos.at_exit(),
+        osp: seen_osp.at_exit(),
+        ..call.clone()
+    };
+    let answer = answer.map(|viewed| (viewed.rows_words, viewed.pos_words, viewed.osp_words));
     (answer.map_err(number), at_exit)
 }
 

@@ -12,3 +12,4 @@ mod long;
 mod queues;
 mod short;
 mod uploads;
+mod views;

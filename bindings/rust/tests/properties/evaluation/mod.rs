@@ -1,5 +1,5 @@
-//! What making tables, opening, a turn and merging answer, and joining, serving and topping up a queue, and every buffer at exit: an
-//! evaluation written from the rules' text.
+//! What making tables, opening, a turn and merging answer, joining, serving and topping up a queue, and writing a view, and every
+//! buffer at exit: an evaluation written from the rules' text.
 //!
 //! It shares nothing with the engine nor with the crate under test. The uncut run is worked out whole; a turn is a part of it, and a
 //! state is accepted when it is among the run's.
@@ -11,4 +11,5 @@ pub mod queues;
 pub mod run;
 pub mod tables;
 pub mod uploads;
+pub mod views;
 pub mod words;

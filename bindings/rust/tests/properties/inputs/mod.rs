@@ -1,4 +1,4 @@
-//! Random inputs: woods, uploads, plans and queues, calls of them, and damage.
+//! Random inputs: woods, uploads, plans, queues and views, calls of them, and damage.
 
 pub mod calls;
 pub mod damage;
@@ -6,4 +6,5 @@ pub mod plans;
 pub mod queues;
 pub mod random;
 pub mod uploads;
+pub mod views;
 pub mod woods;

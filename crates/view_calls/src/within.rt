@@ -1,0 +1,67 @@
+// Writing the view with lent places for marks and flags: the room is tested before the first word is written.
+use crate::ROOM;
+use tables::COLUMNS;
+use view_marks::mark;
+use view_members::flag_members;
+use view_writes::write_numbers;
+use view_writes::write_rows;
+use views::Viewed;
+ghost use mathlib.Core.Path.{_≡_};
+ghost use mathlib.Core.Bool.{true};
+ghost use Prim.Native.Nat.{_≤_};
+ghost use lib.ListN.{length};
+ghost use Rattle.tables.specs.Tables.{tablesOf, mostRows};
+ghost use Rattle.tables.specs.Right.{Right};
+ghost use Rattle.views.specs.Viewing.{viewInput, buffersOf, grantRight, viewCallOf};
+ghost use Rattle.view_members.specs.Flags.{Unflagged};
+ghost use Rattle.view_calls.specs.Room.{roomFor};
+
+// Whether buffers of these lengths have room for the visible rows and for both lists.
+fn has_room(seen: usize, rows: usize, pos: usize, osp: usize) -> bool
+    requires { ⌜ seen ≤ mostRows ⌝ }
+    ensures { λ r. ⌜ r ≡ roomFor seen rows pos osp ⌝ }
+{
+    if rows < seen * COLUMNS {
+        return false;
+    }
+    if pos < seen {
+        return false;
+    }
+    seen <= osp
+}
+
+// Writes the view of right tables for a right grant.
+pub fn view_within(
+    rows: &[u32],
+    pos: &[u32],
+    osp: &[u32],
+    grant: &[u32],
+    membership: u32,
+    view_rows: &mut [u32],
+    view_pos: &mut [u32],
+    view_osp: &mut [u32],
+    marks: &mut [u32],
+    flags: &mut [u8],
+) -> Viewed
+    requires { ⌜ Right (tablesOf (now rows) (now pos) (now osp)) ⌝ }
+    requires { ⌜ grantRight (now grant) ≡ true ⌝ }
+    requires { ⌜ length (now marks) ≡ mostRows ⌝ }
+    requires { ⌜ Unflagged (now rows) (now flags) ⌝ }
+    ensures { λ r. ⌜ record { answer = r; buffers = buffersOf (now («view_rows» .exit)) (now («view_pos» .exit)) (now («view_osp» .exit)) }
+        ≡ viewCallOf (viewInput (now (rows .entry)) (now (pos .entry)) (now (osp .entry)) (now (grant .entry)) membership
+        (now («view_rows» .entry)) (now («view_pos» .entry)) (now («view_osp» .entry))) ⌝ }
+{
+    flag_members(rows, pos, osp, grant, membership, flags);
+    let seen = mark(rows, grant, flags, marks);
+    if !has_room(seen, view_rows.len(), view_pos.len(), view_osp.len()) {
+        return Viewed::Refused(ROOM);
+    }
+    write_rows(rows, marks, seen, view_rows);
+    write_numbers(pos, marks, seen, view_pos);
+    write_numbers(osp, marks, seen, view_osp);
+    Viewed::Words {
+        rows: seen * COLUMNS,
+        pos: seen,
+        osp: seen,
+    }
+}

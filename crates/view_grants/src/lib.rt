@@ -1,0 +1,79 @@
+// The grant of an adviser: names that ascend (test 20), and a search among them for words that do not fall.
+use words::Term;
+ghost use mathlib.Core.Path.{_≡_};
+ghost use mathlib.Core.Bool.{true};
+ghost use Prim.Native.Nat.{_≤_};
+ghost use lib.Dec.{ltb};
+ghost use Rattle.words.specs.Sequences.{all, neighbours, member};
+ghost use Rattle.views.specs.Viewing.{isName, grantRight};
+ghost use Rattle.view_grants.specs.Places.{firstFrom};
+
+// Where a word was looked for in a grant: the first place whose word is not less, and whether it is that word.
+pub struct Sought {
+    pub at: usize,
+    pub found: bool,
+}
+
+// Whether each word of a grant is a name.
+fn names_only(grant: &[u32]) -> bool
+    ensures { λ r. ⌜ r ≡ all isName (now (grant .entry)) ⌝ }
+{
+    let mut at: usize = 0;
+    while at < grant.len() {
+        let word = grant[at];
+        if Term(word).kind() != Term::NAME {
+            return false;
+        }
+        at += 1;
+    }
+    true
+}
+
+// Whether the words of a grant ascend strictly.
+fn ascends(grant: &[u32]) -> bool
+    ensures { λ r. ⌜ r ≡ neighbours ltb (now (grant .entry)) ⌝ }
+{
+    let mut at: usize = 1;
+    while at < grant.len() {
+        let earlier = grant[at - 1];
+        let later = grant[at];
+        if later <= earlier {
+            return false;
+        }
+        at += 1;
+    }
+    true
+}
+
+// Whether a grant is right: names alone, strictly ascending.
+pub fn grant_right(grant: &[u32]) -> bool
+    ensures { λ r. ⌜ r ≡ grantRight (now (grant .entry)) ⌝ }
+{
+    if !names_only(grant) {
+        return false;
+    }
+    ascends(grant)
+}
+
+// Looks for a word in a grant, from a place on that is not past the first word that is not less.
+pub fn seek(grant: &[u32], from: usize, word: u32) -> Sought
+    requires { ⌜ neighbours ltb (now grant) ≡ true ⌝ }
+    requires { ⌜ from ≤ firstFrom (now grant) word ⌝ }
+    ensures { λ r. ⌜ (r .at ≡ firstFrom (now (grant .entry)) word) × (r .found ≡ member word (now (grant .entry))) ⌝ }
+{
+    let mut at: usize = from;
+    while at < grant.len() {
+        let next = grant[at];
+        if word <= next {
+            return Sought {
+                at: at,
+                found: next == word,
+            };
+        }
+        at += 1;
+    }
+    Sought {
+        at: at,
+        found: false,
+    }
+}

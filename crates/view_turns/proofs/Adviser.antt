@@ -1,0 +1,29 @@
+-- Non-interference, whole: accepted tables that differ only in rows that are hidden where they stand are the same to an adviser, for every
+-- plan, state, quantum, threshold and buffer.
+use Prim.Native.Nat.{ℕ}
+use mathlib.Core.Path.{_≡_, ap}
+use mathlib.Core.Option.{none}
+use mathlib.Core.List.{List}
+use Rattle.words.specs.Tests.{firstFailing}
+use Rattle.tables.specs.Tables.{Tables, tableTests}
+use Rattle.turns.specs.Opening.{openOf}
+use Rattle.turns.specs.Turns.{turnOf}
+use Rattle.views.specs.Viewing.{ViewBuffers}
+use Rattle.views.specs.Exactness.{tablesIn}
+use Rattle.views.specs.Hidden.{DifferHidden, lending}
+use Rattle.views.proofs.SameCalls.{same-calls}
+use Rattle.view_turns.specs.Adviser.{turnOver, SameQueries, SameToAdviser}
+
+same-queries : (v w : Tables) → v ≡ w → SameQueries v w
+same-queries v w e =
+    record {
+      opens = λ plan state. ap (λ t. openOf t plan state) e;
+      turns = λ plan state given quantum threshold output. ap (λ t. turnOf (turnOver plan state given quantum threshold output t)) e;
+    }
+
+pub same-to-adviser : (grant : List ℕ) (membership : ℕ) (b : ViewBuffers) (t u : Tables) → firstFailing (tableTests t) ≡ none
+    → firstFailing (tableTests u) ≡ none → DifferHidden grant membership t u
+    → SameToAdviser (lending grant membership b t) (lending grant membership b u)
+same-to-adviser grant membership b t u p q d =
+    let e = same-calls grant membership b t u p q d in
+    record { call = e; queries = same-queries _ _ (ap tablesIn e) }

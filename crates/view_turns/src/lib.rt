@@ -1,0 +1,1 @@
+// Queries over what an adviser may see: theorems, no code.

@@ -1,0 +1,13 @@
+pub mod Visible
+pub mod Lengths
+pub mod Rows
+pub mod Renumbering
+pub mod Lists
+pub mod Exact
+pub mod Refusals
+pub mod Writes
+pub mod Leaves
+pub mod Equal
+pub mod Hidden
+pub mod SameCalls
+pub mod Direct
