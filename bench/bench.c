@@ -222,7 +222,7 @@ static uint64_t found, sum; /* by SQLite */
 
 static struct sotjarn_written open_by(enum who w, const struct query *q, uint32_t *state)
 {
-    return calls[w].open(TABLES, q->plan, q->words, state, 9);
+    return calls[w].open(TABLES, 0, q->plan, q->words, state, SOTJARN_STATE_WORDS);
 }
 
 /* the check alone: the engine refuses a plan of one word 0 after it has checked the tables */
@@ -235,7 +235,7 @@ static double time_check(enum who w, const struct query *q, uint32_t quantum)
         found = run_sql("pragma integrity_check", 1, &sum);
         return now() - t;
     }
-    refused = w == PEER ? c_check(TABLES) + 5 : calls[w].open(TABLES, zero, 1, zero, 9).refused;
+    refused = w == PEER ? c_check(TABLES) + 5 : calls[w].open(TABLES, 0, zero, 1, zero, SOTJARN_STATE_WORDS).refused;
     t = now() - t;
     if (refused != 5)
         fail("the tables are not accepted");
@@ -275,7 +275,7 @@ static double time_turn(enum who w, const struct query *q, uint32_t quantum)
     }
     words = open_by(w, q, state).words;
     t = now();
-    r->turned = calls[w].turn(TABLES, q->plan, q->words, state, 9, words, quantum, state, 0, r->output, OUTPUT);
+    r->turned = calls[w].turn(TABLES, 0, q->plan, q->words, state, SOTJARN_STATE_WORDS, words, quantum, state, 0, r->output, OUTPUT);
     t = now() - t;
     if (r->turned.ending == SOTJARN_REFUSED)
         fail("a turn is refused");

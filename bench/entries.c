@@ -27,17 +27,18 @@ static void put(struct sotjarn_entry *entries, int count, uint32_t first, uint64
         entries[i].allowance = allowance;
         entries[i].owner = first + (uint32_t)i;
         entries[i].plan_words = sizeof plan / sizeof *plan;
-        entries[i].state_words = 2;
+        entries[i].state_words = 3;
         memcpy(entries[i].plan, plan, sizeof plan);
-        entries[i].state[0] = SOTJARN_POSITION(0, 1);
-        entries[i].state[1] = SOTJARN_PLACE(0);
+        entries[i].state[0] = SOTJARN_SURVEY(0);
+        entries[i].state[1] = SOTJARN_POSITION(0, 1);
+        entries[i].state[2] = SOTJARN_PLACE(0);
     }
 }
 
 /* The calls: each answers whether it was served. */
 static int serve(int waiting, int resting)
 {
-    return sotjarn_serve(rows, 3, numbers, 1, numbers, 1, line, ROOM, (size_t)waiting, aside, ROOM, (size_t)resting, 1, numbers, 0, output, 1)
+    return sotjarn_serve(rows, 3, numbers, 1, numbers, 1, 0, line, ROOM, (size_t)waiting, aside, ROOM, (size_t)resting, 1, numbers, 0, output, 1)
                .ending == SOTJARN_SPENT;
 }
 
@@ -53,10 +54,10 @@ static int top_up_last(int waiting, int resting)
 
 static int turn(int waiting, int resting)
 {
-    uint32_t state[SOTJARN_STATE_WORDS] = {SOTJARN_POSITION(0, 1), SOTJARN_PLACE(0)};
+    uint32_t state[SOTJARN_STATE_WORDS] = {SOTJARN_SURVEY(0), SOTJARN_POSITION(0, 1), SOTJARN_PLACE(0)};
     (void)waiting, (void)resting;
-    return sotjarn_turn(rows, 3, numbers, 1, numbers, 1, plan, sizeof plan / sizeof *plan, state, SOTJARN_STATE_WORDS, 2, 1, numbers, 0, output,
-                        1).ending == SOTJARN_SPENT;
+    return sotjarn_turn(rows, 3, numbers, 1, numbers, 1, 0, plan, sizeof plan / sizeof *plan, state, SOTJARN_STATE_WORDS, 3, 1, numbers, 0,
+                        output, 1).ending == SOTJARN_SPENT;
 }
 
 static double seconds(void)

@@ -1,6 +1,6 @@
 /* An adviser who is let in to one stand of a wood: the service makes tables of the survey, writes the adviser's view of them, and runs the adviser's
  * query on the view. Between two turns a stand that the adviser does not see is measured anew: one stem of it is gone, one has grown, and one is new.
- * The view is the same word for word, and the query goes on from its saved state. Then a stem of the adviser's own stand is remeasured, and the
+ * The view is the same word for word, so it keeps its number, and the query goes on from its saved state. Then a stem of the adviser's own stand is remeasured, and the
  * view is another one.
  *
  *     rt staticlib sotjarn
@@ -22,7 +22,8 @@
 #define STOOD(stem, stand, size) \
     SOTJARN_NAME(stem), GROWS_IN, SOTJARN_NAME(stand), SOTJARN_NAME(stem), MEASURES, SOTJARN_NUMBER(size)
 
-enum { ROWS = 12, QUANTUM = 2, OUTPUT = 16 };
+/* The adviser's tables have a number of their own, and keep it while the view is the same. */
+enum { SEEN = 40, ROWS = 12, QUANTUM = 2, OUTPUT = 16 };
 
 /* The first survey: stems n1, n3 and n5 in stand n100, the others in n101. Then n2 is felled, n4 has grown, and n7 is new; last, n3 has grown. */
 static const uint32_t first[] = {STOOD(1, 100, 45), STOOD(2, 101, 310), STOOD(3, 100, 310), STOOD(4, 101, 88), STOOD(5, 100, 120)};
@@ -74,7 +75,7 @@ static struct sotjarn_turned turn(const struct tables *seen, uint32_t *state, si
     static const char *const endings[] = {"done", "spent", "full", "refused"};
     uint32_t output[OUTPUT];
     struct sotjarn_turned turned =
-        sotjarn_turn(seen->rows, 3 * seen->count, seen->pos, seen->count, seen->osp, seen->count, plan, COUNT(plan), state,
+        sotjarn_turn(seen->rows, 3 * seen->count, seen->pos, seen->count, seen->osp, seen->count, SEEN, plan, COUNT(plan), state,
                      SOTJARN_STATE_WORDS, state_words, QUANTUM, grant, 0, output, OUTPUT);
     printf("a turn: %" PRIu32 " steps, %s\n", turned.steps, endings[turned.ending]);
     for (size_t at = 0; at < turned.list_words; at += 2)
@@ -92,7 +93,7 @@ int main(void)
     if ((number = make(first, COUNT(first), &whole)) || (number = view(&whole, &seen)))
         return refused("the first survey", number);
     printf("the service has %zu rows, the adviser sees %zu\n", whole.count, seen.count);
-    opened = sotjarn_open(seen.rows, 3 * seen.count, seen.pos, seen.count, seen.osp, seen.count, plan, COUNT(plan), state, COUNT(state));
+    opened = sotjarn_open(seen.rows, 3 * seen.count, seen.pos, seen.count, seen.osp, seen.count, SEEN, plan, COUNT(plan), state, COUNT(state));
     if (opened.refused)
         return refused("the query", opened.refused);
     turned = turn(&seen, state, opened.words);

@@ -10,7 +10,8 @@
 #include "sotjarn_words.h"
 #include <stdio.h>
 
-enum { COUNT = 7, PLAN = 16, STATE = SOTJARN_STATE_WORDS, BEST = 1, WIDTH = 2, QUANTUM = 4 };
+/* SURVEY is the number that the upload got: another one goes with every upload */
+enum { SURVEY = 7, COUNT = 7, PLAN = 16, STATE = SOTJARN_STATE_WORDS, BEST = 1, WIDTH = 2, QUANTUM = 4 };
 
 /* the third row is the second again */
 static const uint32_t upload[3 * COUNT] = {
@@ -40,7 +41,7 @@ int main(void) {
         printf("row %u of the upload: %s\n", (unsigned)report[at], sotjarn_dropped_text(report[at + 1]));
 
     struct sotjarn_written opened =
-        sotjarn_open(rows, made.rows_words, pos, made.pos_words, osp, made.osp_words, plan, PLAN, state, STATE);
+        sotjarn_open(rows, made.rows_words, pos, made.pos_words, osp, made.osp_words, SURVEY, plan, PLAN, state, STATE);
     if (opened.refused) return refused(opened.refused);
     state_words = opened.words;
 
@@ -50,8 +51,8 @@ int main(void) {
         size_t threshold_words = kept_words == BEST * WIDTH ? WIDTH : 0;
 
         struct sotjarn_turned turned =
-            sotjarn_turn(rows, made.rows_words, pos, made.pos_words, osp, made.osp_words, plan, PLAN, state, STATE, state_words,
-                         QUANTUM, threshold, threshold_words, output, BEST * WIDTH);
+            sotjarn_turn(rows, made.rows_words, pos, made.pos_words, osp, made.osp_words, SURVEY, plan, PLAN, state, STATE,
+                         state_words, QUANTUM, threshold, threshold_words, output, BEST * WIDTH);
         if (turned.ending == SOTJARN_REFUSED) return refused(turned.refused);
 
         struct sotjarn_written merged =

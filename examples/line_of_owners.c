@@ -16,9 +16,9 @@
 #define STEM SOTJARN_VARIABLE(0)
 #define SIZE SOTJARN_VARIABLE(1)
 
-enum { ROOM = SOTJARN_MOST_ENTRIES, QUANTUM = 6, TOP_UP = 20, OUTPUT = 64, OWNERS = 3 };
+enum { SURVEY = 7, ROOM = SOTJARN_MOST_ENTRIES, QUANTUM = 6, TOP_UP = 20, OUTPUT = 64, OWNERS = 3 };
 
-/* The three-stem wood: stands (n10) and diameters (n12). */
+/* The three-stem wood: stands (n10) and diameters (n12). It is one survey, and every query of the line runs over it. */
 static const uint32_t rows[] = {
     1, 10, 100, 1, 12, SOTJARN_NUMBER(45), 2, 10, 100, 2, 12, SOTJARN_NUMBER(310), 3, 10, 100, 3, 12, SOTJARN_NUMBER(310)};
 static const uint32_t list[] = {0, 2, 4, 1, 3, 5};
@@ -71,12 +71,12 @@ static int is_rows(const struct phone *phone)
 static uint32_t join(const struct phone *phone)
 {
     uint32_t state[SOTJARN_STATE_WORDS];
-    struct sotjarn_written opened = sotjarn_open(rows, COUNT(rows), list, COUNT(list), list, COUNT(list), phone->plan, phone->plan_len,
-                                                 state, SOTJARN_STATE_WORDS);
+    struct sotjarn_written opened = sotjarn_open(rows, COUNT(rows), list, COUNT(list), list, COUNT(list), SURVEY, phone->plan,
+                                                 phone->plan_len, state, SOTJARN_STATE_WORDS);
     struct sotjarn_queued queued;
     if (opened.refused)
         return opened.refused;
-    queued = sotjarn_join(rows, COUNT(rows), list, COUNT(list), list, COUNT(list), line, ROOM, line_entries, aside, ROOM, aside_entries,
+    queued = sotjarn_join(rows, COUNT(rows), list, COUNT(list), list, COUNT(list), SURVEY, line, ROOM, line_entries, aside, ROOM, aside_entries,
                           phone->owner, phone->allowance, phone->plan, phone->plan_len, state, opened.words);
     if (!queued.refused) {
         line_entries = queued.line_entries;
@@ -133,8 +133,8 @@ int main(void)
         const struct phone *front = phone_of(line[0].owner);
         size_t threshold_words = front->plan == largest ? front->kept_words : 0;
         struct sotjarn_service served =
-            sotjarn_serve(rows, COUNT(rows), list, COUNT(list), list, COUNT(list), line, ROOM, line_entries, aside, ROOM, aside_entries,
-                          QUANTUM, front->kept, threshold_words, output, OUTPUT);
+            sotjarn_serve(rows, COUNT(rows), list, COUNT(list), list, COUNT(list), SURVEY, line, ROOM, line_entries, aside, ROOM,
+                          aside_entries, QUANTUM, front->kept, threshold_words, output, OUTPUT);
         if (served.ending == SOTJARN_REFUSED)
             return refused("a serve", served.refused);
         line_entries = served.line_entries;

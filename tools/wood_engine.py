@@ -16,7 +16,8 @@ PORTABLE = os.path.join(ROOT, 'portable')
 REASONS = os.path.join(ROOT, 'tools', 'refusals.txt')
 NAMES = {'darwin': 'libsotjarn_portable.dylib', 'win32': 'sotjarn_portable.dll'}
 FIELD_KIND, ROW_ORDER, ROW_NUMBERS, FORM, VARIABLES, QUANTUM = 2, 3, 4, 5, 6, 8
-STATE_WORDS, ROW_WORDS = 9, 3
+STATE_WORDS, ROW_WORDS = 10, 3
+SURVEY = 0            # the number of a file's tables
 WRONG_KIND, REPEAT = 1, 2           # why a row was dropped
 
 # Words of plans, for questions about parts.
@@ -118,7 +119,7 @@ class Engine:
 
     def open(self, rows, pos, osp, plan):
         """The number that refuses an opening, or 0."""
-        return self.open_call(*buffers(rows, pos, osp, plan, [0] * STATE_WORDS)).refused
+        return self.open_call(*buffers(rows, pos, osp), ctypes.c_uint32(SURVEY), *buffers(plan, [0] * STATE_WORDS)).refused
 
     def plan(self, plan):
         """The number that refuses a plan, or 0."""
@@ -127,12 +128,12 @@ class Engine:
     def all(self, rows, pos, osp, plan, quantum):
         """The number that refuses an opening or a first turn, or 0."""
         state = list(buffers([0] * STATE_WORDS))
-        tables = list(buffers(rows, pos, osp, plan))
-        opened = self.open_call(*tables, *state)
+        query = [*buffers(rows, pos, osp), ctypes.c_uint32(SURVEY), *buffers(plan)]
+        opened = self.open_call(*query, *state)
         if opened.refused:
             return opened.refused
-        output = [0] * self.least_call(*tables[6:]).words
-        return self.turn_call(*tables, *state, ctypes.c_size_t(opened.words), ctypes.c_uint32(quantum), *buffers([], output)).refused
+        output = [0] * self.least_call(*buffers(plan)).words
+        return self.turn_call(*query, *state, ctypes.c_size_t(opened.words), ctypes.c_uint32(quantum), *buffers([], output)).refused
 
 
 def reason(number):

@@ -1,6 +1,6 @@
 /* The three-stem wood from C: tables made from an upload and the report of what was dropped, a row query in turns of four steps, a best-of
- * list with a threshold, totals merged turn by turn, the total of nothing, two owners on the line, an adviser's view, and refused calls. Each
- * buffer comes from malloc with exactly the words it needs, so that a memory checker sees every word beside it.
+ * list with a threshold, totals merged turn by turn, the total of nothing, two owners on the line, an adviser's view, a state after the next upload, and
+ * refused calls. Each buffer comes from malloc with exactly the words it needs, so that a memory checker sees every word beside it.
  * Compiles as C99 and as C++. Prints what it does; exits with 1 where something is not as the rules say. */
 #include "sotjarn.h"
 #include "sotjarn_words.h"
@@ -50,10 +50,15 @@ struct buffer {
     size_t len;
 };
 
-/* The tables and the plan, which go with every turn of a query. */
+/* The tables, their survey's number and the plan, which go with every turn of a query. */
 struct query {
-    struct buffer rows, pos, osp, plan;
+    struct buffer rows, pos, osp;
+    uint32_t survey;
+    struct buffer plan;
 };
+
+/* The numbers that the uploads get here, and the adviser's tables. */
+enum { YESTERDAY = 7, TODAY = 8, ADVISED = 9 };
 
 static void expect(int right, const char *what)
 {
@@ -94,6 +99,7 @@ static struct query make_query_telling(const uint32_t *plan, size_t plan_len, st
     made.rows = make_buffer(KEPT * SOTJARN_ROW_WORDS);
     made.pos = make_buffer(KEPT);
     made.osp = make_buffer(KEPT);
+    made.survey = YESTERDAY;
     made.plan = copied(plan, plan_len);
     answer = make_tables(upload, &made, report);
     expect(answer.refused == 0 && answer.rows_words == made.rows.len && answer.pos_words == KEPT && answer.osp_words == KEPT &&
@@ -120,14 +126,14 @@ static void free_query(struct query *query)
 
 static struct sotjarn_written open_query(const struct query *q, struct buffer state)
 {
-    return sotjarn_open(q->rows.words, q->rows.len, q->pos.words, q->pos.len, q->osp.words, q->osp.len,
+    return sotjarn_open(q->rows.words, q->rows.len, q->pos.words, q->pos.len, q->osp.words, q->osp.len, q->survey,
                         q->plan.words, q->plan.len, state.words, state.len);
 }
 
 static struct sotjarn_turned run_turn(const struct query *q, struct buffer state, size_t state_words, uint32_t quantum,
                                       const uint32_t *threshold, size_t threshold_len, struct buffer output)
 {
-    return sotjarn_turn(q->rows.words, q->rows.len, q->pos.words, q->pos.len, q->osp.words, q->osp.len,
+    return sotjarn_turn(q->rows.words, q->rows.len, q->pos.words, q->pos.len, q->osp.words, q->osp.len, q->survey,
                         q->plan.words, q->plan.len, state.words, state.len, state_words, quantum,
                         threshold, threshold_len, output.words, output.len);
 }
@@ -310,7 +316,7 @@ static struct sotjarn_queued join_queue(struct queue *q, const struct query *que
     struct buffer state = make_buffer(SOTJARN_STATE_WORDS);
     struct sotjarn_written opened = open_query(query, state);
     struct sotjarn_queued queued = sotjarn_join(
-        query->rows.words, query->rows.len, query->pos.words, query->pos.len, query->osp.words, query->osp.len,
+        query->rows.words, query->rows.len, query->pos.words, query->pos.len, query->osp.words, query->osp.len, query->survey,
         q->line, SOTJARN_MOST_ENTRIES, q->line_entries, q->aside, SOTJARN_MOST_ENTRIES, q->aside_entries, owner, allowance,
         query->plan.words, query->plan.len, state.words, opened.words);
     expect(opened.refused == 0, "the opening is accepted");
@@ -325,7 +331,7 @@ static struct sotjarn_queued join_queue(struct queue *q, const struct query *que
 static struct sotjarn_service serve_queue(struct queue *q, const struct query *tables, uint32_t quantum, struct buffer output)
 {
     struct sotjarn_service served = sotjarn_serve(
-        tables->rows.words, tables->rows.len, tables->pos.words, tables->pos.len, tables->osp.words, tables->osp.len,
+        tables->rows.words, tables->rows.len, tables->pos.words, tables->pos.len, tables->osp.words, tables->osp.len, tables->survey,
         q->line, SOTJARN_MOST_ENTRIES, q->line_entries, q->aside, SOTJARN_MOST_ENTRIES, q->aside_entries, quantum,
         no_words, 0, output.words, output.len);
     if (served.ending != SOTJARN_REFUSED) {
@@ -406,6 +412,7 @@ static void adviser(void)
     view.rows = make_buffer(2 * SOTJARN_ROW_WORDS);
     view.pos = make_buffer(2);
     view.osp = make_buffer(2);
+    view.survey = ADVISED;
     view.plan = copied(plan_rows, sizeof plan_rows / sizeof *plan_rows);
     viewed = view_tables(&query, grant, NAME(10), &view);
     expect(viewed.refused == 0 && viewed.rows_words == 6 && viewed.pos_words == 2 && viewed.osp_words == 2, "stem n2 has two rows");
@@ -431,25 +438,52 @@ static void adviser(void)
     free_query(&view);
 }
 
+/* A phone goes on with yesterday's query after an upload: its state is of the survey before, so it lets go what it kept and begins anew. */
+static void next_upload(void)
+{
+    struct query query = make_query(plan_rows, sizeof plan_rows / sizeof *plan_rows);
+    struct buffer state = make_buffer(SOTJARN_STATE_WORDS), output = make_buffer(64 * least_output(&query));
+    struct sotjarn_written opened = open_query(&query, state);
+    struct sotjarn_turned turned = run_turn(&query, state, opened.words, 4, no_words, 0, output);
+    expect(turned.ending == SOTJARN_SPENT && state.words[0] == SOTJARN_SURVEY(YESTERDAY), "a state begins with its survey's word");
+
+    query.survey = TODAY; /* and a diameter that was measured anew: n2 n12 i312 */
+    query.rows.words[3 * SOTJARN_ROW_WORDS + 2] = NUMBER(312);
+    query.pos.words[4] = query.osp.words[4] = 5; /* i310 of n3 comes before it now */
+    query.pos.words[5] = query.osp.words[5] = 3;
+    turned = run_turn(&query, state, turned.state_words, 4, no_words, 0, output);
+    printf("a state of the survey before: %s by %" PRIu32 ": %s\n", ending_name(turned.ending), turned.refused, sotjarn_refusal_text(turned.refused));
+    expect(turned.refused == SOTJARN_REFUSED_SURVEY, "a state of another survey is refused by 22");
+    opened = open_query(&query, state);
+    expect(opened.refused == 0 && state.words[0] == SOTJARN_SURVEY(TODAY), "the query is opened anew");
+    turned = run_turn(&query, state, opened.words, 10, no_words, 0, output);
+    expect(turned.ending == SOTJARN_DONE && output.words[1] == NUMBER(312), "its rows are those of today");
+    query.survey = SOTJARN_SURVEYS;
+    expect(open_query(&query, state).refused == SOTJARN_REFUSED_SURVEY, "a survey's number has 28 bits");
+    free(state.words);
+    free(output.words);
+    free_query(&query);
+}
+
 /* Calls that are refused by number and change nothing: short buffers, tables out of order, a quantum of 0, merged rows, part of a plan. */
 static void refusals(void)
 {
     struct query query = make_query(plan_rows, sizeof plan_rows / sizeof *plan_rows);
-    struct buffer state = make_buffer(SOTJARN_STATE_WORDS), output = make_buffer(2), short_state = make_buffer(8);
+    struct buffer state = make_buffer(SOTJARN_STATE_WORDS), output = make_buffer(2), short_state = make_buffer(9);
     struct sotjarn_turned turned;
     struct sotjarn_written merged;
     memset(short_state.words, 0, short_state.len * sizeof(uint32_t));
-    expect(open_query(&query, short_state).refused == SOTJARN_REFUSED_BUFFER_LENGTHS, "a state buffer of 8 words is refused by 7");
-    expect(open_query(&query, state).words == 2, "a start state has two words");
+    expect(open_query(&query, short_state).refused == SOTJARN_REFUSED_BUFFER_LENGTHS, "a state buffer of 9 words is refused by 7");
+    expect(open_query(&query, state).words == 3, "a start state has three words");
     output.words[0] = output.words[1] = 12345;
-    turned = run_turn(&query, state, 2, 0, no_words, 0, output);
+    turned = run_turn(&query, state, 3, 0, no_words, 0, output);
     printf("quantum 0: %s by %" PRIu32 ": %s\n", ending_name(turned.ending), turned.refused, sotjarn_refusal_text(turned.refused));
     expect(turned.refused == SOTJARN_REFUSED_QUANTUM && turned.steps == 0 && turned.list_words == 0, "a quantum of 0 is refused by 8");
     expect(output.words[0] == 12345 && output.words[1] == 12345, "a refused turn writes nothing");
     merged = sotjarn_merge(query.plan.words, query.plan.len, output.words, output.len, 0, no_words, 0);
     expect(merged.refused == SOTJARN_REFUSED_MERGED_LISTS, "the lists of a row query are not merged");
     query.pos.words[5] = 3;
-    turned = run_turn(&query, state, 2, 10, no_words, 0, output);
+    turned = run_turn(&query, state, 3, 10, no_words, 0, output);
     printf("a list ending 3 3: %s by %" PRIu32 "\n", ending_name(turned.ending), turned.refused);
     expect(turned.refused == SOTJARN_REFUSED_ROW_NUMBERS, "a list ending 3 3 is refused by 4");
     merged = sotjarn_least_output(query.plan.words, query.plan.len - 1);
@@ -469,6 +503,7 @@ int main(void)
     felled();
     two_owners();
     adviser();
+    next_upload();
     refusals();
     return 0;
 }

@@ -15,8 +15,9 @@
  * Buffers that are only read may overlap.
  *
  * The tables are three buffers: `rows` has three terms a row, in ascending order; `pos` and `osp` have row numbers, in the order of
- * predicate, object, subject and of object, subject, predicate. `sotjarn_make` makes them of rows in any order. `plan` is the query. The
- * same four go with every turn of a query.
+ * predicate, object, subject and of object, subject, predicate. `sotjarn_make` makes them of rows in any order. `survey` is the number that
+ * these tables have, of 28 bits: tables under one number are the same, so each upload gets another, and so do the tables that an adviser
+ * sees. `plan` is the query. The same five go with every turn of a query: a state that was saved under another number is refused by 22.
  */
 #ifndef SOTJARN_H
 #define SOTJARN_H
@@ -29,7 +30,7 @@ extern "C" {
 #endif
 
 /* The version of this header, which is that of the libraries made beside it. */
-#define SOTJARN_VERSION "0.8.0"
+#define SOTJARN_VERSION "0.9.0"
 
 /* How a turn ended. */
 enum {
@@ -39,8 +40,8 @@ enum {
     SOTJARN_REFUSED = 3 /* it was refused, and nothing changed */
 };
 
-/* The words that a state buffer has at least, and the most steps that a turn may take. */
-enum { SOTJARN_STATE_WORDS = 9, SOTJARN_MOST_STEPS = 1000000 };
+/* The words that a state buffer has at least, and the most steps that a turn may take; the numbers of surveys are below SOTJARN_SURVEYS. */
+enum { SOTJARN_STATE_WORDS = 10, SOTJARN_MOST_STEPS = 1000000, SOTJARN_SURVEYS = 268435456 };
 
 /* The most rows that tables and an upload may have, the words of a row, and those that a report has for each dropped row. */
 enum { SOTJARN_MOST_ROWS = 65536, SOTJARN_ROW_WORDS = 3, SOTJARN_REPORT_WORDS = 2 };
@@ -145,19 +146,19 @@ struct sotjarn_tables sotjarn_view(const uint32_t *rows, size_t rows_len,
                                    uint32_t *view_pos, size_t view_pos_len,
                                    uint32_t *view_osp, size_t view_osp_len);
 
-/* Writes the start state of a query over the front of `state`. Refused by 1 to 7. */
+/* Writes the start state of a query over the front of `state`. Refused by 1 to 7, then by 22 (the survey's number is above 28 bits). */
 struct sotjarn_written sotjarn_open(const uint32_t *rows, size_t rows_len,
                                     const uint32_t *pos, size_t pos_len,
-                                    const uint32_t *osp, size_t osp_len,
+                                    const uint32_t *osp, size_t osp_len, uint32_t survey,
                                     const uint32_t *plan, size_t plan_len,
                                     uint32_t *state, size_t state_len);
 
 /* Runs at most `quantum` steps from the saved state, which is the first `state_words` words of `state`: those that opening or the
  * turn before wrote. `threshold` is empty (length 0), or for a best-of query the last row of a full list merged from earlier turns.
- * Refused by 1 to 11. */
+ * Refused by 1 to 9, then by 22 (the survey's number is above 28 bits, or the state is of another survey), then by 10 and 11. */
 struct sotjarn_turned sotjarn_turn(const uint32_t *rows, size_t rows_len,
                                    const uint32_t *pos, size_t pos_len,
-                                   const uint32_t *osp, size_t osp_len,
+                                   const uint32_t *osp, size_t osp_len, uint32_t survey,
                                    const uint32_t *plan, size_t plan_len,
                                    uint32_t *state, size_t state_len, size_t state_words,
                                    uint32_t quantum,
@@ -175,18 +176,18 @@ struct sotjarn_written sotjarn_merge(const uint32_t *plan, size_t plan_len,
  * or groups: a multiple of one row or record. Writes nothing. Refused by 5 and 6. */
 struct sotjarn_written sotjarn_least_output(const uint32_t *plan, size_t plan_len);
 
-/* Queries of several owners over one set of tables wait in two lists: the line, in the order in which they come to their turns, and the list
+/* Queries of several owners over one survey wait in two lists: the line, in the order in which they come to their turns, and the list
  * set aside, of those to whom no steps are left. The line is the first `line_entries` entries of `line`, the other list the first
  * `aside_entries` of `aside`: as many as the last call answered, none at first. The lengths are counted in entries; each buffer has
  * SOTJARN_MOST_ENTRIES or more. An address of entries is aligned for uint64_t; all else that is said of buffers above holds of both lists. No
  * call reads what stands behind a list, and what stands behind the list that a call leaves keeps its words. */
 
 /* An owner's query joins: with an allowance of steps at the end of the line, with none at the end of the list set aside. `plan` and `state` are
- * whole, and such that a turn over these tables accepts them: a state that opening or a turn wrote. The entry has copies of both.
- * Refused by 1 to 6, 9, 10, 17 and 18. */
+ * whole, and such that a turn over this survey accepts them: a state that opening or a turn wrote. The entry has copies of both.
+ * Refused by 1 to 6, 9, 22, 10, 17 and 18, tested in this order. */
 struct sotjarn_queued sotjarn_join(const uint32_t *rows, size_t rows_len,
                                    const uint32_t *pos, size_t pos_len,
-                                   const uint32_t *osp, size_t osp_len,
+                                   const uint32_t *osp, size_t osp_len, uint32_t survey,
                                    struct sotjarn_entry *line, size_t line_len, size_t line_entries,
                                    struct sotjarn_entry *aside, size_t aside_len, size_t aside_entries,
                                    uint32_t owner, uint64_t allowance,
@@ -195,11 +196,11 @@ struct sotjarn_queued sotjarn_join(const uint32_t *rows, size_t rows_len,
 
 /* Runs one turn of the query at the front of the line, for at most `quantum` steps and at most those left to it. Done, it leaves; unfinished, it
  * goes to the back of the line, or to the end of the list set aside if no steps are left. `threshold` and `output` are those of the turn, for
- * the plan of the front entry. Refused by 1 to 11 on the front entry and the call, then by 17, 18 and 19; with an empty line by 1 to 4, 8,
- * 17, 18 and 19. */
+ * the plan of the front entry. Refused by 1 to 9, 22, 10 and 11 on the front entry and the call, then by 17, 18 and 19; with an empty line by 1
+ * to 4, 8, 22, 17, 18 and 19. */
 struct sotjarn_service sotjarn_serve(const uint32_t *rows, size_t rows_len,
                                      const uint32_t *pos, size_t pos_len,
-                                     const uint32_t *osp, size_t osp_len,
+                                     const uint32_t *osp, size_t osp_len, uint32_t survey,
                                      struct sotjarn_entry *line, size_t line_len, size_t line_entries,
                                      struct sotjarn_entry *aside, size_t aside_len, size_t aside_entries,
                                      uint32_t quantum,

@@ -59,7 +59,8 @@ enum { SOTJARN_DEFAULT_BEST = 10 };
 #define SOTJARN_FALLING(variable) SOTJARN_WORD(11, variable)
 #define SOTJARN_GROUP(variables) SOTJARN_WORD(12, variables)
 
-/* A state: its branch (from 0) and depth, and a place for each level. */
+/* A state: the number of its survey, its branch (from 0) and depth, and a place for each level. */
+#define SOTJARN_SURVEY(number) SOTJARN_WORD(13, number)
 #define SOTJARN_POSITION(branch, depth) SOTJARN_WORD(14, (uint32_t)(branch) * 16 + (uint32_t)(depth))
 #define SOTJARN_PLACE(place) SOTJARN_WORD(15, place)
 #define SOTJARN_STATE_BRANCH(word) (SOTJARN_WORD_LOW(word) / 16)
@@ -110,7 +111,8 @@ enum {
     SOTJARN_REFUSED_QUEUE_ROOM = 18,
     SOTJARN_REFUSED_EMPTY_LINE = 19,
     SOTJARN_REFUSED_GRANT = 20,
-    SOTJARN_REFUSED_VIEW_LENGTHS = 21
+    SOTJARN_REFUSED_VIEW_LENGTHS = 21,
+    SOTJARN_REFUSED_SURVEY = 22
 };
 
 /* What is wrong and what to do, in a line, by the number that a call refused by. */
@@ -132,7 +134,7 @@ static inline const char *sotjarn_refusal_text(uint32_t refused)
         "a variable of the plan is above ?15, is not bound, or is repeated; use ?0 to ?15; bind a condition's "
         "variables in its own branch and the ending's in some branch; take keys from the columns; name no column or "
         "group variable twice",
-        "the output or the state buffer is too short; lend a state buffer of 9 words, and an output for one row, k "
+        "the output or the state buffer is too short; lend a state buffer of 10 words, and an output for one row, k "
         "rows or one group, as the plan ends",
         "the quantum is outside its range; give 1 to 1,000,000 steps",
         "the state is empty, or its kinds, branch, depth or length are wrong; give the words that opening or the last "
@@ -160,6 +162,8 @@ static inline const char *sotjarn_refusal_text(uint32_t refused)
         "words, each once",
         "a buffer is too short for the visible rows; for tables of n rows lend 3 n words for rows and n for each list: "
         "that is always enough",
+        "the survey's number is above 28 bits, or the state is of another survey; number the surveys below 268,435,456; open the "
+        "query anew over this survey, and let go what was kept of the other",
     };
     return refused < sizeof texts / sizeof *texts ? texts[refused] : "a number that this header does not know: the library is newer";
 }

@@ -14,10 +14,10 @@
 //! assert_eq!((made.refused, rows, report), (0, [1, 10, 100], [1, 2])); // the row at 1 is a repeat
 //!
 //! let plan = [0x1000_0001, 0x2000_0001, 0xC000_0000, 10, 100, 0x3000_0000, 0x8000_0001, 0xC000_0000];
-//! let (mut state, mut output) = ([0; 9], [0; 1]);
-//! let opened = sotjarn_open(&rows, &pos, &osp, &plan, &mut state);
-//! assert_eq!((opened.refused, opened.words), (0, 2));
-//! let turned = sotjarn_turn(&rows, &pos, &osp, &plan, &mut state, opened.words, 10, &[], &mut output);
+//! let (mut state, mut output) = ([0; 10], [0; 1]);
+//! let opened = sotjarn_open(&rows, &pos, &osp, 7, &plan, &mut state); // survey 7
+//! assert_eq!((opened.refused, opened.words), (0, 3));
+//! let turned = sotjarn_turn(&rows, &pos, &osp, 7, &plan, &mut state, opened.words, 10, &[], &mut output);
 //! assert_eq!((turned.ending, turned.steps, output), (DONE, 2, [1]));
 //! ```
 

@@ -1,17 +1,22 @@
 """Calls of opening, turns and merging for a wood and a plan: cuts, turns from any state, wild lists, and damaged input."""
 from collections import namedtuple
 
-from evaluation import DONE, MOST_QUANTUM
+from evaluation import DONE, LEAST_STATE_WORDS, MOST_QUANTUM
 from inputs import state_words
 from plan_reader import Marked, read_plan, width
 from plans import Draft
 from running import TooLong
-from words import (FALLING, GROUP, MOST_VALUE, MOST_WORD, NOT, PLACE, RISING, ROWS, STATE, TOP, UNBOUND, is_variable, kind, low,
-                   number, plan_word, term, two_words, variable)
+from words import (FALLING, GROUP, MOST_VALUE, MOST_WORD, NOT, PLACE, RISING, ROWS, STATE, SURVEY, SURVEYS, TOP, UNBOUND, is_variable,
+                   kind, low, number, plan_word, term, two_words, variable)
 
-Open = namedtuple('Open', 'tables words state')
-Turn = namedtuple('Turn', 'tables words state given quantum threshold output')
+Open = namedtuple('Open', 'tables survey words state')
+Turn = namedtuple('Turn', 'tables survey words state given quantum threshold output')
 Merge = namedtuple('Merge', 'words kept given made')
+
+
+def some_survey(rng):
+    """The number of a survey."""
+    return rng.choice([0, 1, 7, rng.randrange(SURVEYS), rng.randrange(SURVEYS), SURVEYS - 1])
 
 
 class CutDiffers(Exception):
@@ -24,10 +29,10 @@ def made_by(evaluation, call):
 
 
 class Script:
-    """The calls made for one plan, each with its right answer and buffers."""
+    """The calls made for one plan over one survey, each with its right answer and buffers."""
 
-    def __init__(self, rng, right, tables, words):
-        self.rng, self.right, self.tables, self.words = rng, right, tables, words
+    def __init__(self, rng, right, tables, survey, words):
+        self.rng, self.right, self.tables, self.survey, self.words = rng, right, tables, survey, words
         self.plan = read_plan(words)
         self.states = right.walk(tables, words).states
         self.delivered = right.deliveries(tables, words)
@@ -55,11 +60,12 @@ class Script:
 
     def cut(self, quantum, share, with_threshold):
         """A query from its opening to its end, each list taken as it comes."""
-        answer, state = self.make(Open(self.tables, self.words, self.filler(9 + self.spare())))
+        answer, state = self.make(Open(self.tables, self.survey, self.words, self.filler(LEAST_STATE_WORDS + self.spare())))
         whole = tuple(self.right.list_words(self.plan, self.rows, (), True))
         kept, held, given, threshold, steps, joined = self.filler(len(whole) + self.spare()), 0, answer.words, (), 0, ()
         while True:
-            answer, state, output = self.make(Turn(self.tables, self.words, state, given, quantum(), threshold, self.output(share)))
+            answer, state, output = self.make(Turn(self.tables, self.survey, self.words, state, given, quantum(), threshold,
+                                                   self.output(share)))
             made, given, steps = output[:answer.list_words], answer.state_words, steps + answer.steps
             if self.plan.kind == ROWS:
                 joined += made
@@ -97,10 +103,10 @@ class Script:
         return tuple(row)
 
     def turn(self):
-        words = state_words(self.rng.choice(self.states))
+        words = state_words(self.survey, self.rng.choice(self.states))
         quantum = self.rng.choice([1, 2, self.rng.randint(1, len(self.states)), len(self.states), MOST_QUANTUM])
-        return Turn(self.tables, self.words, tuple(words) + self.filler(9 + self.spare() - len(words)), len(words), quantum,
-                    self.some_threshold(), self.output(self.rng.choice([0, .3, .6, 1])))
+        return Turn(self.tables, self.survey, self.words, tuple(words) + self.filler(LEAST_STATE_WORDS + self.spare() - len(words)),
+                    len(words), quantum, self.some_threshold(), self.output(self.rng.choice([0, .3, .6, 1])))
 
     def some_totals(self, keys):
         """Totals of one row or many; of none often where there are no keys, and else now and then, to be refused."""
@@ -209,7 +215,7 @@ class Script:
 
     def state_damage(self, call):
         if isinstance(call, Open) or self.rng.random() < .2:
-            return call._replace(state=call.state[:self.rng.randrange(9)])
+            return call._replace(state=call.state[:self.rng.choice([self.rng.randrange(9), 9])])
         if self.rng.random() < .4:
             return call._replace(given=self.rng.choice([0, 1, max(0, call.given - 1), call.given + 1, len(call.state),
                                                         len(call.state) + 1]))
@@ -218,18 +224,29 @@ class Script:
         state, given, at = list(call.state), call.given, self.rng.randrange(call.given)
         way = self.rng.randrange(5)
         if way == 0:
-            state[at] = plan_word(self.rng.choice([STATE, PLACE, PLACE, 1]), self.rng.choice([0, 1, 2, 3, 16, 17, 18, 33, 64, 65]))
+            state[at] = plan_word(self.rng.choice([SURVEY, STATE, PLACE, PLACE, 1]), self.rng.choice([0, 1, 2, 3, 16, 17, 18, 33, 64, 65]))
         elif way == 1:
             state[at] = (state[at] + self.rng.choice([-2, -1, 1, 1, 2])) & MOST_WORD
-        elif way == 2:
-            state[0] = (state[0] + 16 * self.rng.choice([1, 1, 2, 3, 4])) & MOST_WORD
-        elif way == 3 and given < len(state):
-            state[0], state[given] = (state[0] + 1) & MOST_WORD, plan_word(PLACE, self.rng.randrange(len(self.tables.pos) + 2))
+        elif way == 2 and given > 1:
+            state[1] = (state[1] + 16 * self.rng.choice([1, 1, 2, 3, 4])) & MOST_WORD
+        elif way == 3 and 1 < given < len(state):
+            state[1], state[given] = (state[1] + 1) & MOST_WORD, plan_word(PLACE, self.rng.randrange(len(self.tables.pos) + 2))
             given += 1
         else:
-            words = state_words(self.rng.choice(self.states))
+            words = state_words(self.survey, self.rng.choice(self.states))
             state[at] = words[min(at, len(words) - 1)]
         return call._replace(state=tuple(state), given=given)
+
+    def survey_damage(self, call):
+        """Another number for the call, of 28 bits or more, or for its state, whose other words may be wrong too."""
+        if isinstance(call, Turn) and self.rng.random() < .3:
+            call = self.state_damage(call)
+        other = self.rng.choice([some_survey(self.rng), call.survey ^ 1, call.survey ^ 1 << self.rng.randrange(28)])
+        if isinstance(call, Open) or self.rng.random() < .4:
+            return call._replace(survey=call.survey % SURVEYS + SURVEYS * self.rng.choice([1, 1, 2, 15]))
+        if self.rng.random() < .4 or not call.state:
+            return call._replace(survey=other)
+        return call._replace(state=(plan_word(SURVEY, other % SURVEYS),) + call.state[1:])
 
     def turn_damage(self, call):
         way = self.rng.randrange(4)
@@ -268,8 +285,8 @@ class Script:
         return call._replace(**{field: self.nudged(words, word)})
 
     def damaged(self, call):
-        ways = {Open: [self.table_damage, self.plan_damage, self.state_damage],
-                Turn: [self.table_damage, self.plan_damage, self.turn_damage, self.state_damage],
+        ways = {Open: [self.table_damage, self.plan_damage, self.state_damage, self.survey_damage],
+                Turn: [self.table_damage, self.plan_damage, self.turn_damage, self.state_damage, self.survey_damage],
                 Merge: [self.plan_damage, self.list_damage, self.list_damage, self.list_damage]}[type(call)]
         for _ in range(self.rng.choice([1, 1, 1, 2])):
             call = self.rng.choice(ways)(call)
@@ -282,7 +299,8 @@ class Script:
         for _ in range(2):
             self.make(self.wild_merge())
         for _ in range(damages):
-            call = self.rng.choice([self.turn, self.turn, self.wild_merge, lambda: Open(self.tables, self.words, self.filler(9))])()
+            opening = Open(self.tables, self.survey, self.words, self.filler(LEAST_STATE_WORDS))
+            call = self.rng.choice([self.turn, self.turn, self.wild_merge, lambda: opening])()
             try:
                 self.make(self.damaged(call))
             except TooLong:

@@ -100,6 +100,11 @@ def lent(tables, words):
     return [('rows', Buffer(tables.rows)), ('pos', Buffer(tables.pos)), ('osp', Buffer(tables.osp)), ('plan', Buffer(words))]
 
 
+def surveyed(read, survey):
+    """The arguments of tables, a survey's number and a plan."""
+    return passed(read[:3]) + [survey] + passed(read[3:])
+
+
 def passed(buffers):
     return [argument for _, buffer in buffers for argument in buffer.arguments()]
 
@@ -124,31 +129,31 @@ class Engine:
     def __init__(self, path, folder):
         faulthandler.enable()
         library = CDLL(shared(path, folder))
-        table_types = [WORDS, c_size_t] * 4
+        table_types, survey_types = [WORDS, c_size_t] * 3, [WORDS, c_size_t] * 3 + [c_uint32]
         self.opening, self.turning, self.merging = library.sotjarn_open, library.sotjarn_turn, library.sotjarn_merge
-        self.opening.restype, self.opening.argtypes = CWritten, table_types + [WORDS, c_size_t]
-        turn_types = [WORDS, c_size_t, c_size_t, c_uint32] + [WORDS, c_size_t] * 2
-        self.turning.restype, self.turning.argtypes = CTurned, table_types + turn_types
+        self.opening.restype, self.opening.argtypes = CWritten, survey_types + [WORDS, c_size_t] * 2
+        turn_types = [WORDS, c_size_t] * 2 + [c_size_t, c_uint32] + [WORDS, c_size_t] * 2
+        self.turning.restype, self.turning.argtypes = CTurned, survey_types + turn_types
         self.merging.restype, self.merging.argtypes = CWritten, [WORDS, c_size_t, WORDS, c_size_t, c_size_t, WORDS, c_size_t]
         self.making = library.sotjarn_make
         self.making.restype, self.making.argtypes = CMade, [WORDS, c_size_t] * 5
         self.joining, self.serving, self.topping = library.sotjarn_join, library.sotjarn_serve, library.sotjarn_top_up
         lists = [ENTRIES, c_size_t, c_size_t] * 2
-        self.joining.restype, self.joining.argtypes = CQueued, table_types[:6] + lists + [c_uint32, c_uint64] + [WORDS, c_size_t] * 2
-        self.serving.restype, self.serving.argtypes = CService, table_types[:6] + lists + [c_uint32] + [WORDS, c_size_t] * 2
+        self.joining.restype, self.joining.argtypes = CQueued, survey_types + lists + [c_uint32, c_uint64] + [WORDS, c_size_t] * 2
+        self.serving.restype, self.serving.argtypes = CService, survey_types + lists + [c_uint32] + [WORDS, c_size_t] * 2
         self.topping.restype, self.topping.argtypes = CQueued, lists + [c_uint32, c_uint64]
         self.viewing = library.sotjarn_view
-        self.viewing.restype, self.viewing.argtypes = CTables, table_types + [c_uint32] + [WORDS, c_size_t] * 3
+        self.viewing.restype, self.viewing.argtypes = CTables, table_types + [WORDS, c_size_t, c_uint32] + [WORDS, c_size_t] * 3
 
-    def open(self, tables, words, state):
+    def open(self, tables, survey, words, state):
         read, buffer = lent(tables, words), Buffer(state)
-        answer = self.opening(*passed(read), *buffer.arguments())
+        answer = self.opening(*surveyed(read, survey), *buffer.arguments())
         check(read)
         return Written(answer.refused, answer.words), buffer.words('state')
 
-    def turn(self, tables, words, state, given, quantum, threshold, output):
+    def turn(self, tables, survey, words, state, given, quantum, threshold, output):
         read, buffer, limit, made = lent(tables, words), Buffer(state), ('threshold', Buffer(threshold)), Buffer(output)
-        answer = self.turning(*passed(read), *buffer.arguments(), given, quantum, *limit[1].arguments(), *made.arguments())
+        answer = self.turning(*surveyed(read, survey), *buffer.arguments(), given, quantum, *limit[1].arguments(), *made.arguments())
         check(read + [limit])
         return (Turned(answer.ending, answer.refused, answer.steps, answer.state_words, answer.list_words), buffer.words('state'),
                 made.words('output'))
@@ -166,16 +171,17 @@ class Engine:
         made = Made(answer.refused, answer.rows_words, answer.pos_words, answer.osp_words, answer.report_words)
         return (made, *(buffer.words(name) for name, buffer in zip(('rows', 'pos', 'osp', 'report'), buffers)))
 
-    def join(self, tables, line, waiting, aside, resting, owner, allowance, plan, state):
+    def join(self, tables, survey, line, waiting, aside, resting, owner, allowance, plan, state):
         read, own, other = lent(tables, plan) + [('state', Buffer(state))], EntryBuffer(line), EntryBuffer(aside)
-        answer = self.joining(*passed(read[:3]), *own.arguments(), waiting, *other.arguments(), resting, owner, allowance, *passed(read[3:]))
+        answer = self.joining(*passed(read[:3]), survey, *own.arguments(), waiting, *other.arguments(), resting, owner, allowance,
+                              *passed(read[3:]))
         check(read)
         return Queued(answer.refused, answer.line_entries, answer.aside_entries), own.entries('line'), other.entries('aside')
 
-    def serve(self, tables, line, waiting, aside, resting, quantum, threshold, output):
+    def serve(self, tables, survey, line, waiting, aside, resting, quantum, threshold, output):
         read, own, other = lent(tables, ())[:3] + [('threshold', Buffer(threshold))], EntryBuffer(line), EntryBuffer(aside)
         made = Buffer(output)
-        answer = self.serving(*passed(read[:3]), *own.arguments(), waiting, *other.arguments(), resting, quantum, *passed(read[3:]),
+        answer = self.serving(*passed(read[:3]), survey, *own.arguments(), waiting, *other.arguments(), resting, quantum, *passed(read[3:]),
                               *made.arguments())
         check(read)
         served = Service(*(getattr(answer, name) for name in Service._fields))

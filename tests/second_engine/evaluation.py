@@ -7,13 +7,13 @@ that a misreading is a subclass with one other method (misreadings.py).
 from collections import namedtuple
 
 from inputs import (ascend, delivered_term, kinds_right, lengths_right, order_right, osp_key, pos_key, rows_of, state_of,
-                    state_right, state_words)
+                    state_right, state_words, survey_of)
 from lists import Lists
 from plan_reader import named_right, read_plan, width
 from running import Running, remember
-from words import GROUP, ROWS, TOP
+from words import GROUP, ROWS, SURVEYS, TOP
 
-LEAST_STATE_WORDS = 9
+LEAST_STATE_WORDS = 10
 MOST_QUANTUM = 1000000
 DONE, SPENT, FULL, REFUSED = range(4)
 
@@ -66,24 +66,42 @@ class Evaluation(Running, Lists):
         """Test 10: the uncut run passes through the state."""
         return state in self.walk(tables, words).number
 
+    # Surveys: test 22.
+
+    def number_right(self, survey):
+        return survey < SURVEYS
+
+    def survey_right(self, survey, state):
+        """That a state's words are of the survey of this number."""
+        return self.number_right(survey) and survey_of(state) == survey
+
+    def state_tests(self, tables, survey, words, plan, state):
+        """Tests 9, 22 and 10 of a state's words; none stand for words that are not there."""
+        return [(9, lambda: state is not None and state_right(plan, state)), (22, lambda: self.survey_right(survey, state)),
+                (10, lambda: self.accepts(tables, words, state_of(state)))]
+
+    def room_right(self, state):
+        return len(state) >= LEAST_STATE_WORDS
+
+    def save(self, survey, state):
+        return state_words(survey, state)
+
     # The calls.
 
-    def open(self, tables, words, state):
+    def open(self, tables, survey, words, state):
         plan = read_plan(words)
         refused = self.tables_refused(tables) or first_failing(
-            self.plan_tests(words, plan) + [(7, lambda: len(state) >= LEAST_STATE_WORDS)])
+            self.plan_tests(words, plan) + [(7, lambda: self.room_right(state)), (22, lambda: self.number_right(survey))])
         if refused:
             return Written(refused, 0), state
-        start = state_words(self.walk(tables, words).states[0])
+        start = self.save(survey, self.walk(tables, words).states[0])
         return Written(0, len(start)), written(state, start)
 
-    def turn(self, tables, words, state, given, quantum, threshold, output):
-        plan = read_plan(words)
+    def turn(self, tables, survey, words, state, given, quantum, threshold, output):
+        plan, saved = read_plan(words), state[:given] if given <= len(state) else None
         refused = self.tables_refused(tables) or first_failing(self.plan_tests(words, plan) + [
-            (7, lambda: len(output) >= self.least_output(plan) and len(state) >= LEAST_STATE_WORDS),
-            (8, lambda: 1 <= quantum <= MOST_QUANTUM),
-            (9, lambda: given <= len(state) and state_right(plan, state[:given])),
-            (10, lambda: self.accepts(tables, words, state_of(state[:given]))),
+            (7, lambda: len(output) >= self.least_output(plan) and self.room_right(state)),
+            (8, lambda: 1 <= quantum <= MOST_QUANTUM)] + self.state_tests(tables, survey, words, plan, saved) + [
             (11, lambda: self.threshold_right(plan, threshold))])
         if refused:
             return Turned(REFUSED, refused, 0, 0, 0), state, output
@@ -92,7 +110,7 @@ class Evaluation(Running, Lists):
         ending, end = self.end_of_turn(plan, delivered, start, quantum, len(output) // width(plan))
         rows = [row for row in delivered[start:end] if row is not None]
         made = self.list_words(plan, rows, threshold, ending == DONE, delivered[:start])
-        left = [] if ending == DONE else state_words(walk.states[self.saved(end)])
+        left = [] if ending == DONE else self.save(survey, walk.states[self.saved(end)])
         return Turned(ending, 0, self.steps(start, end, ending), len(left), len(made)), written(state, left), written(output, made)
 
     def steps(self, start, end, ending):

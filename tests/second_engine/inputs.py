@@ -1,8 +1,8 @@
-"""Tables, states and lists as words: what tests 1 to 4, 9 and 12 of the rules (docs/RULES.md, 10) look at."""
+"""Tables, states and lists as words: what tests 1 to 4, 9, 22 and 12 of the rules (docs/RULES.md, 10) look at."""
 from collections import namedtuple
 
 from plan_reader import width
-from words import NAME, NUMBER, PLACE, STATE, UNBOUND, VARIABLE, kind, low, plan_word, term_kind
+from words import NAME, NUMBER, PLACE, STATE, SURVEY, UNBOUND, VARIABLE, kind, low, plan_word, term_kind
 
 MOST_ROWS = 65536
 
@@ -44,21 +44,26 @@ def order_right(rows, numbers, key):
 
 # States and terms.
 
-def state_words(state):
+def state_words(survey, state):
     branch, places = state
-    return [plan_word(STATE, branch * 16 + len(places))] + [plan_word(PLACE, place) for place in places]
+    return [plan_word(SURVEY, survey), plan_word(STATE, branch * 16 + len(places))] + [plan_word(PLACE, place) for place in places]
 
 
 def state_right(plan, words):
-    """Test 9 on a state's words."""
-    if not words or kind(words[0]) != STATE or any(kind(w) != PLACE for w in words[1:]):
+    """Test 9 on a state's words: a survey's word, whatever its number, and the shape behind it."""
+    if len(words) < 2 or kind(words[0]) != SURVEY or kind(words[1]) != STATE or any(kind(w) != PLACE for w in words[2:]):
         return False
-    branch, places = divmod(low(words[0]), 16)
-    return branch < len(plan.branches) and 1 <= places <= len(plan.branches[branch].patterns) and len(words) == places + 1
+    branch, places = divmod(low(words[1]), 16)
+    return branch < len(plan.branches) and 1 <= places <= len(plan.branches[branch].patterns) and len(words) == places + 2
+
+
+def survey_of(words):
+    """The number of the survey that a state was saved under."""
+    return low(words[0])
 
 
 def state_of(words):
-    return low(words[0]) // 16, tuple(map(low, words[1:]))
+    return low(words[1]) // 16, tuple(map(low, words[2:]))
 
 
 def delivered_term(word):

@@ -3,11 +3,11 @@
 An owner's lists are taken as a phone takes them, rows joined end to end and others merged by the engine, and a best-of query is now and then sent
 a threshold. Allowances are small, so that owners are set aside and topped up; who has come to its end leaves.
 """
-from evaluation import DONE
+from evaluation import DONE, LEAST_STATE_WORDS
 from inputs import in_parts
 from plan_reader import read_plan, width
 from queueing import MOST_ENTRIES, PLAN_ROOM, STATE_ROOM, Entry
-from words import ROWS, TOP
+from words import ROWS, SURVEYS, TOP
 
 NOBODY = Entry(0, 0, 0, 0, (0,) * PLAN_ROOM, (0,) * STATE_ROOM)
 OUTPUT_PARTS = [1, 1, 2, 5, 40]
@@ -18,7 +18,7 @@ class Line:
     """A queue of one wood, and what each owner has so far."""
 
     def __init__(self, rng, engine, right, tables, planned):
-        self.rng, self.engine, self.right, self.tables = rng, engine, right, tables
+        self.rng, self.engine, self.right, self.survey = rng, engine, right, (tables, rng.randrange(SURVEYS))
         self.plans = {owner: words for owner, words in enumerate(planned)}
         self.line, self.aside = (NOBODY,) * MOST_ENTRIES, (NOBODY,) * MOST_ENTRIES
         self.waiting = self.resting = 0
@@ -34,8 +34,8 @@ class Line:
 
     def join(self, owner):
         words = self.plans[owner]
-        opened, state = self.engine.open(self.tables, words, (0,) * 9)
-        self.queued(*self.engine.join(self.tables, *self.lists(), owner, self.rng.choice([0, 1, 7, 1000]), words, state[:opened.words]))
+        opened, state = self.engine.open(*self.survey, words, (0,) * LEAST_STATE_WORDS)
+        self.queued(*self.engine.join(*self.survey, *self.lists(), owner, self.rng.choice([0, 1, 7, 1000]), words, state[:opened.words]))
 
     def take(self, owner, made):
         """A turn's list, taken into what the owner has."""
@@ -57,7 +57,7 @@ class Line:
         owner = self.line[0].owner
         plan = read_plan(self.plans[owner])
         output = (0,) * (self.right.least_output(plan) + width(plan) * self.rng.choice(OUTPUT_PARTS))
-        answer, line, aside, output = self.engine.serve(self.tables, *self.lists(), self.rng.choice(QUANTA), self.threshold(owner), output)
+        answer, line, aside, output = self.engine.serve(*self.survey, *self.lists(), self.rng.choice(QUANTA), self.threshold(owner), output)
         self.queued(answer, line, aside)
         self.take(owner, output[:answer.list_words])
         if answer.ending == DONE:

@@ -2,10 +2,10 @@
 import struct
 
 from calls import Merge, Open, Turn
-from evaluation import DONE, FULL, Evaluation, written
-from inputs import NOTHING
+from evaluation import DONE, FULL, LEAST_STATE_WORDS, Evaluation, Written, written
+from inputs import NOTHING, survey_of
 from plan_reader import read_plan, variables_right
-from words import GROUP, MOST_WORD, NUMBER, ROWS, TOP, UNBOUND, UNEQUAL, is_variable, number, term_kind, term_value
+from words import GROUP, MOST_WORD, NUMBER, ROWS, SURVEYS, TOP, UNBOUND, UNEQUAL, is_variable, number, term_kind, term_value
 
 ALL = (ROWS, TOP, GROUP)
 
@@ -453,6 +453,78 @@ class BelowEnd(Misreading):
         return branch == state[0] and len(places) >= len(state[1])
 
 
+class NumberNotCompared(Misreading):
+    """a state of another survey is let pass"""
+    concerns = 'calls'
+    calls = (Turn,)
+
+    def survey_right(self, survey, state):
+        return self.number_right(survey)
+
+
+class NumberCut(Misreading):
+    """a survey's number is cut to 28 bits and not refused"""
+    concerns = 'calls'
+    calls = Open, Turn
+
+    def number_right(self, survey):
+        return True
+
+    def survey_right(self, survey, state):
+        return survey_of(state) == survey % SURVEYS
+
+    def save(self, survey, state):
+        return super().save(survey % SURVEYS, state)
+
+
+class NumberAfterPlaces(Misreading):
+    """the number of a state is tested after its places"""
+    concerns = 'calls'
+    calls = (Turn,)
+
+    def state_tests(self, tables, survey, words, plan, state):
+        shape, number, places = super().state_tests(tables, survey, words, plan, state)
+        return [shape, places, number]
+
+
+class NumberBeforeShape(Misreading):
+    """the number of a state is tested before its shape"""
+    concerns = 'calls'
+    calls = (Turn,)
+
+    def state_tests(self, tables, survey, words, plan, state):
+        shape, _, places = super().state_tests(tables, survey, words, plan, state)
+        return [(22, lambda: not state or self.survey_right(survey, state)), shape, places]
+
+
+class SavedUnderZero(Misreading):
+    """a turn saves its state under number 0"""
+    concerns = 'calls'
+    calls = (Turn,)
+
+    def save(self, survey, state):
+        return super().save(0, state)
+
+
+class NineWords(Misreading):
+    """a state buffer of nine words is served"""
+    concerns = 'calls'
+    calls = Open, Turn
+
+    def room_right(self, state):
+        return len(state) >= LEAST_STATE_WORDS - 1
+
+
+class NumberBeforeRoom(Misreading):
+    """an opening tests the survey's number before its buffer"""
+    concerns = 'calls'
+    calls = (Open,)
+
+    def open(self, tables, survey, words, state):
+        answer, buffer = super().open(tables, survey, words, state)
+        return (Written(22, 0) if answer.refused == 7 and not self.number_right(survey) else answer), buffer
+
+
 class SixBeforeFive(Misreading):
     """test 6 is made before test 5"""
     concerns = 'calls'
@@ -497,4 +569,5 @@ ALL_MISREADINGS = [
     UnboundFirstFalling, TextsBeforeNumbers, ZeroIsNone, ZeroIsMost, LaterPushesOut, TurnFirst, ThresholdNotAfter, LeastFromZero,
     CarryDropped, SingleFloats, TextsCounted, NoNumberNoRow, UnboundLeftOut, NoTotal, TotalOfUnfinished, TotalOfWholeAlone, TotalFromStart,
     TotalWithKey, NothingIsZero, NothingIsARow, NothingRefused, NothingWithKeyPasses, NothingNotMerged, FullTakesStep, FullLosesRow,
-    FullKnownGroup, FullAtOnce, DoneTakesStep, SavedEarly, BelowEnd, SixBeforeFive, EqualRowsPass, RefusalWrites]
+    FullKnownGroup, FullAtOnce, DoneTakesStep, SavedEarly, BelowEnd, NumberNotCompared, NumberCut, NumberAfterPlaces, NumberBeforeShape,
+    SavedUnderZero, NineWords, NumberBeforeRoom, SixBeforeFive, EqualRowsPass, RefusalWrites]

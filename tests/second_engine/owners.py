@@ -4,7 +4,7 @@ The queries of a queue are random plans over one wood (plans.py), at any state o
 as a turn is (calls.py); the lists are damaged in their owners, steps, counts and lengths.
 """
 import plans
-from calls import Script, Turn
+from calls import Script, Turn, some_survey
 from inputs import state_words
 from queueing import MOST_ENTRIES, PLAN_ROOM, STATE_ROOM, Entry, Join, Serve, Top_up, padded
 from words import NUMBER, TEXT, VARIABLE, term, term_value
@@ -17,8 +17,8 @@ class Owners:
     """Calls over one wood. `right` is the evaluation of turns, with a limit on steps."""
 
     def __init__(self, rng, right, most_plans=4):
-        self.rng, self.right, self.tables = rng, right, plans.wood(rng)
-        self.scripts = [Script(rng, right, self.tables, plans.plan(rng, self.tables, right)) for _ in range(rng.randint(1, most_plans))]
+        self.rng, self.right, self.tables, self.survey = rng, right, plans.wood(rng), some_survey(rng)
+        self.scripts = [Script(rng, right, self.tables, self.survey, plans.plan(rng, self.tables, right)) for _ in range(rng.randint(1, most_plans))]
 
     def filler(self, length):
         return tuple(self.rng.getrandbits(32) for _ in range(length))
@@ -31,7 +31,7 @@ class Owners:
 
     def entry(self, owner, waits):
         script = self.rng.choice(self.scripts)
-        state = tuple(state_words(self.rng.choice(script.states)))
+        state = tuple(state_words(self.survey, self.rng.choice(script.states)))
         plan, saved = padded(script.words, PLAN_ROOM), padded(state, STATE_ROOM)
         if self.rng.random() < .5:
             plan = script.words + self.filler(PLAN_ROOM - len(script.words))
@@ -68,8 +68,9 @@ class Owners:
 
     def join(self):
         lists, script = self.lists(MOST_ENTRIES - 1), self.rng.choice(self.scripts)
-        state = tuple(state_words(self.rng.choice(script.states)))
-        return Join(self.tables, *lists, self.newcomer(lists), self.rng.choice([0, self.allowance(script), self.allowance(script)]), script.words, state)
+        state = tuple(state_words(self.survey, self.rng.choice(script.states)))
+        return Join(self.tables, self.survey, *lists, self.newcomer(lists), self.rng.choice([0, self.allowance(script), self.allowance(script)]),
+                    script.words, state)
 
     def script_of(self, entry):
         words = entry.plan[:entry.plan_words]
@@ -79,7 +80,7 @@ class Owners:
         lists = self.lists()
         script = self.script_of(lists[0][0]) if lists[1] else None
         turn = (script or self.scripts[0]).turn()
-        return Serve(self.tables, *lists, turn.quantum, turn.threshold, turn.output)
+        return Serve(self.tables, self.survey, *lists, turn.quantum, turn.threshold, turn.output)
 
     def top_up(self):
         lists = self.lists()
@@ -109,16 +110,17 @@ class Owners:
         return turn._replace(words=script.other_variable(turn.words))
 
     def query_damages(self, script):
-        """What may be wrong with tables, plan and state."""
+        """What may be wrong with tables, number, plan and state."""
         return [script.plan_damage, script.plan_damage, lambda turn: self.variable_damage(script, turn), script.table_damage, script.table_damage,
-                self.kinds_damage, self.numbers_damage, script.state_damage, script.state_damage, script.state_damage]
+                self.kinds_damage, self.numbers_damage, script.state_damage, script.state_damage, script.state_damage, script.survey_damage]
 
     def join_damage(self, call):
         script = next((script for script in self.scripts if script.words == call.plan), None)
         if script is None or self.rng.random() < .4:
             return self.lists_damage(call, (call.owner,))
-        turn = self.rng.choice(self.query_damages(script))(Turn(call.tables, call.plan, call.state + self.filler(1), len(call.state), 1, (), ()))
-        return call._replace(tables=turn.tables, plan=turn.words, state=turn.state[:turn.given])
+        turn = Turn(call.tables, call.survey, call.plan, call.state + self.filler(1), len(call.state), 1, (), ())
+        turn = self.rng.choice(self.query_damages(script))(turn)
+        return call._replace(tables=turn.tables, survey=turn.survey, plan=turn.words, state=turn.state[:turn.given])
 
     def serve_damage(self, call):
         front = call.line[0] if call.waiting and call.line else None
@@ -126,18 +128,24 @@ class Owners:
         if script is None or self.rng.random() < .35:
             return self.rng.choice([self.lists_damage, self.lists_damage, self.call_damage])(call)
         damages = self.query_damages(script) + [script.turn_damage] * 4
-        turn = self.rng.choice(damages)(Turn(call.tables, script.words, front.state, front.state_words, call.quantum, call.threshold, call.output))
+        turn = Turn(call.tables, call.survey, script.words, front.state, front.state_words, call.quantum, call.threshold, call.output)
+        turn = self.rng.choice(damages)(turn)
         words = turn.words if self.rng.random() < .95 else turn.words + (0,) * 250
         plan = words[:PLAN_ROOM] + front.plan[len(words):]
         state = turn.state[:STATE_ROOM] + front.state[len(turn.state):]
         entry = front._replace(plan_words=len(words), state_words=turn.given, plan=plan, state=state)
-        return call._replace(tables=turn.tables, line=(entry,) + call.line[1:], quantum=turn.quantum, threshold=turn.threshold, output=turn.output)
+        return call._replace(tables=turn.tables, survey=turn.survey, line=(entry,) + call.line[1:], quantum=turn.quantum,
+                             threshold=turn.threshold, output=turn.output)
 
     def call_damage(self, call):
-        """Tables or quantum, whatever the line has."""
-        if self.rng.random() < .5:
+        """Tables, number or quantum, whatever the line has."""
+        way = self.rng.randrange(3)
+        if way == 0:
             return call._replace(quantum=self.rng.choice([0, 1000001, (1 << 32) - 1]))
-        return call._replace(tables=self.scripts[0].table_damage(Turn(call.tables, (), (), 0, 1, (), ())).tables)
+        turn = Turn(call.tables, call.survey, (), (), 0, 1, (), ())
+        if way == 1:
+            return call._replace(survey=self.scripts[0].survey_damage(turn).survey)
+        return call._replace(tables=self.scripts[0].table_damage(turn).tables)
 
     def top_up_damage(self, call):
         way = self.rng.randrange(5)

@@ -23,6 +23,7 @@ from words import GROUP, ROWS
 MOST_BYTES = 65536
 OUTPUT_RECORDS = 64
 KEPT_WORDS = 8192
+SURVEY = 0                   # the number that a file's tables stand under
 ENDINGS = ('done', 'spent', 'full')
 
 
@@ -50,7 +51,7 @@ def lines(calls, data):
     if parts is None:
         return ['refused 1']
     tables, quantum, words = parts
-    opened, state = calls.open(tables, words, (0,) * LEAST_STATE_WORDS)
+    opened, state = calls.open(tables, SURVEY, words, (0,) * LEAST_STATE_WORDS)
     if opened.refused:
         return [f'refused {opened.refused}']
     return list(turns(calls, tables, quantum, words, state, opened.words))
@@ -63,7 +64,7 @@ def turns(calls, tables, quantum, words, state, given):
     ending, number = None, 0
     while ending != DONE:
         number += 1
-        turned, state, output = calls.turn(tables, words, state, given, quantum, (), output)
+        turned, state, output = calls.turn(tables, SURVEY, words, state, given, quantum, (), output)
         ending, given = turned.ending, turned.state_words
         if ending == REFUSED:
             yield f'refused {turned.refused}'

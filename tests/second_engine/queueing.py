@@ -6,7 +6,6 @@ misreading is a subclass with one other method (queueing_misreadings.py).
 from collections import namedtuple
 
 from evaluation import DONE, MOST_QUANTUM, REFUSED, first_failing
-from inputs import state_of, state_right
 from plan_reader import read_plan
 
 MOST_ENTRIES = 32
@@ -17,8 +16,8 @@ Queued = namedtuple('Queued', 'refused line_entries aside_entries')
 Service = namedtuple('Service', 'ending refused steps owner left state_words list_words line_entries aside_entries')
 
 # The calls: a list is a buffer of entries and how many of them are given.
-Join = namedtuple('Join', 'tables line waiting aside resting owner allowance plan state')
-Serve = namedtuple('Serve', 'tables line waiting aside resting quantum threshold output')
+Join = namedtuple('Join', 'tables survey line waiting aside resting owner allowance plan state')
+Serve = namedtuple('Serve', 'tables survey line waiting aside resting quantum threshold output')
 Top_up = namedtuple('Top_up', 'line waiting aside resting owner amount')
 
 
@@ -61,10 +60,9 @@ class Queueing:
     # Joining.
 
     def query_tests(self, call):
-        """Tests 5, 6, 9 and 10 of the plan and state that join."""
+        """Tests 5, 6, 9, 22 and 10 of the plan and state that join."""
         plan = read_plan(call.plan)
-        return self.calls.plan_tests(call.plan, plan) + [
-            (9, lambda: state_right(plan, call.state)), (10, lambda: self.calls.accepts(call.tables, call.plan, state_of(call.state)))]
+        return self.calls.plan_tests(call.plan, plan) + self.calls.state_tests(call.tables, call.survey, call.plan, plan, call.state)
 
     def join_tests(self, call):
         return [(17, lambda: self.entries_right(call, (call.owner,))), (18, lambda: self.room_right(call, 1))]
@@ -84,13 +82,14 @@ class Queueing:
     # Serving.
 
     def turn(self, call, entry, quantum):
-        return self.calls.turn(call.tables, self.plan_in(entry), entry.state, entry.state_words, quantum, call.threshold, call.output)
+        return self.calls.turn(call.tables, call.survey, self.plan_in(entry), entry.state, entry.state_words, quantum, call.threshold, call.output)
 
     def front_refused(self, call, line):
-        """The first of tests 1 to 11 that fails on the front entry and the call; of an empty line, of 1 to 4 and 8."""
+        """The first of tests 1 to 11 and 22 that fails on the front entry and the call; of an empty line, of 1 to 4, 8 and 22."""
         if line:
             return self.turn(call, line[0], call.quantum)[0].refused
-        return self.calls.tables_refused(call.tables) or (0 if 1 <= call.quantum <= MOST_QUANTUM else 8)
+        return self.calls.tables_refused(call.tables) or first_failing(
+            [(8, lambda: 1 <= call.quantum <= MOST_QUANTUM), (22, lambda: self.calls.number_right(call.survey))])
 
     def serve_tests(self, call, line):
         return [(17, lambda: self.entries_right(call)), (18, lambda: self.room_right(call, 0)), (19, lambda: bool(line))]

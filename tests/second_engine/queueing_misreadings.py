@@ -196,6 +196,18 @@ class EmptyLineUntested(Queueing):
         return super().front_refused(call, line) if line else 0
 
 
+class EmptyLineOfAnyNumber(Queueing):
+    """with an empty line the survey's number is not tested"""
+    def front_refused(self, call, line):
+        return super().front_refused(call if line else call._replace(survey=0), line)
+
+
+class JoinsAnySurvey(Queueing):
+    """a state of another survey may join"""
+    def query_tests(self, call):
+        return [test for test in super().query_tests(call) if test[0] != 22]
+
+
 class RefusedRotates(Queueing):
     """a refused serve puts the front entry to the back"""
     def refused_service(self, call, number):
@@ -247,5 +259,5 @@ class BehindTheLists(Queueing):
 ALL_QUEUEING_MISREADINGS = [
     PastTheAllowance, BackToTheFront, StepsNotDeducted, LeftBefore, DoneHasNothingLeft, CountStale, StateZeroed, StaysInTheLine, DoneStays,
     AsideToTheFront, ToppedUpToTheFront, LineAlone, AsideAlone, NewcomerAlone, First32, StepsOfTheLine, StepsSetAside, RoomFirst, EmptyFirst,
-    ListsBeforeTheQuery, ListsBeforeTheFront, RoomFor31, RoomFor33, RoomAsNeeded, EachList32, QuantumOfTheTurn, EmptyLineUntested,
+    ListsBeforeTheQuery, ListsBeforeTheFront, RoomFor31, RoomFor33, RoomAsNeeded, EachList32, QuantumOfTheTurn, EmptyLineUntested, EmptyLineOfAnyNumber, JoinsAnySurvey,
     RefusedRotates, ZeroJoinsTheLine, ArraysKept, TopUpOfNothing, BehindTheLists]

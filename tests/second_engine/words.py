@@ -6,7 +6,8 @@ MOST_VALUE = (1 << 30) - 1
 MOST_WORD = (1 << 32) - 1
 
 HEAD, BRANCH, TRUE, AND, OR, NOT, COMPARISON, ROWS, TOP, RISING, FALLING, GROUP = range(1, 13)
-STATE, PLACE = 14, 15
+SURVEY, STATE, PLACE = 13, 14, 15
+SURVEYS = 1 << 28            # the numbers that a survey may have are below
 EQUAL, UNEQUAL, LESS, AT_MOST, MORE, AT_LEAST = range(6)
 OPERATORS = ['=', '!=', '<', '<=', '>', '>=']
 

@@ -9,7 +9,7 @@
 
 enum { SET = 1, FILL, STEMS, OPEN, TURN, MERGE, MAKE, SHUFFLED, MAKE_STEMS, ENTRIES, JOIN, SERVE, TOP_UP, VIEW, VIEW_ALL };
 enum { ROWS, POS, OSP, PLAN, STATE, THRESHOLD, OUTPUT, KEPT, LIST, UPLOAD, REPORT, LINE, ASIDE, GRANT, SEEN_ROWS, SEEN_POS, SEEN_OSP, BUFFERS };
-enum { GUARDS = 8, NUMBERS = 22, ENTRY_WORDS = sizeof(struct sotjarn_entry) / sizeof(uint32_t) };
+enum { GUARDS = 8, NUMBERS = 23, ENTRY_WORDS = sizeof(struct sotjarn_entry) / sizeof(uint32_t) };
 
 #define GUARD UINT32_C(0xA5A5C3C3)
 
@@ -144,15 +144,16 @@ static void written(struct sotjarn_written made, int number)
 
 static void run_open(void)
 {
-    written(sotjarn_open(words_of(ROWS), buffers[ROWS].len, words_of(POS), buffers[POS].len, words_of(OSP), buffers[OSP].len,
+    uint32_t survey = word();
+    written(sotjarn_open(words_of(ROWS), buffers[ROWS].len, words_of(POS), buffers[POS].len, words_of(OSP), buffers[OSP].len, survey,
                          words_of(PLAN), buffers[PLAN].len, words_of(STATE), buffers[STATE].len), STATE);
 }
 
 static void run_turn(void)
 {
-    uint32_t given = word(), quantum = word();
+    uint32_t survey = word(), given = word(), quantum = word();
     struct sotjarn_turned made = sotjarn_turn(
-        words_of(ROWS), buffers[ROWS].len, words_of(POS), buffers[POS].len, words_of(OSP), buffers[OSP].len, words_of(PLAN),
+        words_of(ROWS), buffers[ROWS].len, words_of(POS), buffers[POS].len, words_of(OSP), buffers[OSP].len, survey, words_of(PLAN),
         buffers[PLAN].len, words_of(STATE), buffers[STATE].len, given, quantum, words_of(THRESHOLD), buffers[THRESHOLD].len,
         words_of(OUTPUT), buffers[OUTPUT].len);
     uint32_t ending = word(), refused = word(), steps = word(), state_words = word(), list_words = word();
@@ -294,18 +295,18 @@ static void queued(struct sotjarn_queued made)
 
 static void run_join(void)
 {
-    uint32_t line = word(), aside = word(), owner = word();
+    uint32_t survey = word(), line = word(), aside = word(), owner = word();
     uint64_t allowance = wide();
-    queued(sotjarn_join(words_of(ROWS), buffers[ROWS].len, words_of(POS), buffers[POS].len, words_of(OSP), buffers[OSP].len,
+    queued(sotjarn_join(words_of(ROWS), buffers[ROWS].len, words_of(POS), buffers[POS].len, words_of(OSP), buffers[OSP].len, survey,
                         entries_of(LINE), count_of(LINE), line, entries_of(ASIDE), count_of(ASIDE), aside, owner, allowance,
                         words_of(PLAN), buffers[PLAN].len, words_of(STATE), buffers[STATE].len));
 }
 
 static void run_serve(void)
 {
-    uint32_t line = word(), aside = word(), quantum = word();
+    uint32_t survey = word(), line = word(), aside = word(), quantum = word();
     struct sotjarn_service made = sotjarn_serve(
-        words_of(ROWS), buffers[ROWS].len, words_of(POS), buffers[POS].len, words_of(OSP), buffers[OSP].len, entries_of(LINE),
+        words_of(ROWS), buffers[ROWS].len, words_of(POS), buffers[POS].len, words_of(OSP), buffers[OSP].len, survey, entries_of(LINE),
         count_of(LINE), line, entries_of(ASIDE), count_of(ASIDE), aside, quantum, words_of(THRESHOLD), buffers[THRESHOLD].len,
         words_of(OUTPUT), buffers[OUTPUT].len);
     uint32_t ending = word(), refused = word(), steps = word(), owner = word();

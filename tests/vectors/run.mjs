@@ -12,7 +12,7 @@ const [PLAN_ROOM, STATE_ROOM] = [256, 11];
 const ENTRY_WORDS = 5 + PLAN_ROOM + STATE_ROOM;
 const GUARDS = 8;
 const GUARD = 0xa5a5c3c3;
-const NUMBERS = 22;
+const NUMBERS = 23;
 const PAGE = 65536;
 
 let calls = 0;
@@ -99,15 +99,16 @@ function mustWrite(number, count) {
 }
 
 function open() {
-  sotjarn_open(answerAt, ...buffer(ROWS), ...buffer(POS), ...buffer(OSP), ...buffer(PLAN), ...buffer(STATE));
+  const [survey] = words(1);
+  sotjarn_open(answerAt, ...buffer(ROWS), ...buffer(POS), ...buffer(OSP), survey, ...buffer(PLAN), ...buffer(STATE));
   const [refused, written] = words(2);
   mustAnswer(answer(2), [refused, written], refused);
   mustWrite(STATE, written);
 }
 
 function turn() {
-  const [given, quantum] = words(2);
-  sotjarn_turn(answerAt, ...buffer(ROWS), ...buffer(POS), ...buffer(OSP), ...buffer(PLAN), ...buffer(STATE), given, quantum,
+  const [survey, given, quantum] = words(3);
+  sotjarn_turn(answerAt, ...buffer(ROWS), ...buffer(POS), ...buffer(OSP), survey, ...buffer(PLAN), ...buffer(STATE), given, quantum,
     ...buffer(THRESHOLD), ...buffer(OUTPUT));
   const [ending, refused, steps, stateWords, listWords] = words(5);
   mustAnswer(answer(5), [ending, refused, steps, stateWords, listWords], refused);
@@ -182,15 +183,15 @@ function queued() {
 }
 
 function join() {
-  const [line, aside, owner, ...allowance] = words(5);
-  sotjarn_join(answerAt, ...buffer(ROWS), ...buffer(POS), ...buffer(OSP), ...entriesOf(LINE), line, ...entriesOf(ASIDE), aside, owner,
+  const [survey, line, aside, owner, ...allowance] = words(6);
+  sotjarn_join(answerAt, ...buffer(ROWS), ...buffer(POS), ...buffer(OSP), survey, ...entriesOf(LINE), line, ...entriesOf(ASIDE), aside, owner,
     wide(allowance), ...buffer(PLAN), ...buffer(STATE));
   queued();
 }
 
 function serve() {
-  const [line, aside, quantum] = words(3);
-  sotjarn_serve(answerAt, ...buffer(ROWS), ...buffer(POS), ...buffer(OSP), ...entriesOf(LINE), line, ...entriesOf(ASIDE), aside, quantum,
+  const [survey, line, aside, quantum] = words(4);
+  sotjarn_serve(answerAt, ...buffer(ROWS), ...buffer(POS), ...buffer(OSP), survey, ...entriesOf(LINE), line, ...entriesOf(ASIDE), aside, quantum,
     ...buffer(THRESHOLD), ...buffer(OUTPUT));
   const expected = words(10); // ending, refused, steps, owner, left in two words, state words, list words, and both counts
   mustAnswer(answer(10), expected, expected[1]);

@@ -2,10 +2,13 @@
 
 use crate::engine::{self, Entry};
 use crate::refusals::Refusal;
-use crate::tables::Tables;
+use crate::tables::{Survey, Tables};
 
 /// The words that a state buffer has at least.
-pub const STATE_WORDS: usize = 9;
+pub const STATE_WORDS: usize = 10;
+
+/// The numbers that a survey may have: below this.
+pub const SURVEYS: u32 = 1 << 28;
 
 /// The most steps that a turn may take.
 pub const MOST_STEPS: u32 = 1_000_000;
@@ -126,43 +129,46 @@ fn turned(answer: engine::TurnedNumbers) -> Result<Turned, Refusal> {
     })
 }
 
-/// Writes the start state of a query over the front of `state`, and gives the words written. Refused by 1 to 7.
+/// Writes the start state of a query over the front of `state`, and gives the words written. Refused by 1 to 7 and 22.
 ///
 /// ```
 /// use sotjarn::{open, Refusal, Tables};
 ///
 /// let rows = [1, 10, 100]; // n1 n10 n100
-/// let tables = Tables { rows: &rows, pos: &[0], osp: &[0] };
+/// let survey = Tables { rows: &rows, pos: &[0], osp: &[0] }.survey(7);
 /// let plan = [0x1000_0001, 0x2000_0001, 0xC000_0000, 10, 100, 0x3000_0000, 0x8000_0001, 0xC000_0000];
-/// let mut state = [0; 9];
-/// assert_eq!(open(tables, &plan, &mut state), Ok(2));
-/// assert_eq!(state[..2], [0xE000_0001, 0xF000_0000]); // branch 0, depth 1; place 0
-/// assert_eq!(open(tables, &plan, &mut state[..8]), Err(Refusal::BufferLengths));
+/// let mut state = [0; 10];
+/// assert_eq!(open(survey, &plan, &mut state), Ok(3));
+/// assert_eq!(state[..3], [0xD000_0007, 0xE000_0001, 0xF000_0000]); // survey 7; branch 0, depth 1; place 0
+/// assert_eq!(open(survey, &plan, &mut state[..9]), Err(Refusal::BufferLengths));
+/// assert_eq!(open(survey.tables.survey(1 << 28), &plan, &mut state), Err(Refusal::Survey));
 /// ```
-pub fn open(tables: Tables, plan: &[u32], state: &mut [u32]) -> Result<usize, Refusal> {
-    let Tables { rows, pos, osp } = tables;
-    written(engine::sotjarn_open(rows, pos, osp, plan, state))
+pub fn open(survey: Survey, plan: &[u32], state: &mut [u32]) -> Result<usize, Refusal> {
+    let Tables { rows, pos, osp } = survey.tables;
+    written(engine::sotjarn_open(rows, pos, osp, survey.number, plan, state))
 }
 
 /// Runs at most `quantum` steps from the saved state, which is the first `state_words` words of `state`: those that opening or the
 /// turn before wrote. `threshold` is empty, or for a best-of query the last row of a full list merged from earlier turns.
-/// Refused by 1 to 11.
+/// Refused by 1 to 11, and by 22 after 9: a state goes on with the survey that it was saved under alone.
 ///
 /// ```
 /// use sotjarn::{open, turn, Refusal, Tables, TurnEnding};
 ///
 /// let rows = [1, 10, 100]; // n1 n10 n100
-/// let tables = Tables { rows: &rows, pos: &[0], osp: &[0] };
+/// let survey = Tables { rows: &rows, pos: &[0], osp: &[0] }.survey(7);
 /// let plan = [0x1000_0001, 0x2000_0001, 0xC000_0000, 10, 100, 0x3000_0000, 0x8000_0001, 0xC000_0000];
-/// let (mut state, mut output) = ([0; 9], [0; 1]);
-/// let words = open(tables, &plan, &mut state)?;
-/// let turned = turn(tables, &plan, &mut state, words, 10, &[], &mut output)?;
+/// let (mut state, mut output) = ([0; 10], [0; 1]);
+/// let words = open(survey, &plan, &mut state)?;
+/// let later = survey.tables.survey(8); // after the next upload
+/// assert_eq!(turn(later, &plan, &mut state, words, 10, &[], &mut output), Err(Refusal::Survey));
+/// let turned = turn(survey, &plan, &mut state, words, 10, &[], &mut output)?;
 /// assert_eq!((turned.steps, turned.ending), (2, TurnEnding::Done));
 /// assert_eq!(output[..turned.list_words], [1]);
 /// # Ok::<(), Refusal>(())
 /// ```
 pub fn turn(
-    tables: Tables,
+    survey: Survey,
     plan: &[u32],
     state: &mut [u32],
     state_words: usize,
@@ -170,11 +176,12 @@ pub fn turn(
     threshold: &[u32],
     output: &mut [u32],
 ) -> Result<Turned, Refusal> {
-    let Tables { rows, pos, osp } = tables;
+    let Tables { rows, pos, osp } = survey.tables;
     turned(engine::sotjarn_turn(
         rows,
         pos,
         osp,
+        survey.number,
         plan,
         state,
         state_words,
@@ -303,29 +310,29 @@ fn queued(answer: engine::QueuedNumbers) -> Result<Queued, Refusal> {
     }
 }
 
-/// An owner's query joins a queue over these tables: with steps at the end of the line, without at the end of the list set aside. The
+/// An owner's query joins a queue over this survey: with steps at the end of the line, without at the end of the list set aside. The
 /// line is the first `line_entries` entries of `line`, the list set aside the first `aside_entries` of `aside`; both buffers have
-/// [`MOST_ENTRIES`] or more. `plan` and `state` are whole: those that a turn would accept. Refused by 1 to 6, 9, 10, 17 and 18.
+/// [`MOST_ENTRIES`] or more. `plan` and `state` are whole: those that a turn would accept. Refused by 1 to 6, 9, 22, 10, 17 and 18.
 /// [`Queue`](crate::Queue) holds both lists.
 ///
 /// ```
 /// use sotjarn::{join, open, Queued, Refusal, Tables, MOST_ENTRIES, NO_ENTRY};
 ///
 /// let rows = [1, 10, 100]; // n1 n10 n100
-/// let tables = Tables { rows: &rows, pos: &[0], osp: &[0] };
+/// let survey = Tables { rows: &rows, pos: &[0], osp: &[0] }.survey(7);
 /// let plan = [0x1000_0001, 0x2000_0001, 0xC000_0000, 10, 100, 0x3000_0000, 0x8000_0001, 0xC000_0000];
-/// let mut state = [0; 9];
-/// let words = open(tables, &plan, &mut state)?;
+/// let mut state = [0; 10];
+/// let words = open(survey, &plan, &mut state)?;
 /// let (mut line, mut aside) = ([NO_ENTRY; MOST_ENTRIES], [NO_ENTRY; MOST_ENTRIES]);
-/// let queued = join(tables, &mut line, 0, &mut aside, 0, 7, 100, &plan, &state[..words])?;
+/// let queued = join(survey, &mut line, 0, &mut aside, 0, 7, 100, &plan, &state[..words])?;
 /// assert_eq!(queued, Queued { line_entries: 1, aside_entries: 0 });
-/// let again = join(tables, &mut line, 1, &mut aside, 0, 7, 100, &plan, &state[..words]);
+/// let again = join(survey, &mut line, 1, &mut aside, 0, 7, 100, &plan, &state[..words]);
 /// assert_eq!(again, Err(Refusal::Entries)); // owner 7 has an entry
 /// # Ok::<(), Refusal>(())
 /// ```
 #[allow(clippy::too_many_arguments)]
 pub fn join(
-    tables: Tables,
+    survey: Survey,
     line: &mut [Entry],
     line_entries: usize,
     aside: &mut [Entry],
@@ -335,11 +342,12 @@ pub fn join(
     plan: &[u32],
     state: &[u32],
 ) -> Result<Queued, Refusal> {
-    let Tables { rows, pos, osp } = tables;
+    let Tables { rows, pos, osp } = survey.tables;
     queued(engine::sotjarn_join(
         rows,
         pos,
         osp,
+        survey.number,
         line,
         line_entries,
         aside,
@@ -353,11 +361,11 @@ pub fn join(
 
 /// Runs a turn of the query at the front of the line, for at most `quantum` steps and at most those left to it. Done, it leaves; else it
 /// goes to the back of the line, or to the end of the list set aside where no steps are left. Its list is written over the front of
-/// `output`, its new state in its entry. Refused by 1 to 11 on the front entry and the call, then 17, 18 and 19; with an empty line by 1
-/// to 4, 8, 17, 18 and 19.
+/// `output`, its new state in its entry. Refused by 1 to 11, with 22 after 9, on the front entry and the call, then 17, 18 and 19; with an
+/// empty line by 1 to 4, 8, 22, 17, 18 and 19.
 #[allow(clippy::too_many_arguments)]
 pub fn serve(
-    tables: Tables,
+    survey: Survey,
     line: &mut [Entry],
     line_entries: usize,
     aside: &mut [Entry],
@@ -366,11 +374,12 @@ pub fn serve(
     threshold: &[u32],
     output: &mut [u32],
 ) -> Result<Served, Refusal> {
-    let Tables { rows, pos, osp } = tables;
+    let Tables { rows, pos, osp } = survey.tables;
     let answer = engine::sotjarn_serve(
         rows,
         pos,
         osp,
+        survey.number,
         line,
         line_entries,
         aside,

@@ -14,6 +14,7 @@
 //! | words in buffers of your own | [`make`], [`open`], [`turn`], [`merge`], [`least_output`]; [`join`], [`serve`], [`top_up`]; [`view`] |
 //! | rows in any order | [`TableWords::make`], [`TableWords::from_rows`]; [`Dropped`] |
 //! | an adviser's grant | [`TableWords::view`] |
+//! | tables and their number | [`Survey`]: [`TableWords::survey`], [`Tables::survey`] |
 //! | a query to write | [`Plan::builder`] |
 //! | a query to run | [`Query`] and its [`turns`](Query::turns), [`Kept`] |
 //! | queries of several owners | [`Queue`], [`Entry`] |
@@ -42,7 +43,7 @@
 //!
 //! let mut kept = Kept::new(&plan);
 //! let mut turns = Vec::new();
-//! for turn in Query::open(wood.tables(), plan.words())?.turns(4, 64 * plan.width()) {
+//! for turn in Query::open(wood.survey(1), plan.words())?.turns(4, 64 * plan.width()) {
 //!     let turn = turn?;
 //!     kept.take(&turn.list)?;
 //!     turns.push(turn.steps);
@@ -78,7 +79,7 @@ use sotjarn_portable as engine;
 
 pub use calls::{
     join, least_output, make, merge, open, serve, top_up, turn, view, Made, Queued, Served, TurnEnding, Turned, Viewed, MAKE_STACK,
-    MOST_ENTRIES, MOST_ROWS, MOST_STEPS, STATE_WORDS, VIEW_STACK,
+    MOST_ENTRIES, MOST_ROWS, MOST_STEPS, STATE_WORDS, SURVEYS, VIEW_STACK,
 };
 pub use engine::Entry;
 pub use lists::{read_groups, read_rows, Group, Kept, List, Row, Unreadable};
@@ -87,6 +88,6 @@ pub use queries::{Query, Turn, Turns};
 pub use queues::{plan_in, state_in, Queue, NO_ENTRY};
 pub use refusals::Refusal;
 pub use states::{Place, State};
-pub use tables::{RowFault, TableWords, Tables};
+pub use tables::{RowFault, Survey, TableWords, Tables};
 pub use terms::{Term, TooLarge, Value, Variable, UNBOUND};
 pub use uploads::{read_report, Dropped, Reason};

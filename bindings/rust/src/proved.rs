@@ -98,6 +98,7 @@ mod foreign {
             pos_len: usize,
             osp: *const u32,
             osp_len: usize,
+            survey: u32,
             plan: *const u32,
             plan_len: usize,
             state: *mut u32,
@@ -111,6 +112,7 @@ mod foreign {
             pos_len: usize,
             osp: *const u32,
             osp_len: usize,
+            survey: u32,
             plan: *const u32,
             plan_len: usize,
             state: *mut u32,
@@ -173,6 +175,7 @@ mod foreign {
             pos_len: usize,
             osp: *const u32,
             osp_len: usize,
+            survey: u32,
             line: *mut Entry,
             line_len: usize,
             line_entries: usize,
@@ -194,6 +197,7 @@ mod foreign {
             pos_len: usize,
             osp: *const u32,
             osp_len: usize,
+            survey: u32,
             line: *mut Entry,
             line_len: usize,
             line_entries: usize,
@@ -220,7 +224,7 @@ mod foreign {
     }
 }
 
-pub fn sotjarn_open(rows: &[u32], pos: &[u32], osp: &[u32], plan: &[u32], state: &mut [u32]) -> WrittenNumbers {
+pub fn sotjarn_open(rows: &[u32], pos: &[u32], osp: &[u32], survey: u32, plan: &[u32], state: &mut [u32]) -> WrittenNumbers {
     // Sound: each address and length is a slice's, and `state`, the one that is written, is a `&mut` slice (see the module).
     unsafe {
         foreign::sotjarn_open(
@@ -230,6 +234,7 @@ pub fn sotjarn_open(rows: &[u32], pos: &[u32], osp: &[u32], plan: &[u32], state:
             pos.len(),
             osp.as_ptr(),
             osp.len(),
+            survey,
             plan.as_ptr(),
             plan.len(),
             state.as_mut_ptr(),
@@ -243,6 +248,7 @@ pub fn sotjarn_turn(
     rows: &[u32],
     pos: &[u32],
     osp: &[u32],
+    survey: u32,
     plan: &[u32],
     state: &mut [u32],
     given: usize,
@@ -260,6 +266,7 @@ pub fn sotjarn_turn(
             pos.len(),
             osp.as_ptr(),
             osp.len(),
+            survey,
             plan.as_ptr(),
             plan.len(),
             state.as_mut_ptr(),
@@ -352,6 +359,7 @@ pub fn sotjarn_join(
     rows: &[u32],
     pos: &[u32],
     osp: &[u32],
+    survey: u32,
     line: &mut [Entry],
     given: usize,
     aside: &mut [Entry],
@@ -371,6 +379,7 @@ pub fn sotjarn_join(
             pos.len(),
             osp.as_ptr(),
             osp.len(),
+            survey,
             line.as_mut_ptr(),
             line.len(),
             given,
@@ -392,6 +401,7 @@ pub fn sotjarn_serve(
     rows: &[u32],
     pos: &[u32],
     osp: &[u32],
+    survey: u32,
     line: &mut [Entry],
     given: usize,
     aside: &mut [Entry],
@@ -409,6 +419,7 @@ pub fn sotjarn_serve(
             pos.len(),
             osp.as_ptr(),
             osp.len(),
+            survey,
             line.as_mut_ptr(),
             line.len(),
             given,

@@ -4,12 +4,12 @@ use std::iter::FusedIterator;
 
 use crate::calls::{open, turn, TurnEnding, Turned, STATE_WORDS};
 use crate::refusals::Refusal;
-use crate::tables::Tables;
+use crate::tables::Survey;
 
-/// A query under way: its tables, its plan, and the state that the last turn left.
+/// A query under way: its survey, its plan, and the state that the last turn left.
 #[derive(Clone, Debug, PartialEq, Eq)]
 pub struct Query<'a> {
-    tables: Tables<'a>,
+    survey: Survey<'a>,
     plan: &'a [u32],
     state: Vec<u32>,
     state_words: usize,
@@ -28,12 +28,12 @@ pub struct Turn {
 }
 
 impl<'a> Query<'a> {
-    /// Opens a query. Refused by 1 to 6.
-    pub fn open(tables: Tables<'a>, plan: &'a [u32]) -> Result<Query<'a>, Refusal> {
+    /// Opens a query. Refused by 1 to 6 and 22.
+    pub fn open(survey: Survey<'a>, plan: &'a [u32]) -> Result<Query<'a>, Refusal> {
         let mut state = vec![0; STATE_WORDS];
-        let state_words = open(tables, plan, &mut state)?;
+        let state_words = open(survey, plan, &mut state)?;
         Ok(Query {
-            tables,
+            survey,
             plan,
             state,
             state_words,
@@ -41,12 +41,13 @@ impl<'a> Query<'a> {
         })
     }
 
-    /// Goes on with a query from the words that [`Query::state`] gave. They are tested by its first turn.
-    pub fn load(tables: Tables<'a>, plan: &'a [u32], saved: &[u32]) -> Query<'a> {
+    /// Goes on with a query from the words that [`Query::state`] gave. They are tested by its first turn: those of another survey are
+    /// refused by 22, and the query is opened anew then.
+    pub fn load(survey: Survey<'a>, plan: &'a [u32], saved: &[u32]) -> Query<'a> {
         let mut state = saved.to_vec();
         state.resize(saved.len().max(STATE_WORDS), 0);
         Query {
-            tables,
+            survey,
             plan,
             state,
             state_words: saved.len(),
@@ -67,7 +68,7 @@ impl<'a> Query<'a> {
     /// Runs one turn. A refused one changes nothing; after done every turn is refused.
     pub fn turn(&mut self, quantum: u32, threshold: &[u32], output: &mut [u32]) -> Result<Turned, Refusal> {
         let turned = turn(
-            self.tables,
+            self.survey,
             self.plan,
             &mut self.state,
             self.state_words,
@@ -91,7 +92,7 @@ impl<'a> Query<'a> {
     /// let size = Variable(1);
     /// let plan = Plan::builder().branch(Branch::new().pattern(Variable(0), Name(12), size)).group([], size)?;
     ///
-    /// let mut query = Query::open(wood.tables(), plan.words())?;
+    /// let mut query = Query::open(wood.survey(1), plan.words())?;
     /// let mut kept = Kept::new(&plan);
     /// let mut steps = 0;
     /// for turn in query.turns(2, plan.least_output()) {

@@ -1,9 +1,9 @@
-//! Queries of several owners that wait over one set of tables.
+//! Queries of several owners that wait over one survey.
 
 use crate::calls::{join, serve, top_up, Queued, Served, MOST_ENTRIES};
 use crate::engine::Entry;
 use crate::refusals::Refusal;
-use crate::tables::Tables;
+use crate::tables::Survey;
 
 /// Nobody's entry: what the buffers of a new queue hold.
 pub const NO_ENTRY: Entry = Entry {
@@ -35,24 +35,24 @@ pub fn state_in(entry: &Entry) -> &[u32] {
 /// let wood = TableWords::from_rows([[1, 45], [2, 310], [3, 310]].map(|[stem, size]| [Name(stem), Name(12), Number(size)]))?;
 /// let (stem, size) = (Variable(0), Variable(1));
 /// let plan = Plan::builder().branch(Branch::new().pattern(stem, Name(12), size)).rows([stem])?;
-/// let start = Query::open(wood.tables(), plan.words())?.state().to_vec();
+/// let start = Query::open(wood.survey(1), plan.words())?.state().to_vec();
 ///
 /// let mut queue = Queue::new();
-/// queue.join(wood.tables(), 7, 2, plan.words(), &start)?; // two steps
-/// queue.join(wood.tables(), 8, 9, plan.words(), &start)?;
+/// queue.join(wood.survey(1), 7, 2, plan.words(), &start)?; // two steps
+/// queue.join(wood.survey(1), 8, 9, plan.words(), &start)?;
 ///
 /// let mut output = [0; 16];
-/// let served = queue.serve(wood.tables(), 3, &[], &mut output)?;
+/// let served = queue.serve(wood.survey(1), 3, &[], &mut output)?;
 /// assert_eq!((served.owner, served.turned.steps, served.left), (7, 2, 0)); // no more than is left to it
 /// assert_eq!(output[..served.turned.list_words], [1, 2]);
 /// assert_eq!(queue.set_aside().len(), 1);
 ///
 /// queue.top_up(7, 10)?; // behind owner 8
-/// assert_eq!(queue.serve(wood.tables(), 4, &[], &mut output)?.owner, 8);
-/// let served = queue.serve(wood.tables(), 4, &[], &mut output)?;
+/// assert_eq!(queue.serve(wood.survey(1), 4, &[], &mut output)?.owner, 8);
+/// let served = queue.serve(wood.survey(1), 4, &[], &mut output)?;
 /// assert_eq!((served.owner, served.turned.ending, served.left), (7, TurnEnding::Done, 8)); // 2 and 10 granted, 4 taken
 /// assert_eq!(output[..served.turned.list_words], [3]);
-/// assert_eq!(queue.serve(wood.tables(), 4, &[], &mut output), Err(Refusal::EmptyLine));
+/// assert_eq!(queue.serve(wood.survey(1), 4, &[], &mut output), Err(Refusal::EmptyLine));
 /// # Ok::<(), Box<dyn std::error::Error>>(())
 /// ```
 #[derive(Clone, Debug, PartialEq, Eq)]
@@ -100,11 +100,11 @@ impl Queue {
     }
 
     /// An owner's query joins, with an allowance of steps; with none it is set aside. See [`join`].
-    pub fn join(&mut self, tables: Tables, owner: u32, allowance: u64, plan: &[u32], state: &[u32]) -> Result<(), Refusal> {
+    pub fn join(&mut self, survey: Survey, owner: u32, allowance: u64, plan: &[u32], state: &[u32]) -> Result<(), Refusal> {
         let (line_entries, aside_entries) = (self.line_entries, self.aside_entries);
         let (line, aside) = (&mut self.line[..], &mut self.aside[..]);
         let queued = join(
-            tables,
+            survey,
             line,
             line_entries,
             aside,
@@ -120,10 +120,10 @@ impl Queue {
 
     /// A turn of the query at the front, which then leaves, goes to the back or is set aside. The threshold is the front entry's. See
     /// [`serve`].
-    pub fn serve(&mut self, tables: Tables, quantum: u32, threshold: &[u32], output: &mut [u32]) -> Result<Served, Refusal> {
+    pub fn serve(&mut self, survey: Survey, quantum: u32, threshold: &[u32], output: &mut [u32]) -> Result<Served, Refusal> {
         let (line_entries, aside_entries) = (self.line_entries, self.aside_entries);
         let (line, aside) = (&mut self.line[..], &mut self.aside[..]);
-        let served = serve(tables, line, line_entries, aside, aside_entries, quantum, threshold, output)?;
+        let served = serve(survey, line, line_entries, aside, aside_entries, quantum, threshold, output)?;
         (self.line_entries, self.aside_entries) = (served.line_entries, served.aside_entries);
         Ok(served)
     }

@@ -10,7 +10,7 @@ use std::fmt;
 ///
 /// assert_eq!(Refusal::Quantum.code(), 8);
 /// assert_eq!(Refusal::from_code(8), Some(Refusal::Quantum));
-/// assert_eq!(Refusal::from_code(22), None);
+/// assert_eq!(Refusal::from_code(23), None);
 /// assert_eq!(Refusal::Quantum.fault(), "the quantum is outside its range");
 /// assert_eq!(Refusal::Quantum.remedy(), "give 1 to 1,000,000 steps");
 /// assert_eq!(Refusal::Quantum.to_string(), "refused by 8: the quantum is outside its range; give 1 to 1,000,000 steps");
@@ -30,7 +30,7 @@ pub enum Refusal {
     PlanForm = 5,
     /// Plan: a variable above ?15, one that is not bound where it must be, a key that is no column, or a repeat.
     PlanVariables = 6,
-    /// Output holds less than one row, k rows or one group, by ending; or a state buffer under 9 words.
+    /// Output holds less than one row, k rows or one group, by ending; or a state buffer under 10 words.
     BufferLengths = 7,
     /// Quantum outside its range.
     Quantum = 8,
@@ -61,10 +61,12 @@ pub enum Refusal {
     Grant = 20,
     /// View: a buffer is too short for the visible rows.
     ViewLengths = 21,
+    /// A survey's number above 28 bits, or a state of another survey. It stands after 9 and before 10.
+    Survey = 22,
 }
 
 /// All of them, by their numbers from 1 on.
-const ALL: [Refusal; 21] = [
+const ALL: [Refusal; 22] = [
     Refusal::TableLengths,
     Refusal::FieldKind,
     Refusal::RowOrder,
@@ -86,6 +88,7 @@ const ALL: [Refusal; 21] = [
     Refusal::EmptyLine,
     Refusal::Grant,
     Refusal::ViewLengths,
+    Refusal::Survey,
 ];
 
 impl Refusal {
@@ -128,6 +131,7 @@ impl Refusal {
             Refusal::EmptyLine => "the line is empty",
             Refusal::Grant => "the grant has a word that is no name, or its words do not ascend strictly",
             Refusal::ViewLengths => "a buffer is too short for the visible rows",
+            Refusal::Survey => "the survey's number is above 28 bits, or the state is of another survey",
         }
     }
 
@@ -149,7 +153,7 @@ impl Refusal {
                  take keys from the columns; name no column or group variable twice"
             }
             Refusal::BufferLengths => {
-                "lend a state buffer of 9 words, and an output for one row, k rows or one group, as the plan ends"
+                "lend a state buffer of 10 words, and an output for one row, k rows or one group, as the plan ends"
             }
             Refusal::Quantum => "give 1 to 1,000,000 steps",
             Refusal::StateForm => {
@@ -172,6 +176,9 @@ impl Refusal {
             Refusal::EmptyLine => "serve again when somebody has joined or was topped up",
             Refusal::Grant => "sort the granted names as unsigned words, each once",
             Refusal::ViewLengths => "for tables of n rows lend 3 n words for rows and n for each list: that is always enough",
+            Refusal::Survey => {
+                "number the surveys below 268,435,456; open the query anew over this survey, and let go what was kept of the other"
+            }
         }
     }
 }

@@ -1,4 +1,4 @@
-//! Tables: lent, made from rows in any order, and those that an adviser may see.
+//! Tables: lent, made from rows in any order, and those that an adviser may see; and a survey, which is tables under a number.
 
 use std::error::Error;
 use std::fmt;
@@ -20,6 +20,38 @@ pub struct Tables<'a> {
     pub pos: &'a [u32],
     /// Row numbers by object, subject, predicate.
     pub osp: &'a [u32],
+}
+
+impl<'a> Tables<'a> {
+    /// These tables under a survey's number.
+    pub fn survey(self, number: u32) -> Survey<'a> {
+        Survey { tables: self, number }
+    }
+}
+
+/// A survey, lent: tables, and the number that they stand under. A query runs over a survey, and its saved state is of that survey alone:
+/// under another number it is refused ([`Refusal::Survey`]). Tables under one number have to be the same, so each upload gets a number of
+/// its own, and so do the tables that an adviser sees.
+///
+/// ```
+/// use sotjarn::{Plan, Query, Refusal, TableWords, Term::Name, Variable};
+///
+/// let stems = |count| (1..=count).map(|stem| [Name(stem), Name(10), Name(100)]);
+/// let (yesterday, today) = (TableWords::from_rows(stems(3))?, TableWords::from_rows(stems(4))?);
+/// let plan = Plan::builder().branch(sotjarn::Branch::new().pattern(Variable(0), Name(10), Name(100))).rows([Variable(0)])?;
+/// let mut query = Query::open(yesterday.survey(20), plan.words())?;
+/// query.turn(2, &[], &mut [0; 2])?;
+///
+/// let mut mixed = Query::load(today.survey(21), plan.words(), query.state());
+/// assert_eq!(mixed.turn(2, &[], &mut [0; 2]), Err(Refusal::Survey));
+/// # Ok::<(), Box<dyn std::error::Error>>(())
+/// ```
+#[derive(Clone, Copy, Debug, PartialEq, Eq)]
+pub struct Survey<'a> {
+    /// The tables.
+    pub tables: Tables<'a>,
+    /// Their number: 28 bits, below [`SURVEYS`](crate::SURVEYS).
+    pub number: u32,
 }
 
 /// The words of tables, made from rows in any order.
@@ -166,5 +198,10 @@ impl TableWords {
             pos: &self.pos,
             osp: &self.osp,
         }
+    }
+
+    /// The tables under a survey's number, for a query.
+    pub fn survey(&self, number: u32) -> Survey<'_> {
+        self.tables().survey(number)
     }
 }

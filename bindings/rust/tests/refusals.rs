@@ -10,10 +10,12 @@ use sotjarn::{MOST_ENTRIES, NO_ENTRY};
 
 const STEM: Variable = Variable(0);
 const SIZE: Variable = Variable(1);
+const SURVEY: u32 = 7;
 
 /// What the calls are lent.
 struct Lent {
     wood: TableWords,
+    survey: u32,
     plan: Vec<u32>,
     state: Vec<u32>,
     state_words: usize,
@@ -30,10 +32,11 @@ fn lent() -> Lent {
     let stem = |(stem, size)| [[Name(stem), Name(10), Name(100)], [Name(stem), Name(12), Number(size)]];
     let wood = TableWords::from_rows([(1, 45), (2, 310), (3, 310)].into_iter().flat_map(stem)).expect("every value fits");
     let plan = stems().rows([STEM, SIZE]).expect("every value fits").words().to_vec();
-    let mut state = vec![0; 9];
-    let state_words = open(wood.tables(), &plan, &mut state).expect("the opening is accepted");
+    let mut state = vec![0; 10];
+    let state_words = open(wood.survey(SURVEY), &plan, &mut state).expect("the opening is accepted");
     Lent {
         wood,
+        survey: SURVEY,
         plan,
         state,
         state_words,
@@ -49,6 +52,7 @@ fn refused(change: impl Fn(&mut Lent)) -> Option<u32> {
     change(&mut lent);
     let Lent {
         wood,
+        survey,
         plan,
         state,
         state_words,
@@ -56,7 +60,7 @@ fn refused(change: impl Fn(&mut Lent)) -> Option<u32> {
         threshold,
         output,
     } = &mut lent;
-    turn(wood.tables(), plan, state, *state_words, *quantum, threshold, output)
+    turn(wood.survey(*survey), plan, state, *state_words, *quantum, threshold, output)
         .err()
         .map(Refusal::code)
 }
@@ -111,6 +115,7 @@ fn join_refused(queue: &mut Queued, owner: u32, allowance: u64) -> Option<u32> {
     let (
         Lent {
             wood,
+            survey,
             plan,
             state,
             state_words,
@@ -120,9 +125,9 @@ fn join_refused(queue: &mut Queued, owner: u32, allowance: u64) -> Option<u32> {
         aside,
     ) = (&queue.lent, &mut queue.line, &mut queue.aside);
     let (line_entries, aside_entries) = (queue.line_entries, queue.aside_entries);
-    let (tables, state) = (wood.tables(), &state[..*state_words]);
+    let (survey, state) = (wood.survey(*survey), &state[..*state_words]);
     join(
-        tables,
+        survey,
         line,
         line_entries,
         aside,
@@ -139,13 +144,17 @@ fn join_refused(queue: &mut Queued, owner: u32, allowance: u64) -> Option<u32> {
 fn serve_refused(mut queue: Queued) -> Option<u32> {
     let (
         Lent {
-            wood, output, quantum, ..
+            wood,
+            survey,
+            output,
+            quantum,
+            ..
         },
         line,
         aside,
     ) = (&mut queue.lent, &mut queue.line, &mut queue.aside);
     serve(
-        wood.tables(),
+        wood.survey(*survey),
         line,
         queue.line_entries,
         aside,
@@ -176,12 +185,19 @@ fn each_refusal_of_a_queue_has_its_call() {
     assert_eq!(join_refused(&mut queued(), 9, 5), None);
     assert_eq!(join_refused(&mut queued(), 7, 5), Some(17));
     assert_eq!(join_refused(&mut queued(), 8, 5), Some(17));
+    for survey in [0, 8, 1 << 28 | SURVEY] {
+        let mut other = queued();
+        other.lent.survey = survey;
+        assert_eq!(join_refused(&mut other, 9, 5), Some(22));
+    }
     assert_eq!(served(|_| ()), None);
     assert_eq!(served(|queue| queue.line[0].planned = 257), Some(5));
     assert_eq!(served(|queue| queue.lent.output.truncate(1)), Some(7));
     assert_eq!(served(|queue| queue.lent.quantum = 0), Some(8));
     assert_eq!(served(|queue| queue.line[0].saved = 12), Some(9));
-    assert_eq!(served(|queue| queue.line[0].state[1] += 4), Some(10));
+    assert_eq!(served(|queue| queue.line[0].state[0] += 1), Some(22));
+    assert_eq!(served(|queue| queue.lent.survey += 1), Some(22));
+    assert_eq!(served(|queue| queue.line[0].state[2] += 4), Some(10));
     assert_eq!(served(|queue| queue.line[0].allowance = 0), Some(17));
     assert_eq!(served(|queue| queue.aside[0].allowance = 1), Some(17));
     assert_eq!(served(|queue| queue.aside[0].owner = 7), Some(17));
@@ -189,6 +205,11 @@ fn each_refusal_of_a_queue_has_its_call() {
     assert_eq!(served(|queue| queue.aside_entries = usize::MAX), Some(17)); // entries of nobody, all the same owner's
     assert_eq!(served(|queue| queue.line_entries = 0), Some(19));
     assert_eq!(served(|queue| (queue.line_entries, queue.lent.quantum) = (0, 0)), Some(8));
+    assert_eq!(
+        served(|queue| (queue.line_entries, queue.lent.survey) = (0, 1 << 28)),
+        Some(22)
+    );
+    assert_eq!(served(|queue| (queue.line_entries, queue.lent.survey) = (0, 8)), Some(19)); // no state to compare with
     let mut full = queued();
     for (owner, entry) in full.aside.iter_mut().enumerate() {
         entry.owner = 100 + owner as u32;
@@ -237,7 +258,9 @@ fn each_refusal_has_its_call() {
     assert_eq!(refused(|lent| lent.output.truncate(1)), Some(7));
     assert_eq!(refused(|lent| lent.quantum = 0), Some(8));
     assert_eq!(refused(|lent| lent.state_words = 0), Some(9));
-    assert_eq!(refused(|lent| lent.state[1] += 4), Some(10));
+    assert_eq!(refused(|lent| lent.state[0] += 1), Some(22));
+    assert_eq!(refused(|lent| lent.survey = 1 << 28 | SURVEY), Some(22));
+    assert_eq!(refused(|lent| lent.state[2] += 4), Some(10));
     assert_eq!(refused(|lent| lent.threshold = vec![1, 2]), Some(11));
     assert_eq!(merge_refused([1, 0], [1, 0], 8, 8), None);
     assert_eq!(merge_refused([1, 0], [1, 0], 8, 7), Some(12));
@@ -285,15 +308,15 @@ fn a_record_of_no_rows_passes_only_without_keys() {
 
 #[test]
 fn each_refusal_says_its_number_and_something_of_its_own() {
-    let said: BTreeSet<String> = (1..=21)
+    let said: BTreeSet<String> = (1..=22)
         .filter_map(Refusal::from_code)
         .map(|refusal| refusal.to_string())
         .collect();
-    assert_eq!(said.len(), 21);
-    for code in 1..=21 {
+    assert_eq!(said.len(), 22);
+    for code in 1..=22 {
         let refusal = Refusal::from_code(code).expect("the rules have it");
         assert_eq!(refusal.code(), code);
         assert!(refusal.to_string().starts_with(&format!("refused by {code}: ")));
     }
-    assert_eq!((Refusal::from_code(0), Refusal::from_code(22)), (None, None));
+    assert_eq!((Refusal::from_code(0), Refusal::from_code(23)), (None, None));
 }

@@ -5,10 +5,13 @@ use sotjarn::{
     make, open, turn, view, Branch, Comparison, Condition, Group, Kept, Key, List, Place, Plan, PlanBuilder, Query, Queue, Refusal,
     State,
 };
-use sotjarn::{Dropped, Made, Reason, TableWords, Tables, TurnEnding, Value, Variable, Viewed};
+use sotjarn::{Dropped, Made, Reason, Survey, TableWords, TurnEnding, Value, Variable, Viewed};
 
 const STEM: Variable = Variable(0);
 const SIZE: Variable = Variable(1);
+
+/// The number that the wood stands under, unless a case says another.
+const SEVEN: u32 = 7;
 
 fn wood() -> TableWords {
     let stem = |(stem, size)| [[Name(stem), Name(10), Name(100)], [Name(stem), Name(12), Number(size)]];
@@ -35,8 +38,8 @@ fn plan_a() -> Plan {
 }
 
 /// Each turn's steps and ending, and the list kept of them all.
-fn run(tables: Tables, plan: &Plan, quantum: u32, output: usize) -> (Vec<(u32, TurnEnding)>, List) {
-    let mut query = Query::open(tables, plan.words()).expect("the opening is accepted");
+fn run(survey: Survey, plan: &Plan, quantum: u32, output: usize) -> (Vec<(u32, TurnEnding)>, List) {
+    let mut query = Query::open(survey, plan.words()).expect("the opening is accepted");
     let (mut kept, mut turns) = (Kept::new(plan), Vec::new());
     for turn in query.turns(quantum, output) {
         let turn = turn.expect("the turn is served");
@@ -193,20 +196,20 @@ fn what_is_hidden_may_change_unseen_and_what_is_visible_may_not() {
 #[test]
 fn an_advisers_query_runs_on_the_view() {
     let seen = TableWords::view(wood().tables(), &[2], 10).expect("the view is written");
-    let (turns, list) = run(seen.tables(), &plan_a(), 10, 128);
+    let (turns, list) = run(seen.survey(SEVEN + 1), &plan_a(), 10, 128);
     assert_eq!((turns, list), (vec![(4, TurnEnding::Done)], List::Rows(vec![row(2, 310)])));
 }
 
 #[test]
 fn plan_a_in_full() {
-    let (turns, list) = run(wood().tables(), &plan_a(), 10, 128);
+    let (turns, list) = run(wood().survey(SEVEN), &plan_a(), 10, 128);
     assert_eq!(turns, [(10, TurnEnding::Done)]);
     assert_eq!(list, List::Rows(vec![row(2, 310), row(3, 310)]));
 }
 
 #[test]
 fn turns_of_four_steps() {
-    let (turns, list) = run(wood().tables(), &plan_a(), 4, 128);
+    let (turns, list) = run(wood().survey(SEVEN), &plan_a(), 4, 128);
     assert_eq!(turns, [(4, TurnEnding::Spent), (4, TurnEnding::Spent), (2, TurnEnding::Done)]);
     assert_eq!(list, List::Rows(vec![row(2, 310), row(3, 310)]));
 }
@@ -214,12 +217,13 @@ fn turns_of_four_steps() {
 #[test]
 fn nine_steps_are_spent_at_place_3() {
     let (wood, plan) = (wood(), plan_a());
-    let mut query = Query::open(wood.tables(), plan.words()).expect("the opening is accepted");
+    let mut query = Query::open(wood.survey(SEVEN), plan.words()).expect("the opening is accepted");
     let turned = query.turn(9, &[], &mut [0; 4]).expect("the turn is served");
     assert_eq!((turned.steps, turned.ending), (9, TurnEnding::Spent));
     assert_eq!(
         State::read(query.state()),
         Ok(State {
+            survey: SEVEN,
             branch: 0,
             places: vec![Place(3)]
         })
@@ -228,7 +232,7 @@ fn nine_steps_are_spent_at_place_3() {
 
 #[test]
 fn an_output_of_one_row_is_full_after_seven_steps() {
-    let (turns, list) = run(wood().tables(), &plan_a(), 10, 2);
+    let (turns, list) = run(wood().survey(SEVEN), &plan_a(), 10, 2);
     assert_eq!(turns, [(7, TurnEnding::Full), (3, TurnEnding::Done)]);
     assert_eq!(list, List::Rows(vec![row(2, 310), row(3, 310)]));
 }
@@ -237,10 +241,10 @@ fn an_output_of_one_row_is_full_after_seven_steps() {
 fn states_of_the_run_are_accepted_and_others_refused() {
     let (wood, plan) = (wood(), plan_a());
     let accepted = |places: &[u32]| {
-        let words = [0xE000_0000 + places.len() as u32]
+        let words = [0xD000_0000 + SEVEN, 0xE000_0000 + places.len() as u32]
             .into_iter()
             .chain(places.iter().map(|place| 0xF000_0000 + place));
-        Query::load(wood.tables(), plan.words(), &words.collect::<Vec<_>>())
+        Query::load(wood.survey(SEVEN), plan.words(), &words.collect::<Vec<_>>())
             .turn(1, &[], &mut [0; 4])
             .map(|turned| turned.steps)
     };
@@ -256,7 +260,7 @@ fn two_equal_branches_deliver_twice() {
         .branch(branch(at_least_70()))
         .rows([STEM, SIZE])
         .expect("every value fits");
-    let (turns, list) = run(wood().tables(), &plan, 100, 128);
+    let (turns, list) = run(wood().survey(SEVEN), &plan, 100, 128);
     assert_eq!(turns, [(20, TurnEnding::Done)]);
     assert_eq!(list, List::Rows(vec![row(2, 310), row(3, 310), row(2, 310), row(3, 310)]));
 }
@@ -267,7 +271,7 @@ fn the_first_of_equal_rows_is_kept() {
         .top(1, [STEM, SIZE], [Key::Falling(SIZE)])
         .expect("every value fits");
     for quantum in 1..=10 {
-        assert_eq!(run(wood().tables(), &plan, quantum, 2).1, List::Rows(vec![row(2, 310)]));
+        assert_eq!(run(wood().survey(SEVEN), &plan, quantum, 2).1, List::Rows(vec![row(2, 310)]));
     }
 }
 
@@ -283,7 +287,10 @@ fn a_group_of_no_variable() {
         greatest: Some(310),
     };
     for quantum in 1..=10 {
-        assert_eq!(run(wood().tables(), &plan, quantum, 8).1, List::Groups(vec![group.clone()]));
+        assert_eq!(
+            run(wood().survey(SEVEN), &plan, quantum, 8).1,
+            List::Groups(vec![group.clone()])
+        );
     }
 }
 
@@ -309,14 +316,14 @@ fn felled() -> PlanBuilder {
 #[test]
 fn without_rows_a_group_of_no_variable_is_of_nothing() {
     let plan = one(Condition::always()).group([], SIZE).expect("every value fits");
-    let (turns, list) = run(TableWords::default().tables(), &plan, 1, 8);
+    let (turns, list) = run(TableWords::default().survey(SEVEN), &plan, 1, 8);
     assert_eq!((turns, list), (vec![(1, TurnEnding::Done)], nothing()));
 }
 
 #[test]
 fn only_the_last_turn_has_the_total_of_nothing() {
     let (wood, plan) = (wood(), felled().group([], SIZE).expect("every value fits"));
-    let mut query = Query::open(wood.tables(), plan.words()).expect("the opening is accepted");
+    let mut query = Query::open(wood.survey(SEVEN), plan.words()).expect("the opening is accepted");
     let mut kept = Kept::new(&plan);
     let lists: Vec<_> = query
         .turns(9, 8)
@@ -332,14 +339,14 @@ fn only_the_last_turn_has_the_total_of_nothing() {
     );
     assert_eq!((kept.words(), kept.list()), (&NOTHING[..], Ok(nothing())));
     for quantum in 1..=10 {
-        assert_eq!(run(wood.tables(), &plan, quantum, 8).1, nothing());
+        assert_eq!(run(wood.survey(SEVEN), &plan, quantum, 8).1, nothing());
     }
 }
 
 #[test]
 fn a_last_turn_without_rows_adds_nothing_to_the_total() {
     let (wood, plan) = (wood(), one(Condition::always()).group([], SIZE).expect("every value fits"));
-    let mut query = Query::open(wood.tables(), plan.words()).expect("the opening is accepted");
+    let mut query = Query::open(wood.survey(SEVEN), plan.words()).expect("the opening is accepted");
     let lists: Vec<_> = query.turns(8, 8).map(|turn| turn.expect("the turn is served").list).collect();
     let total = [3, 0, 3, 0, 665, 0, 0x4000_002D, 0x4000_0136];
     assert_eq!(lists, [total, NOTHING]);
@@ -354,13 +361,13 @@ fn a_last_turn_without_rows_adds_nothing_to_the_total() {
 fn with_a_group_variable_no_rows_are_no_groups() {
     let plan = felled().group([STEM], SIZE).expect("every value fits");
     for quantum in 1..=10 {
-        assert_eq!(run(wood().tables(), &plan, quantum, 9).1, List::Groups(vec![]));
+        assert_eq!(run(wood().survey(SEVEN), &plan, quantum, 9).1, List::Groups(vec![]));
     }
 }
 
 #[test]
 fn no_rows_are_done_after_one_step() {
-    let (turns, list) = run(TableWords::default().tables(), &plan_a(), 10, 2);
+    let (turns, list) = run(TableWords::default().survey(SEVEN), &plan_a(), 10, 2);
     assert_eq!((turns, list), (vec![(1, TurnEnding::Done)], List::Rows(vec![])));
 }
 
@@ -369,7 +376,7 @@ fn errors_are_neither_true_nor_false() {
     let error = || Condition::compare(Name(1), Comparison::Less, Number(5));
     let truth = Condition::compare(Number(1), Comparison::Equal, Number(1));
     let rows = |condition| match run(
-        wood().tables(),
+        wood().survey(SEVEN),
         &one(condition).rows([STEM]).expect("every value fits"),
         10,
         9,
@@ -387,9 +394,9 @@ fn errors_are_neither_true_nor_false() {
 fn a_list_ending_3_3_is_refused_by_4() {
     let (mut wood, plan) = (wood(), plan_a());
     wood.pos = vec![0, 2, 4, 1, 3, 3];
-    assert_eq!(open(wood.tables(), plan.words(), &mut [0; 9]), Err(Refusal::RowNumbers));
+    assert_eq!(open(wood.survey(SEVEN), plan.words(), &mut [0; 10]), Err(Refusal::RowNumbers));
     assert_eq!(
-        turn(wood.tables(), plan.words(), &mut [0; 9], 2, 1, &[], &mut [0; 2]),
+        turn(wood.survey(SEVEN), plan.words(), &mut [0; 10], 3, 1, &[], &mut [0; 2]),
         Err(Refusal::RowNumbers)
     );
     assert_eq!(Refusal::RowNumbers.code(), 4);
@@ -399,23 +406,23 @@ fn a_list_ending_3_3_is_refused_by_4() {
 #[test]
 fn three_owners_on_the_line() {
     let (wood, plan, mut queue) = (wood(), plan_a(), Queue::new());
-    let tables = wood.tables();
-    let start = Query::open(tables, plan.words())
+    let survey = wood.survey(SEVEN);
+    let start = Query::open(survey, plan.words())
         .expect("the opening is accepted")
         .state()
         .to_vec();
     let mut output = [0; 4];
     let mut ten = |queue: &mut Queue| {
-        let served = queue.serve(tables, 10, &[], &mut output)?;
+        let served = queue.serve(survey, 10, &[], &mut output)?;
         let list = output[..served.turned.list_words].to_vec();
         Ok((served.owner, served.turned.ending, served.turned.steps, served.left, list))
     };
     let (n2, n3, i310) = (2, 3, 0x4000_0136);
     assert_eq!(ten(&mut queue), Err(Refusal::EmptyLine));
-    assert_eq!(queue.join(tables, 7, 4, plan.words(), &start), Ok(()));
-    assert_eq!(queue.join(tables, 8, 100, plan.words(), &start), Ok(()));
-    assert_eq!(queue.join(tables, 7, 5, plan.words(), &start), Err(Refusal::Entries));
-    assert_eq!(queue.join(tables, 9, 0, plan.words(), &start), Ok(()));
+    assert_eq!(queue.join(survey, 7, 4, plan.words(), &start), Ok(()));
+    assert_eq!(queue.join(survey, 8, 100, plan.words(), &start), Ok(()));
+    assert_eq!(queue.join(survey, 7, 5, plan.words(), &start), Err(Refusal::Entries));
+    assert_eq!(queue.join(survey, 9, 0, plan.words(), &start), Ok(()));
     assert_eq!(ten(&mut queue), Ok((7, TurnEnding::Spent, 4, 0, vec![])));
     assert_eq!(ten(&mut queue), Ok((8, TurnEnding::Done, 10, 90, vec![n2, i310, n3, i310])));
     assert_eq!(ten(&mut queue), Err(Refusal::EmptyLine));
@@ -424,4 +431,74 @@ fn three_owners_on_the_line() {
     assert_eq!(ten(&mut queue), Ok((7, TurnEnding::Done, 6, 0, vec![n2, i310, n3, i310])));
     let owners: Vec<u32> = queue.set_aside().iter().map(|entry| entry.owner).collect();
     assert_eq!((queue.line().len(), owners), (0, vec![9]));
+}
+
+/// A turn of plan A under a number, from these words.
+fn from(number: u32, saved: &[u32]) -> Result<u32, Refusal> {
+    let (wood, plan) = (wood(), plan_a());
+    Query::load(wood.survey(number), plan.words(), saved)
+        .turn(1, &[], &mut [0; 4])
+        .map(|turned| turned.steps)
+}
+
+#[test]
+fn the_start_of_plan_a_is_of_its_survey() {
+    let (wood, plan, mut state) = (wood(), plan_a(), [9; 10]);
+    assert_eq!(open(wood.survey(SEVEN), plan.words(), &mut state), Ok(3));
+    assert_eq!(state[..4], [0xD000_0007, 0xE000_0001, 0xF000_0000, 9]);
+    assert_eq!(open(wood.survey((1 << 28) - 1), plan.words(), &mut state), Ok(3));
+    assert_eq!(state[..4], [0xDFFF_FFFF, 0xE000_0001, 0xF000_0000, 9]);
+}
+
+#[test]
+fn a_state_of_another_survey_is_refused_by_22_and_not_by_10() {
+    let (seven, six) = (0xD000_0007, 0xD000_0006);
+    assert_eq!(from(7, &[seven, 0xE000_0001, 0xF000_0003]), Ok(1));
+    assert_eq!(from(7, &[seven, 0xE000_0001, 0xF000_0004]), Err(Refusal::StateNotPassed));
+    assert_eq!(from(7, &[six, 0xE000_0001, 0xF000_0003]), Err(Refusal::Survey));
+    assert_eq!(
+        from(7, &[six, 0xE000_0001, 0xF000_0004]),
+        Err(Refusal::Survey),
+        "its places are wrong too"
+    );
+    assert_eq!(
+        from(7, &[six, 0xE000_0002, 0xF000_0003]),
+        Err(Refusal::StateForm),
+        "a wrong shape comes first"
+    );
+    assert_eq!(
+        from(7, &[0xE000_0001, 0xF000_0003]),
+        Err(Refusal::StateForm),
+        "words of before have no survey"
+    );
+    assert_eq!(from(6, &[six, 0xE000_0001, 0xF000_0003]), Ok(1));
+}
+
+#[test]
+fn a_number_of_29_bits_is_refused_by_22() {
+    let (wood, plan, mut state) = (wood(), plan_a(), [9; 10]);
+    for number in [1 << 28, 1 << 28 | 7, u32::MAX] {
+        assert_eq!(open(wood.survey(number), plan.words(), &mut state), Err(Refusal::Survey));
+        assert_eq!(
+            open(wood.survey(number), plan.words(), &mut state[..9]),
+            Err(Refusal::BufferLengths),
+            "7 comes first"
+        );
+        assert_eq!(from(number, &[0xD000_0007, 0xE000_0001, 0xF000_0000]), Err(Refusal::Survey));
+        assert_eq!(from(number, &[0xD000_0007, 0xE000_0001, 0xF000_0009]), Err(Refusal::Survey));
+        assert_eq!(from(number, &[0xD000_0007, 0xE000_0001]), Err(Refusal::StateForm));
+    }
+    assert_eq!(state, [9; 10], "a refused opening writes nothing");
+}
+
+#[test]
+fn a_state_buffer_of_nine_words_is_refused_by_7() {
+    let (wood, plan, mut state) = (wood(), plan_a(), [9; 10]);
+    assert_eq!(
+        open(wood.survey(SEVEN), plan.words(), &mut state[..9]),
+        Err(Refusal::BufferLengths)
+    );
+    let words = open(wood.survey(SEVEN), plan.words(), &mut state).expect("the opening is accepted");
+    let nine = turn(wood.survey(SEVEN), plan.words(), &mut state[..9], words, 1, &[], &mut [0; 2]);
+    assert_eq!(nine, Err(Refusal::BufferLengths));
 }

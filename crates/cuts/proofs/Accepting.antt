@@ -2,8 +2,8 @@
 use Prim.Native.Nat.{ℕ}
 use mathlib.Core.Path.{_≡_}
 use mathlib.Core.Bool.{Bool, true, _&&_}
-use mathlib.Core.List.{List, [], _∷_, _++_}
-use lib.Dec.{eqb, leb}
+use mathlib.Core.List.{List, _++_}
+use lib.Dec.{eqb}
 use lib.ListN.{length}
 use Rattle.words.specs.Words.{isValue}
 use Rattle.words.specs.Bindings.{Bindings, variableCount}
@@ -14,24 +14,24 @@ use Rattle.tables.specs.Tables.{Tables, tableTests}
 use Rattle.plans.specs.Plans.{readPlan, planOf, planTests}
 use Rattle.plans.proofs.Bounds.{PlanForm, plan-form, was-read}
 use Rattle.steps.specs.Steps.{after}
-use Rattle.steps.specs.Saved.{leastStateWords}
 use Rattle.steps.proofs.Values.{after-valued}
 use Rattle.words.proofs.Each.{all-each}
 use Rattle.words.proofs.EachMore.{each-weaken}
 use Rattle.lists.proofs.Values.{AllValues}
 use Rattle.lists.proofs.Gatherings.{Gathering, gathering}
-use Rattle.turns.specs.Opening.{Opens}
+use Rattle.turns.specs.Surveys.{Survey}
+use Rattle.turns.specs.Opening.{ownOpenTests, Opens}
 use Rattle.turns.proofs.Refusals.{open-refusals, open-passed}
 use Rattle.cuts.specs.Accepting.{Accepted}
 
-pub opening-accepts : (t : Tables) (plan state : List ℕ) → Opens t plan state → Accepted t plan
-opening-accepts t plan state o =
+pub opening-accepts : (v : Survey) (plan state : List ℕ) → Opens v plan state → Accepted (v .tables) plan
+opening-accepts v plan state o =
     record {
-      tables = all-passes (tableTests t)
-          (front-passes (tableTests t) (planTests plan ++ ((7, leb leastStateWords (length state)) ∷ []))
-          (open-refusals t plan state .serves .0 o));
-      read = was-read (readPlan plan) (open-passed t plan state 5 o);
-      variables = open-passed t plan state 6 o;
+      tables = all-passes (tableTests (v .tables))
+          (front-passes (tableTests (v .tables)) (planTests plan ++ ownOpenTests v state)
+          (open-refusals v plan state .serves .0 o));
+      read = was-read (readPlan plan) (open-passed v plan state 5 o);
+      variables = open-passed v plan state 6 o;
     }
 
 module _ (t : Tables) (plan : List ℕ) (a : Accepted t plan) where

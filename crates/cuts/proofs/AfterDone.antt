@@ -6,9 +6,9 @@ use mathlib.Core.List.{List, [], _∷_, _++_, append-assoc}
 use lib.ListN.{length}
 use Rattle.words.specs.declared.Written.{Written}
 use Rattle.words.specs.declared.Written.the-variants.{Words, Refused}
-use Rattle.tables.specs.Tables.{Tables}
 use Rattle.plans.specs.Endings.{Ending, rows, top, group}
 use Rattle.plans.specs.Plans.{planOf}
+use Rattle.turns.specs.Surveys.{Survey}
 use Rattle.turns.specs.Opening.{openOf, Opens}
 use Rattle.turns.specs.Turns.{turnOf}
 use Rattle.turns.specs.AfterDone.{NoStateRefused}
@@ -26,7 +26,7 @@ record Same (h g : Phone) : Type 0 where
   saved : g .saved ≡ h .saved
   served : servedIn g ≡ servedIn h
 
-module _ (t : Tables) (plan : List ℕ) (h : Phone) where
+module _ (v : Survey) (plan : List ℕ) (h : Phone) where
   same : Same h h
   same = record { saved = refl; served = refl }
 
@@ -52,55 +52,55 @@ module _ (t : Tables) (plan : List ℕ) (h : Phone) where
   joined [] e = same
   joined (x ∷ rest) e = joining x rest (planOf plan .ending) e
 
-  merge-same : (behind : List ℕ) → Same h (happens t plan h (merges behind))
+  merge-same : (behind : List ℕ) → Same h (happens v plan h (merges behind))
   unfolding happens
   merge-same behind = merged behind (h .waiting) refl
 
-  join-same : Same h (happens t plan h joins)
+  join-same : Same h (happens v plan h joins)
   unfolding happens
   join-same = joined (h .waiting) refl
 
   -- ---- a turn
   module _ (none-saved : h .saved ≡ []) where
     pub turn-refused : (behind : List ℕ) (quantum : ℕ) (threshold output : List ℕ)
-        → NoStateRefused (turnInputOf t plan h behind quantum threshold output)
+        → NoStateRefused (turnInputOf v plan h behind quantum threshold output)
     turn-refused behind quantum threshold output =
-        no-state-refused (turnInputOf t plan h behind quantum threshold output) (ap length none-saved)
+        no-state-refused (turnInputOf v plan h behind quantum threshold output) (ap length none-saved)
 
     pub turn-unmoved : (behind : List ℕ) (quantum : ℕ) (threshold output : List ℕ)
-        → happens t plan h (turns behind quantum threshold output) ≡ h
+        → happens v plan h (turns behind quantum threshold output) ≡ h
     unfolding happens
     turn-unmoved behind quantum threshold output =
-        ap (afterTurn h quantum (turnOf (turnInputOf t plan h behind quantum threshold output)))
+        ap (afterTurn h quantum (turnOf (turnInputOf v plan h behind quantum threshold output)))
         (turn-refused behind quantum threshold output .refused)
 
-    event-same : (e : Event) → Same h (happens t plan h e)
+    event-same : (e : Event) → Same h (happens v plan h e)
     event-same (turns behind quantum threshold output) = rw (turn-unmoved behind quantum threshold output) same
     event-same (merges behind) = merge-same behind
     event-same joins = join-same
 
 -- ---- a list of events
-history-same : (t : Tables) (plan : List ℕ) (es : List Event) (h : Phone) → h .saved ≡ [] → Same h (history t plan h es)
+history-same : (v : Survey) (plan : List ℕ) (es : List Event) (h : Phone) → h .saved ≡ [] → Same h (history v plan h es)
 unfolding history
-history-same t plan [] h z = same t plan h
-history-same t plan (e ∷ es) h z =
-    let a = event-same t plan h z e in
-    let b = history-same t plan es (happens t plan h e) (a .saved ∙ z) in
+history-same v plan [] h z = same v plan h
+history-same v plan (e ∷ es) h z =
+    let a = event-same v plan h z e in
+    let b = history-same v plan es (happens v plan h e) (a .saved ∙ z) in
     record { saved = b .saved ∙ a .saved; served = b .served ∙ a .served }
 
-pub none-saved-none-served : (t : Tables) (plan : List ℕ) (h : Phone) → h .saved ≡ [] → NoTurnServed t plan h
-none-saved-none-served t plan h z =
+pub none-saved-none-served : (v : Survey) (plan : List ℕ) (h : Phone) → h .saved ≡ [] → NoTurnServed v plan h
+none-saved-none-served v plan h z =
     record {
-      served = λ later. history-same t plan later h z .served;
-      refused = λ later. turn-refused t plan (history t plan h later) (history-same t plan later h z .saved ∙ z);
-      unmoved = λ later. turn-unmoved t plan (history t plan h later) (history-same t plan later h z .saved ∙ z);
+      served = λ later. history-same v plan later h z .served;
+      refused = λ later. turn-refused v plan (history v plan h later) (history-same v plan later h z .saved ∙ z);
+      unmoved = λ later. turn-unmoved v plan (history v plan h later) (history-same v plan later h z .saved ∙ z);
     }
 
 -- For every opening that is served and every list of events under the premise on thresholds: once done was answered, no turn is served.
-pub after-done-every-turn-is-refused : (t : Tables) (plan state : List ℕ) → Opens t plan state → (es : List Event)
-    → Premises t plan (fresh (openOf t plan state)) es
-    → doneIn (servedIn (history t plan (fresh (openOf t plan state)) es)) ≡ true
-    → NoTurnServed t plan (history t plan (fresh (openOf t plan state)) es)
-after-done-every-turn-is-refused t plan state o es p d =
-    let u = any-cut t plan state o es p in
-    none-saved-none-served t plan (history t plan (fresh (openOf t plan state)) es) (u .end .1 (u .done .0 d))
+pub after-done-every-turn-is-refused : (v : Survey) (plan state : List ℕ) → Opens v plan state → (es : List Event)
+    → Premises v plan (fresh (openOf v plan state)) es
+    → doneIn (servedIn (history v plan (fresh (openOf v plan state)) es)) ≡ true
+    → NoTurnServed v plan (history v plan (fresh (openOf v plan state)) es)
+after-done-every-turn-is-refused v plan state o es p d =
+    let u = any-cut v plan state o es p in
+    none-saved-none-served v plan (history v plan (fresh (openOf v plan state)) es) (u .end .1 (u .done .0 d))

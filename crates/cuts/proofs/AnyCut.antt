@@ -16,6 +16,7 @@ use Rattle.plans.specs.Plans.{Plan, planOf}
 use Rattle.steps.specs.Steps.{State, after}
 use Rattle.steps.specs.Saved.{savedWords, positionWords}
 use Rattle.lists.proofs.OneRow.{gathered-nil}
+use Rattle.turns.specs.Surveys.{Survey}
 use Rattle.turns.specs.declared.TurnEnding.{TurnEnding}
 use Rattle.turns.specs.declared.TurnEnding.the-variants.{Done, Spent, Full, Refused}
 use Rattle.turns.specs.Opening.{openOf, Opens}
@@ -31,43 +32,52 @@ use Rattle.cuts.proofs.Chains.{Chain, chain-take, within-quantum, kept-
 use Rattle.cuts.proofs.Turning.{Kept, served-keeps}
 use Rattle.cuts.proofs.Taking.{merging-keeps, joining-keeps}
 
-module _ (t : Tables) (plan : List ℕ) (a : Accepted t plan) where
+-- the run does not end at its start
+pub end-later : (t : Tables) (q : Plan) (n : ℕ) → EndsAt t q n → 1 ≤ n
+unfolding after iterate
+end-later t q zero e = absurd (none-some (sym (e .over)))
+end-later t q (suc n) e = omega arith
+
+module _ (v : Survey) (plan : List ℕ) (a : Accepted (v .tables) plan) where
+  abbrev t : Tables
+  t = v .tables
+
   abbrev q : Plan
   q = planOf plan
 
   -- ---- one event
-  turn-keeps : (h : Phone) → Kept t q h → (behind : List ℕ) (quantum : ℕ) (threshold output : List ℕ)
-      → Asked t plan h (turns behind quantum threshold output)
-      → (e : TurnEnding) → turnOf (turnInputOf t plan h behind quantum threshold output) .answer .ending ≡ e
-      → Kept t q (afterTurn h quantum (turnOf (turnInputOf t plan h behind quantum threshold output)) e)
+  turn-keeps : (h : Phone) → Kept v q h → (behind : List ℕ) (quantum : ℕ) (threshold output : List ℕ)
+      → Asked v plan h (turns behind quantum threshold output)
+      → (e : TurnEnding) → turnOf (turnInputOf v plan h behind quantum threshold output) .answer .ending ≡ e
+      → Kept v q (afterTurn h quantum (turnOf (turnInputOf v plan h behind quantum threshold output)) e)
   turn-keeps h k behind quantum threshold output asked Done e =
-      served-keeps t plan a h k behind quantum threshold output (λ y f. let z : _≡_ {A = ℕ} 0 1 = cc in omega arith) (asked (ap refusalOf e))
+      served-keeps v plan a h k behind quantum threshold output (λ y f. let z : _≡_ {A = ℕ} 0 1 = cc in omega arith) (asked (ap refusalOf e))
   turn-keeps h k behind quantum threshold output asked Spent e =
-      served-keeps t plan a h k behind quantum threshold output (λ y f. let z : _≡_ {A = ℕ} 0 1 = cc in omega arith) (asked (ap refusalOf e))
+      served-keeps v plan a h k behind quantum threshold output (λ y f. let z : _≡_ {A = ℕ} 0 1 = cc in omega arith) (asked (ap refusalOf e))
   turn-keeps h k behind quantum threshold output asked Full e =
-      served-keeps t plan a h k behind quantum threshold output (λ y f. let z : _≡_ {A = ℕ} 0 1 = cc in omega arith) (asked (ap refusalOf e))
+      served-keeps v plan a h k behind quantum threshold output (λ y f. let z : _≡_ {A = ℕ} 0 1 = cc in omega arith) (asked (ap refusalOf e))
   turn-keeps h k behind quantum threshold output asked (Refused y) e = k
 
-  event-keeps : (h : Phone) → Kept t q h → (e : Event) → Asked t plan h e → Kept t q (happens t plan h e)
+  event-keeps : (h : Phone) → Kept v q h → (e : Event) → Asked v plan h e → Kept v q (happens v plan h e)
   unfolding happens
   event-keeps h k (turns behind quantum threshold output) asked =
       turn-keeps h k behind quantum threshold output asked
-      (turnOf (turnInputOf t plan h behind quantum threshold output) .answer .ending) refl
-  event-keeps h k (merges behind) asked = merging-keeps t plan a h k behind (h .waiting) refl
-  event-keeps h k joins asked = joining-keeps t plan a h k (h .waiting) refl
+      (turnOf (turnInputOf v plan h behind quantum threshold output) .answer .ending) refl
+  event-keeps h k (merges behind) asked = merging-keeps v plan a h k behind (h .waiting) refl
+  event-keeps h k joins asked = joining-keeps v plan a h k (h .waiting) refl
 
   -- ---- a list of them
-  pub history-keeps : (es : List Event) (h : Phone) → Kept t q h → Premises t plan h es → Kept t q (history t plan h es)
+  pub history-keeps : (es : List Event) (h : Phone) → Kept v q h → Premises v plan h es → Kept v q (history v plan h es)
   unfolding history
   history-keeps [] h k p = k
-  history-keeps (e ∷ es) h k p = history-keeps es (happens t plan h e) (event-keeps h k e (p .0)) (p .1)
+  history-keeps (e ∷ es) h k p = history-keeps es (happens v plan h e) (event-keeps h k e (p .0)) (p .1)
 
   -- ---- from a fresh opening
-  pub fresh-keeps : (state : List ℕ) → Opens t plan state → Kept t q (fresh (openOf t plan state))
+  pub fresh-keeps : (state : List ℕ) → Opens v plan state → Kept v q (fresh (openOf v plan state))
   unfolding stepsIn doneIn after iterate
   fresh-keeps state o =
       record {
-        saved = starts-run t plan state o .buffer .front;
+        saved = starts-run v plan state o .buffer .front;
         alive = λ m l. absurd (omega arith);
         done = refl;
         chain = tt;
@@ -75,7 +85,7 @@ module _ (t : Tables) (plan : List ℕ) (a : Accepted t plan) where
       }
 
   -- ---- what is kept says it all
-  no-words : (o : Option State) → savedWords o ≡ [] → o ≡ none
+  no-words : (o : Option State) → savedWords (v .number) o ≡ [] → o ≡ none
   unfolding positionWords
   no-words none e = refl
   no-words (some s) e = cc
@@ -97,24 +107,18 @@ module _ (t : Tables) (plan : List ℕ) (a : Accepted t plan) where
       kept-any zero = sym (gathered-nil (q .ending) [])
       kept-any (suc n) = refl
 
-  -- the run does not end at its start
-  pub end-later : (n : ℕ) → EndsAt t q n → 1 ≤ n
-  unfolding after iterate
-  end-later zero e = absurd (none-some (sym (e .over)))
-  end-later (suc n) e = omega arith
-
-  pub as-uncut : (h : Phone) → Kept t q h → AsUncut t q h
+  pub as-uncut : (h : Phone) → Kept v q h → AsUncut v q h
   as-uncut h k =
       record {
         state = k .saved;
-        end = (λ e. ends (no-words _ (sym (k .saved) ∙ e)), λ x. k .saved ∙ ap savedWords (x .over));
+        end = (λ e. ends (no-words _ (sym (k .saved) ∙ e)), λ x. k .saved ∙ ap (savedWords (v .number)) (x .over));
         done = (λ e. ends (is-none _ (sym (k .done) ∙ e)), λ x. k .done ∙ ap isOver (x .over));
         quantum = within-quantum t q 0 (servedIn h) (k .chain);
         list = k .list;
         prefixes = λ vs e n. rows-from-start vs e (take n (servedIn h)) (chain-take t q n 0 (servedIn h) (k .chain));
         finished = λ e w.
             let end = subst (λ l. EndsAt t q (stepsIn l)) (ap (λ l. h .taken ++ l) w ∙ append-nil (h .taken)) (ends (is-none _ (sym (k .done) ∙ e))) in
-            (end, k .list ∙ kept-some t q (accepted-form t plan a .ending) (stepsIn (h .taken)) (end-later (stepsIn (h .taken)) end));
+            (end, k .list ∙ kept-some t q (accepted-form t plan a .ending) (stepsIn (h .taken)) (end-later t q (stepsIn (h .taken)) end));
       }
     where
       ends : after t q (stepsIn (servedIn h)) .state ≡ none → EndsAt t q (stepsIn (servedIn h))
@@ -122,10 +126,10 @@ module _ (t : Tables) (plan : List ℕ) (a : Accepted t plan) where
 
 -- For every opening that is served and every list of events, refused ones included, whatever words stand behind the saved state
 -- and behind the kept list, whatever quanta and outputs: under the premise on thresholds the history is as the uncut run.
-pub any-cut : (t : Tables) (plan state : List ℕ) → Opens t plan state → (es : List Event)
-    → Premises t plan (fresh (openOf t plan state)) es
-    → AsUncut t (planOf plan) (history t plan (fresh (openOf t plan state)) es)
-any-cut t plan state o es p =
-    let a = opening-accepts t plan state o in
-    as-uncut t plan a (history t plan (fresh (openOf t plan state)) es)
-    (history-keeps t plan a es (fresh (openOf t plan state)) (fresh-keeps t plan a state o) p)
+pub any-cut : (v : Survey) (plan state : List ℕ) → Opens v plan state → (es : List Event)
+    → Premises v plan (fresh (openOf v plan state)) es
+    → AsUncut v (planOf plan) (history v plan (fresh (openOf v plan state)) es)
+any-cut v plan state o es p =
+    let a = opening-accepts v plan state o in
+    as-uncut v plan a (history v plan (fresh (openOf v plan state)) es)
+    (history-keeps v plan a es (fresh (openOf v plan state)) (fresh-keeps v plan a state o) p)

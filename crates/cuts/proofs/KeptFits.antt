@@ -11,6 +11,7 @@ use Rattle.plans.specs.Endings.{Ending, rows, top, group}
 use Rattle.plans.specs.Plans.{Plan, planOf}
 use Rattle.steps.specs.Steps.{Run, after}
 use Rattle.lists.specs.Groups.{addAllBy}
+use Rattle.turns.specs.Surveys.{Survey}
 use Rattle.turns.specs.declared.TurnEnding.{TurnEnding}
 use Rattle.turns.specs.declared.TurnEnding.the-variants as ending
 use Rattle.turns.specs.Opening.{openOf, Opens}
@@ -34,14 +35,17 @@ nothing-fits (rows vs) r d = refl
 nothing-fits (top k vs keys) r d = refl
 nothing-fits (group vs m) r d = rw d
 
-module _ (t : Tables) (plan : List ℕ) (a : Accepted t plan) where
+module _ (v : Survey) (plan : List ℕ) (a : Accepted (v .tables) plan) where
+  abbrev t : Tables
+  t = v .tables
+
   abbrev q : Plan
   q = planOf plan
 
   abbrev TakenFits : Phone → Type 0
   TakenFits h = runFits (q .ending) (after t q (stepsIn (h .taken))) ≡ true
 
-  module _ (h : Phone) (k : Kept t q h) (f : TakenFits h) where
+  module _ (h : Phone) (k : Kept v q h) (f : TakenFits h) where
     turn-fits : (quantum : ℕ) (r : TurnResult) (e : TurnEnding) → TakenFits (afterTurn h quantum r e)
     turn-fits quantum r ending.Done = f
     turn-fits quantum r ending.Spent = f
@@ -56,7 +60,7 @@ module _ (t : Tables) (plan : List ℕ) (a : Accepted t plan) where
       taken-fits behind words s (top n vs keys) p = rw p
       taken-fits behind words s (group vs m) p =
           ap (λ n. runFits (q .ending) (after t q n)) (steps-more (h .taken) x)
-          ∙ merge-fits t plan a h k (rw p tt) x rest waits behind words s
+          ∙ merge-fits v plan a h k (rw p tt) x rest waits behind words s
 
       merge-fits-on : (behind : List ℕ) (w : Written) → mergeOf (mergeInputOf plan h behind x) .answer ≡ w
           → TakenFits (afterMerge h x rest (mergeOf (mergeInputOf plan h behind x)) w)
@@ -76,26 +80,26 @@ module _ (t : Tables) (plan : List ℕ) (a : Accepted t plan) where
     joining-fits [] e = f
     joining-fits (x ∷ rest) e = join-fits x rest e (q .ending) refl
 
-    event-fits : (e : Event) → TakenFits (happens t plan h e)
+    event-fits : (e : Event) → TakenFits (happens v plan h e)
     unfolding happens
     event-fits (turns behind quantum threshold output) =
-        turn-fits quantum (turnOf (turnInputOf t plan h behind quantum threshold output))
-        (turnOf (turnInputOf t plan h behind quantum threshold output) .answer .ending)
+        turn-fits quantum (turnOf (turnInputOf v plan h behind quantum threshold output))
+        (turnOf (turnInputOf v plan h behind quantum threshold output) .answer .ending)
     event-fits (merges behind) = merging-fits behind (h .waiting) refl
     event-fits joins = joining-fits (h .waiting) refl
 
-  history-fits : (es : List Event) (h : Phone) → Kept t q h → TakenFits h → Premises t plan h es → TakenFits (history t plan h es)
+  history-fits : (es : List Event) (h : Phone) → Kept v q h → TakenFits h → Premises v plan h es → TakenFits (history v plan h es)
   unfolding history
   history-fits [] h k f p = f
   history-fits (e ∷ es) h k f p =
-      history-fits es (happens t plan h e) (history-keeps t plan a (e ∷ []) h k (p .0, tt)) (event-fits h k f e) (p .1)
+      history-fits es (happens v plan h e) (history-keeps v plan a (e ∷ []) h k (p .0, tt)) (event-fits h k f e) (p .1)
 
 -- from a fresh opening
-pub kept-fits : (t : Tables) (plan state : List ℕ) → Opens t plan state → (es : List Event)
-    → Premises t plan (fresh (openOf t plan state)) es
-    → runFits (planOf plan .ending) (after t (planOf plan) (stepsIn (history t plan (fresh (openOf t plan state)) es .taken))) ≡ true
+pub kept-fits : (v : Survey) (plan state : List ℕ) → Opens v plan state → (es : List Event)
+    → Premises v plan (fresh (openOf v plan state)) es
+    → runFits (planOf plan .ending) (after (v .tables) (planOf plan) (stepsIn (history v plan (fresh (openOf v plan state)) es .taken))) ≡ true
 unfolding stepsIn after iterate
-kept-fits t plan state o es p =
-    let a = opening-accepts t plan state o in
-    history-fits t plan a es (fresh (openOf t plan state)) (fresh-keeps t plan a state o)
-    (nothing-fits (planOf plan .ending) (after t (planOf plan) 0) refl) p
+kept-fits v plan state o es p =
+    let a = opening-accepts v plan state o in
+    history-fits v plan a es (fresh (openOf v plan state)) (fresh-keeps v plan a state o)
+    (nothing-fits (planOf plan .ending) (after (v .tables) (planOf plan) 0) refl) p

@@ -26,6 +26,7 @@ use Rattle.words.proofs.Each.{Each}
 use Rattle.lists.proofs.Values.{AllValues}
 use Rattle.lists.proofs.Gatherings.{Valid, Gathering}
 use Rattle.lists.proofs.Closing.{at-valid, at-fit}
+use Rattle.turns.specs.Surveys.{Survey}
 use Rattle.turns.specs.Turns.{isOver}
 use Rattle.turns.specs.Opening.{openOf, Opens}
 use Rattle.merges.specs.Merging.{MergeInput, mergeTests, mergedWords, mergeOf}
@@ -62,7 +63,10 @@ last-two true true false d e y p q r h = absurd-true r refl
 last-two true false c d e y p q r h = absurd-true q refl
 last-two false b c d e y p q r h = absurd-true p refl
 
-module _ (t : Tables) (plan : List ℕ) (a : Accepted t plan) (h : Phone) (k : Kept t (planOf plan) h) where
+module _ (v : Survey) (plan : List ℕ) (a : Accepted (v .tables) plan) (h : Phone) (k : Kept v (planOf plan) h) where
+  abbrev t : Tables
+  t = v .tables
+
   abbrev q : Plan
   q = planOf plan
 
@@ -74,7 +78,7 @@ module _ (t : Tables) (plan : List ℕ) (a : Accepted t plan) (h : Phone) (k : K
     n = stepsIn (h .taken)
 
     piece : Piece t q n x
-    piece = next-piece t plan a h k x rest waits
+    piece = next-piece v plan a h k x rest waits
 
     -- the run goes on where the turn began: what is kept is the list of its rows up to there
     kept-is : h .kept ≡ gathered (q .ending) [] (after t q n .delivered)
@@ -142,14 +146,14 @@ module _ (t : Tables) (plan : List ℕ) (a : Accepted t plan) (h : Phone) (k : K
         sym totals-are ∙ ap (λ l. totalsFit (q .ending) l (x .list)) (sym given-kept) ∙ merge-passed i 13 serve
 
 -- in every history under the premises
-pub refused-by-13-or-14 : (t : Tables) (plan state : List ℕ) → Opens t plan state → MergesLists (planOf plan .ending)
-    → (es : List Event) → Premises t plan (fresh (openOf t plan state)) es
-    → (x : ServedTurn) (rest : List ServedTurn) → history t plan (fresh (openOf t plan state)) es .waiting ≡ x ∷ rest
+pub refused-by-13-or-14 : (v : Survey) (plan state : List ℕ) → Opens v plan state → MergesLists (planOf plan .ending)
+    → (es : List Event) → Premises v plan (fresh (openOf v plan state)) es
+    → (x : ServedTurn) (rest : List ServedTurn) → history v plan (fresh (openOf v plan state)) es .waiting ≡ x ∷ rest
     → (behind : List ℕ) (y : ℕ)
-    → mergeOf (mergeInputOf plan (history t plan (fresh (openOf t plan state)) es) behind x) .answer ≡ Refused y
-    → NotTaken t (planOf plan) (stepsIn (history t plan (fresh (openOf t plan state)) es .taken) + x .steps)
-    (length (history t plan (fresh (openOf t plan state)) es .kept ++ behind)) y
-refused-by-13-or-14 t plan state o m es p x rest waits behind y e =
-    let a = opening-accepts t plan state o in
-    let h = history t plan (fresh (openOf t plan state)) es in
-    merge-refused t plan a h (history-keeps t plan a es (fresh (openOf t plan state)) (fresh-keeps t plan a state o) p) m x rest waits behind y e
+    → mergeOf (mergeInputOf plan (history v plan (fresh (openOf v plan state)) es) behind x) .answer ≡ Refused y
+    → NotTaken (v .tables) (planOf plan) (stepsIn (history v plan (fresh (openOf v plan state)) es .taken) + x .steps)
+    (length (history v plan (fresh (openOf v plan state)) es .kept ++ behind)) y
+refused-by-13-or-14 v plan state o m es p x rest waits behind y e =
+    let a = opening-accepts v plan state o in
+    let h = history v plan (fresh (openOf v plan state)) es in
+    merge-refused v plan a h (history-keeps v plan a es (fresh (openOf v plan state)) (fresh-keeps v plan a state o) p) m x rest waits behind y e

@@ -17,6 +17,7 @@ use Rattle.plans.specs.Plans.{Plan, planOf}
 use Rattle.steps.specs.Steps.{after}
 use Rattle.steps.specs.Saved.{savedWords}
 use Rattle.lists.specs.Gathering.{merged, takenInto, listRight}
+use Rattle.turns.specs.Surveys.{Survey}
 use Rattle.turns.specs.Turns.{isOver}
 use Rattle.merges.specs.Merging.{MergeInput, MergeResult, mergedWords, mergeOf}
 use Rattle.merges.specs.Refusals.{Merges}
@@ -37,7 +38,10 @@ merged-taken (rows vs) kept list r = absurd-true refl (sym r)
 merged-taken (top k vs keys) kept list r = refl
 merged-taken (group vs m) kept list r = refl
 
-module _ (t : Tables) (plan : List ℕ) (a : Accepted t plan) (h : Phone) (k : Kept t (planOf plan) h) where
+module _ (v : Survey) (plan : List ℕ) (a : Accepted (v .tables) plan) (h : Phone) (k : Kept v (planOf plan) h) where
+  abbrev t : Tables
+  t = v .tables
+
   abbrev q : Plan
   q = planOf plan
 
@@ -53,11 +57,11 @@ module _ (t : Tables) (plan : List ℕ) (a : Accepted t plan) (h : Phone) (k : K
     pub same-served : (kept : List ℕ) → servedIn (afterTaking h x rest kept) ≡ servedIn h
     same-served kept = append-assoc (h .taken) (x ∷ []) rest ∙ ap (λ l. h .taken ++ l) (sym waits)
 
-    pub taking-keeps : (kept : List ℕ) → kept ≡ takenInto (q .ending) (h .kept) (x .list) → Kept t q (afterTaking h x rest kept)
+    pub taking-keeps : (kept : List ℕ) → kept ≡ takenInto (q .ending) (h .kept) (x .list) → Kept v q (afterTaking h x rest kept)
     taking-keeps kept e =
         let same = same-served kept in
         record {
-          saved = k .saved ∙ ap (λ l. savedWords (after t q (stepsIn l) .state)) (sym same);
+          saved = k .saved ∙ ap (λ l. savedWords (v .number) (after t q (stepsIn l) .state)) (sym same);
           alive = λ m l. k .alive m (subst (λ xs. m < stepsIn xs) same l);
           done = ap doneIn same ∙ k .done ∙ ap (λ l. isOver (after t q (stepsIn l) .state)) (sym same);
           chain = subst (Chain t q 0) (sym same) (k .chain);
@@ -84,22 +88,22 @@ module _ (t : Tables) (plan : List ℕ) (a : Accepted t plan) (h : Phone) (k : K
           ∙ ap (λ l. merged (q .ending) l (x .list)) kept
           ∙ merged-taken (q .ending) (h .kept) (x .list) (ap (listRight (q .ending)) (sym kept) ∙ right)
 
-      pub merge-keeps : (w : Written) → mergeOf i .answer ≡ w → Kept t q (afterMerge h x rest (mergeOf i) w)
+      pub merge-keeps : (w : Written) → mergeOf i .answer ≡ w → Kept v q (afterMerge h x rest (mergeOf i) w)
       merge-keeps (Refused y) e = k
       merge-keeps (Words n) e =
           let serve : Merges i = λ y f. let z : _≡_ {A = ℕ} 0 1 = cc in omega arith in
           taking-keeps (take n (mergeOf i .kept)) (ap (λ d. take (wordsIn d) (mergeOf i .kept)) (sym e) ∙ served-merge serve)
 
     -- ---- joining
-    pub join-keeps : (e : Ending) → q .ending ≡ e → Kept t q (afterJoin e h x rest)
+    pub join-keeps : (e : Ending) → q .ending ≡ e → Kept v q (afterJoin e h x rest)
     join-keeps (rows vs) f = taking-keeps (h .kept ++ x .list) (sym (ap (λ e. takenInto e (h .kept) (x .list)) f))
     join-keeps (top n vs keys) f = k
     join-keeps (group vs m) f = k
 
-  pub merging-keeps : (behind : List ℕ) (waiting : List ServedTurn) → h .waiting ≡ waiting → Kept t q (afterMerging plan h behind waiting)
+  pub merging-keeps : (behind : List ℕ) (waiting : List ServedTurn) → h .waiting ≡ waiting → Kept v q (afterMerging plan h behind waiting)
   merging-keeps behind [] e = k
   merging-keeps behind (x ∷ rest) e = merge-keeps x rest e behind (mergeOf (mergeInputOf plan h behind x) .answer) refl
 
-  pub joining-keeps : (waiting : List ServedTurn) → h .waiting ≡ waiting → Kept t q (afterJoining plan h waiting)
+  pub joining-keeps : (waiting : List ServedTurn) → h .waiting ≡ waiting → Kept v q (afterJoining plan h waiting)
   joining-keeps [] e = k
   joining-keeps (x ∷ rest) e = join-keeps x rest e (q .ending) refl

@@ -27,6 +27,7 @@ use Rattle.lists.proofs.TopLists.{Fine}
 use Rattle.lists.proofs.Closing.{top-at}
 use Rattle.lists.proofs.FullLists.{deliveredBy, sent-fine}
 use Rattle.lists.proofs.Gatherings.{some-width}
+use Rattle.turns.specs.Surveys.{Survey}
 use Rattle.turns.specs.declared.TurnEnding.{TurnEnding}
 use Rattle.turns.specs.declared.TurnEnding.the-variants.{Done, Spent, Full, Refused}
 use Rattle.turns.specs.Turns.{isDone, isOver, TurnInput, TurnResult, turnOf, givenState}
@@ -45,14 +46,17 @@ use Rattle.cuts.proofs.Accepting.{accepted-form}
 use Rattle.cuts.proofs.Chains.{steps-more, done-more, Piece, Chain, chain-append, turnsOf, turns-lists, turns-rows}
 
 -- what every history keeps true
-pub record Kept (t : Tables) (q : Plan) (h : Phone) : Type 0 where
-  pub saved : h .saved ≡ savedWords (after t q (stepsIn (servedIn h)) .state)
-  pub alive : (m : ℕ) → m < stepsIn (servedIn h) → after t q m .state ≡ none → ⊥
-  pub done : doneIn (servedIn h) ≡ isOver (after t q (stepsIn (servedIn h)) .state)
-  pub chain : Chain t q 0 (servedIn h)
-  pub list : h .kept ≡ keptAfter t q (stepsIn (h .taken))
+pub record Kept (v : Survey) (q : Plan) (h : Phone) : Type 0 where
+  pub saved : h .saved ≡ savedWords (v .number) (after (v .tables) q (stepsIn (servedIn h)) .state)
+  pub alive : (m : ℕ) → m < stepsIn (servedIn h) → after (v .tables) q m .state ≡ none → ⊥
+  pub done : doneIn (servedIn h) ≡ isOver (after (v .tables) q (stepsIn (servedIn h)) .state)
+  pub chain : Chain (v .tables) q 0 (servedIn h)
+  pub list : h .kept ≡ keptAfter (v .tables) q (stepsIn (h .taken))
 
-module _ (t : Tables) (plan : List ℕ) (a : Accepted t plan) (h : Phone) (k : Kept t (planOf plan) h) where
+module _ (v : Survey) (plan : List ℕ) (a : Accepted (v .tables) plan) (h : Phone) (k : Kept v (planOf plan) h) where
+  abbrev t : Tables
+  t = v .tables
+
   abbrev q : Plan
   q = planOf plan
 
@@ -86,7 +90,7 @@ module _ (t : Tables) (plan : List ℕ) (a : Accepted t plan) (h : Phone) (k : K
 
   module _ (behind : List ℕ) (quantum : ℕ) (threshold output : List ℕ) where
     abbrev i : TurnInput
-    i = turnInputOf t plan h behind quantum threshold output
+    i = turnInputOf v plan h behind quantum threshold output
 
     abbrev x : ServedTurn
     x = servedOf quantum (turnOf i)
@@ -103,14 +107,16 @@ module _ (t : Tables) (plan : List ℕ) (a : Accepted t plan) (h : Phone) (k : K
           shape = and-right (leb (i .given) (length (i .state))) (shapeRight q (givenState i)) (turn-passed i 9 serve)
 
           go : (o : Option State) → after t q n .state ≡ o → (s : State) × (after t q n .state ≡ some s)
-          go none e = absurd-true shape (ap (shapeRight q) (given ∙ k .saved ∙ ap savedWords e) ∙ no-shape q)
+          go none e = absurd-true shape (ap (shapeRight q) (given ∙ k .saved ∙ ap (savedWords (v .number)) e) ∙ no-shape q)
           go (some s) e = (s, e)
 
       abbrev s : State
       s = running .0
 
       start : stateIn (givenState i) ≡ s
-      start = ap stateIn (given ∙ k .saved ∙ ap savedWords (running .1)) ∙ loads-back t plan q (a .tables) (a .read) n s (running .1)
+      start =
+          ap stateIn (given ∙ k .saved ∙ ap (savedWords (v .number)) (running .1))
+          ∙ loads-back t plan q (a .tables) (a .read) (v .number) n s (running .1)
 
       run-is : (m : ℕ) → givenRun i m ≡ runFrom t q s m
       run-is m = ap (λ u. runFrom t q u m) start
@@ -169,13 +175,13 @@ module _ (t : Tables) (plan : List ℕ) (a : Accepted t plan) (h : Phone) (k : K
                 ∙ e)
           ]
 
-      pub served-keeps : Sent (q .ending) (listsIn (servedIn h)) threshold → Kept t q (afterServed h quantum (turnOf i))
+      pub served-keeps : Sent (q .ending) (listsIn (servedIn h)) threshold → Kept v q (afterServed h quantum (turnOf i))
       served-keeps sent =
           record {
             saved =
                 follows i serve .state .front
-                ∙ ap savedWords (sym new-state)
-                ∙ ap (λ d. savedWords (after t q d .state)) (sym steps-are);
+                ∙ ap (savedWords (v .number)) (sym new-state)
+                ∙ ap (λ d. savedWords (v .number) (after t q d .state)) (sym steps-are);
             alive = λ j l. alive-on j (subst (λ d. j < d) steps-are l);
             done =
                 ap doneIn grown

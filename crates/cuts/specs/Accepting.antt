@@ -1,17 +1,18 @@
--- What is accepted: tables and a plan that no test on them refuses, and a saved state that tests 9 and 10 pass; and which states the uncut
--- run passes through. Assumes nothing: these are definitions.
-use Prim.Native.Nat.{ℕ, _≤_}
+-- What is accepted: tables and a plan that no test on them refuses, and a saved state that tests 9, 22 and 10 pass; and which states the uncut
+-- run over a survey passes through. Assumes nothing: these are definitions.
+use Prim.Native.Nat.{ℕ, _≤_, _<_}
 use mathlib.Core.Path.{_≡_}
 use mathlib.Core.Bool.{true, _&&_}
 use mathlib.Core.Option.{none, some}
 use mathlib.Core.List.{List}
 use lib.Dec.{leb}
 use lib.ListN.{length}
+use Rattle.words.specs.Words.{lowNumbers}
 use Rattle.words.specs.Tests.{firstFailing}
 use Rattle.tables.specs.Tables.{Tables, tableTests}
 use Rattle.plans.specs.Plans.{readPlan, planOf, variablesRight}
 use Rattle.steps.specs.Steps.{State, after}
-use Rattle.steps.specs.Saved.{stateWords, shapeRight, placesRight}
+use Rattle.steps.specs.Saved.{stateWords, shapeRight, surveyRight, placesRight}
 use Rattle.turns.specs.Turns.{TurnInput, givenState, givenPlan}
 
 -- tests 1 to 6 pass: the tables' first, and the plan is read and its variables are right
@@ -20,16 +21,18 @@ pub record Accepted (t : Tables) (plan : List ℕ) : Type 0 where
   pub read : readPlan plan ≡ some (planOf plan)
   pub variables : variablesRight (planOf plan) ≡ true
 
--- the given words are there, and are those of a state that the uncut run passes through
+-- the given words are there, and are those, under the survey's number, of a state that the uncut run passes through
 pub record Passed (i : TurnInput) : Type 0 where
   pub there : i .given ≤ length (i .state)
+  pub few : i .survey .number < lowNumbers
   pub steps : ℕ
   pub state : State
-  pub passes : after (i .tables) (givenPlan i) steps .state ≡ some state
-  pub words : givenState i ≡ stateWords state
+  pub passes : after (i .survey .tables) (givenPlan i) steps .state ≡ some state
+  pub words : givenState i ≡ stateWords (i .survey .number) state
 
--- tests 9 and 10 of a turn both pass
+-- tests 9, 22 and 10 of a turn all pass
 abbrev pub StateAccepted : TurnInput → Type 0
 StateAccepted i =
     ((leb (i .given) (length (i .state)) && shapeRight (givenPlan i) (givenState i)) ≡ true)
-    × (placesRight (i .tables) (givenPlan i) (givenState i) ≡ true)
+    × (surveyRight (i .survey .number) (givenState i) ≡ true)
+    × (placesRight (i .survey .tables) (givenPlan i) (givenState i) ≡ true)

@@ -7,10 +7,10 @@ use lib.ListN.{length, take}
 use Rattle.words.specs.declared.Written.{Written}
 use Rattle.words.specs.declared.Written.the-variants.{Words, Refused}
 use Rattle.words.specs.Answers.{wordsIn}
-use Rattle.tables.specs.Tables.{Tables}
 use Rattle.plans.specs.Endings.{Ending}
 use Rattle.plans.specs.Plans.{planOf}
 use Rattle.lists.specs.Gathering.{isRows}
+use Rattle.turns.specs.Surveys.{Survey}
 use Rattle.turns.specs.declared.TurnEnding.{TurnEnding}
 use Rattle.turns.specs.declared.TurnEnding.the-variants as ending
 use Rattle.turns.specs.Opening.{Opened, openOf}
@@ -52,11 +52,11 @@ doneIn [] = false
 doneIn (x ∷ xs) = isDone (x .ending) || doneIn xs
 
 -- ---- one event
--- the turn gets the opening's tables and plan, and the saved words
-abbrev pub turnInputOf : Tables → List ℕ → Phone → List ℕ → ℕ → List ℕ → List ℕ → TurnInput
-turnInputOf t plan h behind quantum threshold output =
+-- the turn gets the opening's survey and plan, and the saved words
+abbrev pub turnInputOf : Survey → List ℕ → Phone → List ℕ → ℕ → List ℕ → List ℕ → TurnInput
+turnInputOf v plan h behind quantum threshold output =
     record {
-      tables = t;
+      survey = v;
       plan = plan;
       state = h .saved ++ behind;
       given = length (h .saved);
@@ -115,17 +115,17 @@ abbrev pub afterJoining : List ℕ → Phone → List ServedTurn → Phone
 afterJoining plan h [] = h
 afterJoining plan h (x ∷ rest) = afterJoin (planOf plan .ending) h x rest
 
-unfoldable pub happens : Tables → List ℕ → Phone → Event → Phone
-happens t plan h (turns behind quantum threshold output) =
-    afterTurn h quantum (turnOf (turnInputOf t plan h behind quantum threshold output))
-    (turnOf (turnInputOf t plan h behind quantum threshold output) .answer .ending)
-happens t plan h (merges behind) = afterMerging plan h behind (h .waiting)
-happens t plan h joins = afterJoining plan h (h .waiting)
+unfoldable pub happens : Survey → List ℕ → Phone → Event → Phone
+happens v plan h (turns behind quantum threshold output) =
+    afterTurn h quantum (turnOf (turnInputOf v plan h behind quantum threshold output))
+    (turnOf (turnInputOf v plan h behind quantum threshold output) .answer .ending)
+happens v plan h (merges behind) = afterMerging plan h behind (h .waiting)
+happens v plan h joins = afterJoining plan h (h .waiting)
 
 -- ---- a list of events
-unfoldable pub history : Tables → List ℕ → Phone → List Event → Phone
-history t plan h [] = h
-history t plan h (e ∷ es) = history t plan (happens t plan h e) es
+unfoldable pub history : Survey → List ℕ → Phone → List Event → Phone
+history v plan h [] = h
+history v plan h (e ∷ es) = history v plan (happens v plan h e) es
 
 -- from what an opening wrote, and an empty kept list
 abbrev pub fresh : Opened → Phone

@@ -2,9 +2,9 @@
 use Prim.Native.Nat.{ℕ}
 use mathlib.Core.Path.{_≡_}
 use mathlib.Core.List.{List, [], _∷_, map}
-use Rattle.tables.specs.Tables.{Tables}
 use Rattle.plans.specs.Plans.{planOf}
 use Rattle.lists.specs.Thresholds.{Sent}
+use Rattle.turns.specs.Surveys.{Survey}
 use Rattle.turns.specs.Turns.{turnOf, refusalOf}
 use Rattle.cuts.specs.Histories.{Event, turns, merges, joins, ServedTurn, Phone, servedIn, turnInputOf, happens}
 
@@ -14,13 +14,13 @@ listsIn xs = map (λ (x : ServedTurn). x .list) xs
 
 -- what is asked of an event: a turn that is served was sent no threshold, or the last row of a full list merged from an empty one
 -- out of earlier turns' lists, taken or not, in any order, none of them twice
-abbrev pub Asked : Tables → List ℕ → Phone → Event → Type 0
-Asked t plan h (turns behind quantum threshold output) =
-    refusalOf (turnOf (turnInputOf t plan h behind quantum threshold output) .answer .ending) ≡ 0
+abbrev pub Asked : Survey → List ℕ → Phone → Event → Type 0
+Asked v plan h (turns behind quantum threshold output) =
+    refusalOf (turnOf (turnInputOf v plan h behind quantum threshold output) .answer .ending) ≡ 0
     → Sent (planOf plan .ending) (listsIn (servedIn h)) threshold
-Asked t plan h (merges behind) = Unit {0}
-Asked t plan h joins = Unit {0}
+Asked v plan h (merges behind) = Unit {0}
+Asked v plan h joins = Unit {0}
 
-abbrev pub Premises : Tables → List ℕ → Phone → List Event → Type 0
-Premises t plan h [] = Unit {0}
-Premises t plan h (e ∷ es) = Asked t plan h e × Premises t plan (happens t plan h e) es
+abbrev pub Premises : Survey → List ℕ → Phone → List Event → Type 0
+Premises v plan h [] = Unit {0}
+Premises v plan h (e ∷ es) = Asked v plan h e × Premises v plan (happens v plan h e) es

@@ -2,7 +2,7 @@
 use Prim.Native.Nat.{ℕ}
 use mathlib.Core.List.{List, [], _∷_, _++_}
 use Rattle.words.specs.Bindings.{Bindings}
-use Rattle.tables.specs.Tables.{Tables}
+use Rattle.turns.specs.Surveys.{Survey}
 use Rattle.turns.specs.declared.TurnEnding.{TurnEnding}
 use Rattle.turns.specs.declared.TurnEnding.the-variants as ending
 use Rattle.turns.specs.Turns.{TurnInput, turnOf, served, rowsOf}
@@ -16,13 +16,13 @@ deliveredInTurn i ending.Full = rowsOf (served i)
 deliveredInTurn i (ending.Refused x) = []
 
 -- merges and joins deliver nothing
-abbrev pub deliveredInEvent : Tables → List ℕ → Phone → Event → List Bindings
-deliveredInEvent t plan h (turns behind quantum threshold output) =
-    deliveredInTurn (turnInputOf t plan h behind quantum threshold output)
-    (turnOf (turnInputOf t plan h behind quantum threshold output) .answer .ending)
-deliveredInEvent t plan h (merges behind) = []
-deliveredInEvent t plan h joins = []
+abbrev pub deliveredInEvent : Survey → List ℕ → Phone → Event → List Bindings
+deliveredInEvent v plan h (turns behind quantum threshold output) =
+    deliveredInTurn (turnInputOf v plan h behind quantum threshold output)
+    (turnOf (turnInputOf v plan h behind quantum threshold output) .answer .ending)
+deliveredInEvent v plan h (merges behind) = []
+deliveredInEvent v plan h joins = []
 
-unfoldable pub deliveredIn : Tables → List ℕ → Phone → List Event → List Bindings
-deliveredIn t plan h [] = []
-deliveredIn t plan h (e ∷ es) = deliveredInEvent t plan h e ++ deliveredIn t plan (happens t plan h e) es
+unfoldable pub deliveredIn : Survey → List ℕ → Phone → List Event → List Bindings
+deliveredIn v plan h [] = []
+deliveredIn v plan h (e ∷ es) = deliveredInEvent v plan h e ++ deliveredIn v plan (happens v plan h e) es

@@ -13,6 +13,7 @@ use Rattle.steps.specs.Steps.{Run, after}
 use Rattle.steps.specs.Saved.{savedWords}
 use Rattle.lists.specs.Gathering.{rowsFit}
 use Rattle.lists.specs.Closing.{listAt}
+use Rattle.turns.specs.Surveys.{Survey}
 use Rattle.turns.specs.Turns.{isOver}
 use Rattle.cuts.specs.Histories.{ServedTurn, Phone, servedIn, stepsIn, doneIn}
 use Rattle.cuts.specs.Premises.{listsIn}
@@ -56,20 +57,20 @@ WithinQuantum (x ∷ xs) = ((1 ≤ x .steps) × (x .steps ≤ x .quantum)) × Wi
 abbrev pub joinedLists : List ServedTurn → List ℕ
 joinedLists xs = flatten (listsIn xs)
 
-pub record AsUncut (t : Tables) (q : Plan) (h : Phone) : Type 0 where
-  -- the saved words are a state of the uncut run, as many steps on as the served turns took, or none
-  pub state : h .saved ≡ savedWords (after t q (stepsIn (servedIn h)) .state)
+pub record AsUncut (v : Survey) (q : Plan) (h : Phone) : Type 0 where
+  -- the saved words are, under the survey's number, a state of the uncut run, as many steps on as the served turns took, or none
+  pub state : h .saved ≡ savedWords (v .number) (after (v .tables) q (stepsIn (servedIn h)) .state)
   -- none exactly at its end
-  pub end : (h .saved ≡ []) ↔ EndsAt t q (stepsIn (servedIn h))
+  pub end : (h .saved ≡ []) ↔ EndsAt (v .tables) q (stepsIn (servedIn h))
   -- done was answered exactly then
-  pub done : (doneIn (servedIn h) ≡ true) ↔ EndsAt t q (stepsIn (servedIn h))
+  pub done : (doneIn (servedIn h) ≡ true) ↔ EndsAt (v .tables) q (stepsIn (servedIn h))
   -- no turn's steps are above its quantum
   pub quantum : WithinQuantum (servedIn h)
   -- the lists taken so far make its rows, its best-of list or its groups up to where the last of them ended
-  pub list : h .kept ≡ keptAfter t q (stepsIn (h .taken))
+  pub list : h .kept ≡ keptAfter (v .tables) q (stepsIn (h .taken))
   -- for a row query, the first lists of any number make its rows up to where the last of them ended
   pub prefixes : (vs : List ℕ) → q .ending ≡ rows vs → (k : ℕ)
-      → joinedLists (take k (servedIn h)) ≡ runList (q .ending) (after t q (stepsIn (take k (servedIn h))))
+      → joinedLists (take k (servedIn h)) ≡ runList (q .ending) (after (v .tables) q (stepsIn (take k (servedIn h))))
   -- a finished query, done answered and every list taken: its steps and its list are the whole uncut run's
   pub finished : doneIn (servedIn h) ≡ true → h .waiting ≡ []
-      → EndsAt t q (stepsIn (h .taken)) × (h .kept ≡ runList (q .ending) (after t q (stepsIn (h .taken))))
+      → EndsAt (v .tables) q (stepsIn (h .taken)) × (h .kept ≡ runList (q .ending) (after (v .tables) q (stepsIn (h .taken))))

@@ -1,6 +1,7 @@
 // A file of the printer: opened, read, and its query opened.
 use print_lines::FileParts;
 use print_lines::Layout;
+use print_rounds::SURVEY;
 use print_rounds::run;
 use print_writing::print_refused;
 use turn_calls::STATE_WORDS;
@@ -26,7 +27,7 @@ fn print_query(bytes: &[u8], file: &[u32], parts: FileParts)
     let osp = &file[osp_at..plan_at];
     let plan = &file[plan_at..end];
     let mut state = [0u32; STATE_WORDS];
-    let opened = turn_calls::open(rows, pos, osp, plan, &mut state);
+    let opened = turn_calls::open(rows, pos, osp, SURVEY, plan, &mut state);
     match opened {
         Written::Words(n) => run(bytes, rows, pos, osp, plan, quantum, &mut state, n),
         Written::Refused(x) => print_refused(bytes, x),

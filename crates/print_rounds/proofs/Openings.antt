@@ -3,15 +3,15 @@ use Prim.Native.Nat.{ℕ}
 use mathlib.Core.Path.{_≡_, ap}
 use mathlib.Core.Bool.{true}
 use mathlib.Core.List.{List}
-use Rattle.tables.specs.Tables.{Tables}
 use Rattle.plans.specs.Plans.{readPlan, hasForm}
+use Rattle.turns.specs.Surveys.{Survey}
 use Rattle.queries.specs.Playing.{Started}
 use Rattle.queries.proofs.Starting.{start-accepts}
 use Rattle.print_writing.specs.Shown.{CanOpen}
 
-module _ (t : Tables) (plan state : List ℕ) (saved : ℕ) (s : Started t plan state saved) where
+module _ (v : Survey) (plan state : List ℕ) (saved : ℕ) (s : Started v plan state saved) where
   pub started-form : hasForm (readPlan plan) ≡ true
-  started-form = ap hasForm (start-accepts t plan state saved s .read)
+  started-form = ap hasForm (start-accepts v plan state saved s .read)
 
-  pub started-opens : CanOpen t plan
+  pub started-opens : CanOpen v plan
   started-opens = (s .lent, s .opens)

@@ -29,10 +29,10 @@ module _ (i : TurnInput) (kept : List ℕ) (used : ℕ) (r : Step) (state out le
   list-room = omega (arith, listed-room i, ap length output-is, ap (λ (x : Turned). x .listed) turned-is)
 
   -- with no threshold, after so many turns
-  module _ (none-sent : i .threshold ≡ []) (made : ℕ) (o : CanOpen (i .tables) (i .plan))
-      (s : StandsAfter (i .tables) (i .plan) (i .quantum) (length (i .output)) made (i .state) (i .given)) where
+  module _ (none-sent : i .threshold ≡ []) (made : ℕ) (o : CanOpen (i .survey) (i .plan))
+      (s : StandsAfter (i .survey) (i .plan) (i .quantum) (length (i .output)) made (i .state) (i .given)) where
     pub turn-shown : isServed (r .turned .ending) ≡ true
-        → Shows (i .tables) (i .plan) (i .quantum) (length (i .output)) (made + 1) (r .turned) (take (r .turned .listed) out)
+        → Shows (i .survey .tables) (i .plan) (i .quantum) (length (i .output)) (made + 1) (r .turned) (take (r .turned .listed) out)
     turn-shown f =
         let g : isServed (turnOf i .answer .ending) ≡ true = ap (λ (x : Turned). isServed (x .ending)) (sym turned-is) ∙ f in
-        rw (turned-is, output-is) (shows i (opening-accepts (i .tables) (i .plan) (o .0) (o .1)) none-sent made s g)
+        rw (turned-is, output-is) (shows i (opening-accepts (i .survey) (i .plan) (o .0) (o .1)) none-sent made s g)

@@ -11,15 +11,17 @@ ghost use mathlib.Core.Path.{_≡_};
 ghost use mathlib.Core.List.{[]};
 ghost use Prim.Native.Nat.{_<_};
 ghost use lib.ListN.{length};
-ghost use Rattle.tables.specs.Tables.{tablesOf};
 ghost use Rattle.turns.specs.Turns.{turnInput};
 ghost use Rattle.queries.specs.declared.Keeping.the-variants.{Merged};
 ghost use Rattle.queries.specs.Stepping.{takeTurnOf};
 ghost use Rattle.queries.specs.Rounds.{buffers, advanced, firstPosition, rounds, resultAt};
 ghost use Rattle.queries.specs.Playing.{StandsAfter, Started};
 ghost use Rattle.print_writing.specs.Listings.{ListsOf};
-ghost use Rattle.print_writing.specs.FileQueries.{Asks, outputRoom};
+ghost use Rattle.print_writing.specs.FileQueries.{fileNumber, lentSurvey, Asks, outputRoom};
 ghost use Rattle.print_writing.specs.Shown.{mostTurns, CanOpen};
+
+// The number that a file's tables stand under.
+pub const SURVEY: u32 = 0;
 
 // The rows or records that the output holds.
 pub const OUTPUT_RECORDS: usize = 64;
@@ -44,18 +46,19 @@ fn print_step(
     made: u64,
 ) -> Went
     requires { ⌜ ListsOf (now plan) lists ⌝ }
-    requires { ⌜ CanOpen (tablesOf (now rows) (now pos) (now osp)) (now plan) ⌝ }
-    requires { ⌜ (made < mostTurns) × StandsAfter (tablesOf (now rows) (now pos) (now osp)) (now plan) quantum (length (now output)) made
+    requires { ⌜ CanOpen (lentSurvey (now rows) (now pos) (now osp)) (now plan) ⌝ }
+    requires { ⌜ (made < mostTurns) × StandsAfter (lentSurvey (now rows) (now pos) (now osp)) (now plan) quantum (length (now output)) made
         (now state) saved ⌝ }
     requires { ⌜ Asks (now bytes) (now rows) (now pos) (now osp) (now plan) quantum × (length (now output) ≡ outputRoom (now plan)) ⌝ }
     ensures { λ r. ⌜ record { went = r; held = buffers (now (state .exit)) (now (output .exit)) (now (kept .exit)) }
-        ≡ advanced (takeTurnOf Merged (turnInput (now (rows .entry)) (now (pos .entry)) (now (osp .entry)) (now (plan .entry)) (now (state .entry))
-        saved quantum [] (now (output .entry))) (now (kept .entry)) used) ⌝ }
+        ≡ advanced (takeTurnOf Merged (turnInput (now (rows .entry)) (now (pos .entry)) (now (osp .entry)) fileNumber (now (plan .entry))
+        (now (state .entry)) saved quantum [] (now (output .entry))) (now (kept .entry)) used) ⌝ }
 {
     let step = query_turns::take_turn(
         rows,
         pos,
         osp,
+        SURVEY,
         plan,
         state,
         saved,
@@ -87,10 +90,10 @@ fn go_on(
     lists: Listing,
 ) -> Played
     requires { ⌜ ListsOf (now plan) lists ⌝ }
-    requires { ⌜ Started (tablesOf (now rows) (now pos) (now osp)) (now plan) (now state) opened ⌝ }
+    requires { ⌜ Started (lentSurvey (now rows) (now pos) (now osp)) (now plan) (now state) opened ⌝ }
     requires { ⌜ Asks (now bytes) (now rows) (now pos) (now osp) (now plan) quantum × (length (now output) ≡ outputRoom (now plan)) ⌝ }
     ensures { λ r. ⌜ record { answer = r; held = buffers (now (state .exit)) (now (output .exit)) (now (kept .exit)) }
-        ≡ resultAt (rounds Merged (tablesOf (now (rows .entry)) (now (pos .entry)) (now (osp .entry))) (now (plan .entry)) quantum mostTurns
+        ≡ resultAt (rounds Merged (lentSurvey (now (rows .entry)) (now (pos .entry)) (now (osp .entry))) (now (plan .entry)) quantum mostTurns
         (firstPosition opened (buffers (now (state .entry)) (now (output .entry)) (now (kept .entry))))) ⌝ }
 {
     let mut saved = opened;
@@ -139,7 +142,7 @@ pub fn run(
     state: &mut [u32; STATE_WORDS],
     opened: usize,
 )
-    requires { ⌜ Started (tablesOf (now rows) (now pos) (now osp)) (now plan) (now state) opened ⌝ }
+    requires { ⌜ Started (lentSurvey (now rows) (now pos) (now osp)) (now plan) (now state) opened ⌝ }
     requires { ⌜ Asks (now bytes) (now rows) (now pos) (now osp) (now plan) quantum ⌝ }
 {
     let lists = lists_of(plan);

@@ -9,12 +9,12 @@ use lib.ListN.{length}
 use borrow.Author.Tests.{eqb-true}
 use Rattle.words.proofs.Booleans.{and-left}
 use Rattle.words.proofs.Buffers.{length-over}
-use Rattle.tables.specs.Tables.{Tables}
 use Rattle.plans.specs.Endings.{Ending, rows, top, group}
 use Rattle.plans.specs.Plans.{planOf}
 use Rattle.lists.specs.Groups.{totalsWidth}
 use Rattle.lists.specs.Gathering.{width, listRight}
 use Rattle.lists.proofs.Gatherings.{Valid}
+use Rattle.turns.specs.Surveys.{Survey}
 use Rattle.cuts.specs.Accepting.{Accepted}
 use Rattle.cuts.proofs.Accepting.{opening-accepts}
 use Rattle.cuts.proofs.KeptValid.{kept-valid}
@@ -24,7 +24,7 @@ use Rattle.queries.specs.declared.Played.the-variants.{Finished, Unfinished, St
 use Rattle.queries.specs.Stepping.{keptOf}
 use Rattle.queries.specs.Playing.{partAfter, Leaves, IsWhole}
 use Rattle.queries.proofs.Showing.{kept-at-end}
-use Rattle.print_writing.specs.FileQueries.{fileTables, filePlan, fileQuantum, IsAccepted, outputRoom, keptRoom}
+use Rattle.print_writing.specs.FileQueries.{fileTables, fileSurvey, filePlan, fileQuantum, IsAccepted, outputRoom, keptRoom}
 use Rattle.print_writing.specs.Shown.{mostTurns, CanOpen, by-turns, LeftToShow}
 
 -- nothing is kept of a row query; any other list that test 12 passes is whole rows or records
@@ -35,19 +35,19 @@ valid-whole (top k vs keys) ws h = eqb-true (length ws % length vs) 0 (and-left 
 valid-whole (group vs m) ws h =
     eqb-true (length ws % (length vs + totalsWidth)) 0 (and-left (eqb (length ws % (length vs + totalsWidth)) 0) _ h)
 
-pub kept-whole : (t : Tables) (plan list : List ℕ) → CanOpen t plan → IsWhole Merged t plan list
+pub kept-whole : (v : Survey) (plan list : List ℕ) → CanOpen v plan → IsWhole Merged (v .tables) plan list
     → length list % width (planOf plan .ending) ≡ 0
-kept-whole t plan list o w =
-    let a : Accepted t plan = opening-accepts t plan (o .0) (o .1) in
+kept-whole v plan list o w =
+    let a : Accepted (v .tables) plan = opening-accepts v plan (o .0) (o .1) in
     ap (λ l. length l % width (planOf plan .ending)) (w .listed)
     ∙ valid-whole (planOf plan .ending) _
-    (kept-valid t plan a (w .steps))
+    (kept-valid (v .tables) plan a (w .steps))
 
 -- what the rounds of an opened query leave, as the printer shows it
-module _ (bytes : List ℕ) (a : IsAccepted bytes) (o : CanOpen (fileTables bytes) (filePlan bytes)) (before state kept : List ℕ)
+module _ (bytes : List ℕ) (a : IsAccepted bytes) (o : CanOpen (fileSurvey bytes) (filePlan bytes)) (before state kept : List ℕ)
     (l : length before ≡ keptRoom) where
   pub left-to-show : (r : Played)
-      → Leaves Merged (fileTables bytes) (filePlan bytes) (fileQuantum bytes) mostTurns (outputRoom (filePlan bytes)) before state kept r
+      → Leaves Merged (fileSurvey bytes) (filePlan bytes) (fileQuantum bytes) mostTurns (outputRoom (filePlan bytes)) before state kept r
       → LeftToShow bytes kept r
   left-to-show (Finished words) f =
       let h = f .list in

@@ -14,7 +14,7 @@ ghost use lib.ListN.{length};
 ghost use Rattle.plans.specs.declared.Last.the-variants.{Rows};
 ghost use Rattle.queries.specs.Stepping.{isServed};
 ghost use Rattle.print_writing.specs.Listings.{ListsOf, HasWidth};
-ghost use Rattle.print_writing.specs.FileQueries.{fileTables, filePlan};
+ghost use Rattle.print_writing.specs.FileQueries.{fileSurvey, filePlan};
 ghost use Rattle.print_writing.specs.Shown.{CanOpen, TurnShown, ListShown, LeftToShow};
 
 // The rows that a turn of a row query delivered; no other list is printed before it is merged.
@@ -46,7 +46,7 @@ pub fn print_shown(bytes: &[u8], number: u64, turned: Turned, list: &[u32], list
 // The merged list of a finished query, which is the whole list of the uncut run.
 fn print_whole(bytes: &[u8], list: &[u32], lists: Listing)
     requires { ⌜ ListsOf (filePlan (now bytes)) lists ⌝ }
-    requires { ⌜ CanOpen (fileTables (now bytes)) (filePlan (now bytes)) ⌝ }
+    requires { ⌜ CanOpen (fileSurvey (now bytes)) (filePlan (now bytes)) ⌝ }
     requires { ⌜ ListShown (now bytes) (now list) ⌝ }
 {
     print_list(lists, list);
@@ -55,7 +55,7 @@ fn print_whole(bytes: &[u8], list: &[u32], lists: Listing)
 // What is printed of a query after its turns: where it is finished, its merged list, which is empty for a row query; where it is stopped, the number.
 pub fn print_played(bytes: &[u8], kept: &[u32], played: Played, lists: Listing)
     requires { ⌜ ListsOf (filePlan (now bytes)) lists ⌝ }
-    requires { ⌜ CanOpen (fileTables (now bytes)) (filePlan (now bytes)) ⌝ }
+    requires { ⌜ CanOpen (fileSurvey (now bytes)) (filePlan (now bytes)) ⌝ }
     requires { ⌜ LeftToShow (now bytes) (now kept) played ⌝ }
 {
     match played {

@@ -8,6 +8,7 @@ use Rattle.tables.specs.Tables.{Tables, tablesOf, columnCount}
 use Rattle.plans.specs.Plans.{planOf}
 use Rattle.steps.specs.Saved.{leastStateWords}
 use Rattle.lists.specs.Gathering.{width}
+use Rattle.turns.specs.Surveys.{Survey, underNumber, surveyOf}
 use Rattle.print_lines.specs.declared.FileParts.{FileParts}
 use Rattle.print_lines.specs.declared.Layout.the-variants.{Parts}
 use Rattle.print_lines.specs.Files.{fileWords, rowCountIn, quantumIn, rowsAt, posAt, ospAt, planAt, layoutOf}
@@ -29,6 +30,13 @@ planIn ws = drop (planAt (rowCountIn ws)) ws
 unfoldable pub fileTables : List ℕ → Tables
 fileTables bytes = tablesOf (rowsIn (fileWords bytes)) (posIn (fileWords bytes)) (ospIn (fileWords bytes))
 
+-- a file's tables have no number of their own, and stand under 0
+abbrev pub fileNumber : ℕ
+fileNumber = 0
+
+abbrev pub fileSurvey : List ℕ → Survey
+fileSurvey bytes = underNumber fileNumber (fileTables bytes)
+
 unfoldable pub filePlan : List ℕ → List ℕ
 filePlan bytes = planIn (fileWords bytes)
 
@@ -39,7 +47,11 @@ fileQuantum bytes = quantumIn (fileWords bytes)
 abbrev pub IsAccepted : List ℕ → Type 0
 IsAccepted bytes = (p : FileParts) × (layoutOf bytes ≡ Parts p)
 
--- what the calls are lent is the file's
+-- what the calls are lent, under that number
+abbrev pub lentSurvey : List ℕ → List ℕ → List ℕ → Survey
+lentSurvey rows pos osp = surveyOf rows pos osp fileNumber
+
+-- and that it is the file's
 pub record Asks (bytes rows pos osp plan : List ℕ) (quantum : ℕ) : Type 0 where
   pub accepted : IsAccepted bytes
   pub tables : tablesOf rows pos osp ≡ fileTables bytes

@@ -5,8 +5,8 @@ use mathlib.Core.Path.{_≡_}
 use mathlib.Core.List.{List}
 use lib.ListN.{length, take}
 use Rattle.words.specs.declared.Written.the-variants as written
-use Rattle.tables.specs.Tables.{Tables}
 use Rattle.turns.specs.declared.Turned.{Turned}
+use Rattle.turns.specs.Surveys.{Survey}
 use Rattle.turns.specs.Opening.{openOf, Opens}
 use Rattle.queries.specs.declared.Keeping.the-variants.{Merged}
 use Rattle.queries.specs.declared.Played.{Played}
@@ -14,15 +14,15 @@ use Rattle.queries.specs.declared.Played.the-variants.{Finished, Unfinished, St
 use Rattle.queries.specs.Playing.{Stops, Shows, IsWhole}
 use Rattle.print_lines.specs.declared.Layout.the-variants as layout
 use Rattle.print_lines.specs.Files.{layoutOf}
-use Rattle.print_writing.specs.FileQueries.{fileTables, filePlan, fileQuantum, IsAccepted, stateRoom, outputRoom, keptRoom}
+use Rattle.print_writing.specs.FileQueries.{fileTables, fileSurvey, filePlan, fileQuantum, IsAccepted, stateRoom, outputRoom, keptRoom}
 
 -- as many turns as 64 bits count
 abbrev pub mostTurns : ℕ
 mostTurns = 18446744073709551615
 
 -- the query opens with some state buffer
-abbrev pub CanOpen : Tables → List ℕ → Type 0
-CanOpen t plan = (lent : List ℕ) × Opens t plan lent
+abbrev pub CanOpen : Survey → List ℕ → Type 0
+CanOpen v plan = (lent : List ℕ) × Opens v plan lent
 
 -- ---- of a file's bytes
 -- a turn's number, its steps, its ending and its list are those of the uncut run's turn with that number
@@ -38,8 +38,8 @@ ListShown bytes list = IsWhole Merged (fileTables bytes) (filePlan bytes) list
 pub data RefusedBy (bytes : List ℕ) : ℕ → Type 0 where
   for-size : (x : ℕ) → layoutOf bytes ≡ layout.Refused x → RefusedBy bytes x
   by-opening : IsAccepted bytes → (state : List ℕ) → length state ≡ stateRoom
-      → (x : ℕ) → openOf (fileTables bytes) (filePlan bytes) state .answer ≡ written.Refused x → RefusedBy bytes x
-  by-turns : IsAccepted bytes → CanOpen (fileTables bytes) (filePlan bytes) → (before kept : List ℕ) → length before ≡ keptRoom
+      → (x : ℕ) → openOf (fileSurvey bytes) (filePlan bytes) state .answer ≡ written.Refused x → RefusedBy bytes x
+  by-turns : IsAccepted bytes → CanOpen (fileSurvey bytes) (filePlan bytes) → (before kept : List ℕ) → length before ≡ keptRoom
       → (x : ℕ) → Stops Merged (fileTables bytes) (filePlan bytes) (fileQuantum bytes) mostTurns (outputRoom (filePlan bytes)) before kept x
       → RefusedBy bytes x
 

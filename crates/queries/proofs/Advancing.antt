@@ -14,6 +14,7 @@ use Rattle.plans.specs.Plans.{Plan, planOf}
 use Rattle.steps.specs.Steps.{State, after}
 use Rattle.steps.specs.Saved.{savedWords, stateWords}
 use Rattle.lists.specs.Thresholds.{absent}
+use Rattle.turns.specs.Surveys.{Survey}
 use Rattle.turns.specs.declared.TurnEnding.{TurnEnding}
 use Rattle.turns.specs.declared.TurnEnding.the-variants as ending
 use Rattle.turns.specs.Turns.{isDone, TurnInput, TurnResult, turnOf}
@@ -34,17 +35,17 @@ use Rattle.queries.proofs.Taking.{is-served}
 use Rattle.queries.proofs.Lengths.{no-shorter}
 
 -- ---- one call more
-module _ (t : Tables) (plan : List ℕ) where
-  pub history-more : (es : List Event) (h : Phone) (e : Event) → history t plan h (es ++ (e ∷ [])) ≡ happens t plan (history t plan h es) e
+module _ (v : Survey) (plan : List ℕ) where
+  pub history-more : (es : List Event) (h : Phone) (e : Event) → history v plan h (es ++ (e ∷ [])) ≡ happens v plan (history v plan h es) e
   unfolding history
   history-more [] h e = refl
-  history-more (x ∷ es) h e = history-more es (happens t plan h x) e
+  history-more (x ∷ es) h e = history-more es (happens v plan h x) e
 
-  pub premises-more : (es : List Event) (h : Phone) (e : Event) → Premises t plan h es → Asked t plan (history t plan h es) e
-      → Premises t plan h (es ++ (e ∷ []))
+  pub premises-more : (es : List Event) (h : Phone) (e : Event) → Premises v plan h es → Asked v plan (history v plan h es) e
+      → Premises v plan h (es ++ (e ∷ []))
   unfolding history
   premises-more [] h e p a = (a, tt)
-  premises-more (x ∷ es) h e p a = (p .0, premises-more es (happens t plan h x) e (p .1) a)
+  premises-more (x ∷ es) h e p a = (p .0, premises-more es (happens v plan h x) e (p .1) a)
 
 -- a served turn leaves what its result says
 served-after : (h : Phone) (quantum : ℕ) (r : TurnResult) (e : TurnEnding) → isServed e ≡ true → afterTurn h quantum r e ≡ afterServed h quantum r
@@ -54,9 +55,9 @@ served-after h quantum r ending.Full f = refl
 served-after h quantum r (ending.Refused x) f = absurd-true f refl
 
 -- no words are no state's
-pub some-words : (o : Option State) → ¬ (savedWords o ≡ []) → (s : State) × (o ≡ some s)
-some-words none f = absurd (f refl)
-some-words (some s) f = (s, refl)
+pub some-words : (survey : ℕ) (o : Option State) → ¬ (savedWords survey o ≡ []) → (s : State) × (o ≡ some s)
+some-words survey none f = absurd (f refl)
+some-words survey (some s) f = (s, refl)
 
 not-true : (b : Bool) → ¬ (b ≡ true) → b ≡ false
 not-true true f = absurd (f refl)
@@ -71,7 +72,11 @@ kept-longer : (b : Bool) (xs ys : List ℕ) → length xs ≤ length ys → leng
 kept-longer true xs ys l = l
 kept-longer false xs ys l = omega arith
 
-module _ (keep : Keeping) (t : Tables) (plan : List ℕ) (a : Accepted t plan) (first : Phone) (k : Kept t (planOf plan) first) (before : List ℕ) where
+module _ (keep : Keeping) (v : Survey) (plan : List ℕ) (a : Accepted (v .tables) plan) (first : Phone)
+    (k : Kept v (planOf plan) first) (before : List ℕ) where
+  abbrev t : Tables
+  t = v .tables
+
   abbrev q : Plan
   q = planOf plan
 
@@ -80,15 +85,15 @@ module _ (keep : Keeping) (t : Tables) (plan : List ℕ) (a : Accepted t plan) (
   part = keptOf keep (q .ending)
 
   module _ (count : ℕ) (state : List ℕ) (saved : ℕ) (kept : List ℕ) (used : ℕ)
-      (u : UnderWay keep t plan first before count state saved kept used) where
+      (u : UnderWay keep v plan first before count state saved kept used) where
     abbrev h : Phone
     h = u .held
 
-    pub held-keeps : Kept t q h
-    held-keeps = subst (Kept t q) (u .reached) (history-keeps t plan a (u .events) first k (u .premises))
+    pub held-keeps : Kept v q h
+    held-keeps = subst (Kept v q) (u .reached) (history-keeps v plan a (u .events) first k (u .premises))
 
-    pub held-uncut : AsUncut t q h
-    held-uncut = as-uncut t plan a h held-keeps
+    pub held-uncut : AsUncut v q h
+    held-uncut = as-uncut v plan a h held-keeps
 
     -- every list is taken
     pub all-taken : servedIn h ≡ h .taken
@@ -105,27 +110,28 @@ module _ (keep : Keeping) (t : Tables) (plan : List ℕ) (a : Accepted t plan) (
 
     module _ (quantum : ℕ) (output : List ℕ) where
       abbrev i : TurnInput
-      i = record { tables = t; plan = plan; state = state; given = saved; quantum = quantum; threshold = []; output = output }
+      i = record { survey = v; plan = plan; state = state; given = saved; quantum = quantum; threshold = []; output = output }
 
       abbrev call : Event
       call = turns (drop saved state) quantum [] output
 
-      same-input : turnInputOf t plan h (drop saved state) quantum [] output ≡ i
+      same-input : turnInputOf v plan h (drop saved state) quantum [] output ≡ i
       same-input =
-          ap₂ (λ s g. record { tables = t; plan = plan; state = s; given = g; quantum = quantum; threshold = []; output = output })
+          ap₂ (λ s g. record { survey = v; plan = plan; state = s; given = g; quantum = quantum; threshold = []; output = output })
           (ap (λ l. l ++ drop saved state) (sym (u .state-words)) ∙ take-append-drop saved state) (sym (u .state-count))
 
       -- the turn is given the state of the uncut run after the lists taken
-      pub given-state : ¬ (saved ≡ 0) → (s : State) × (after t q (stepsIn (h .taken)) .state ≡ some s) × (take saved state ≡ stateWords s)
+      pub given-state : ¬ (saved ≡ 0)
+          → (s : State) × (after t q (stepsIn (h .taken)) .state ≡ some s) × (take saved state ≡ stateWords (v .number) s)
       given-state f =
-          let kept-words = held-keeps .saved ∙ ap (λ l. savedWords (after t q (stepsIn l) .state)) all-taken in
-          let s = some-words (after t q (stepsIn (h .taken)) .state) (λ e. f (u .state-count ∙ ap length (kept-words ∙ e))) in
-          (s .0, s .1, u .state-words ∙ kept-words ∙ ap savedWords (s .1))
+          let kept-words = held-keeps .saved ∙ ap (λ l. savedWords (v .number) (after t q (stepsIn l) .state)) all-taken in
+          let s = some-words (v .number) (after t q (stepsIn (h .taken)) .state) (λ e. f (u .state-count ∙ ap length (kept-words ∙ e))) in
+          (s .0, s .1, u .state-words ∙ kept-words ∙ ap (savedWords (v .number)) (s .1))
 
       pub given-passed : ¬ (saved ≡ 0) → Passed i
       given-passed f =
           let s = given-state f in
-          record { there = there; steps = stepsIn (h .taken); state = s .0; passes = s .1; words = s .2 }
+          record { there = there; few = u .few; steps = stepsIn (h .taken); state = s .0; passes = s .1; words = s .2 }
         where
           there : saved ≤ length state
           there =
@@ -139,7 +145,7 @@ module _ (keep : Keeping) (t : Tables) (plan : List ℕ) (a : Accepted t plan) (
         abbrev turned : Phone
         turned = afterServed h quantum (turnOf i)
 
-        turn-made : happens t plan h call ≡ turned
+        turn-made : happens v plan h call ≡ turned
         unfolding happens
         turn-made =
             ap (λ j. afterTurn h quantum (turnOf j) (turnOf j .answer .ending)) same-input
@@ -151,28 +157,28 @@ module _ (keep : Keeping) (t : Tables) (plan : List ℕ) (a : Accepted t plan) (
         abbrev calls : List Event
         calls = u .events ++ (call ∷ [])
 
-        calls-reach : history t plan first calls ≡ turned
-        calls-reach = history-more t plan (u .events) first call ∙ ap (λ z. happens t plan z call) (u .reached) ∙ turn-made
+        calls-reach : history v plan first calls ≡ turned
+        calls-reach = history-more v plan (u .events) first call ∙ ap (λ z. happens v plan z call) (u .reached) ∙ turn-made
 
-        calls-premises : Premises t plan first calls
-        calls-premises = premises-more t plan (u .events) first call (u .premises) (λ _. absent)
+        calls-premises : Premises v plan first calls
+        calls-premises = premises-more v plan (u .events) first call (u .premises) (λ _. absent)
 
-        pub turned-keeps : Kept t q turned
-        turned-keeps = subst (Kept t q) calls-reach (history-keeps t plan a calls first k calls-premises)
+        pub turned-keeps : Kept v q turned
+        turned-keeps = subst (Kept v q) calls-reach (history-keeps v plan a calls first k calls-premises)
 
         -- the list of that turn is taken by one call more
-        module _ (e : Event) (asked : Asked t plan turned e) (list : List ℕ) (taken : happens t plan turned e ≡ afterTaking turned x [] list) where
+        module _ (e : Event) (asked : Asked v plan turned e) (list : List ℕ) (taken : happens v plan turned e ≡ afterTaking turned x [] list) where
           abbrev now : Phone
           now = afterTaking turned x [] list
 
-          more-reach : history t plan first (calls ++ (e ∷ [])) ≡ now
-          more-reach = history-more t plan calls first e ∙ ap (λ z. happens t plan z e) calls-reach ∙ taken
+          more-reach : history v plan first (calls ++ (e ∷ [])) ≡ now
+          more-reach = history-more v plan calls first e ∙ ap (λ z. happens v plan z e) calls-reach ∙ taken
 
-          more-premises : Premises t plan first (calls ++ (e ∷ []))
-          more-premises = premises-more t plan calls first e calls-premises (subst⁻¹ (λ z. Asked t plan z e) calls-reach asked)
+          more-premises : Premises v plan first (calls ++ (e ∷ []))
+          more-premises = premises-more v plan calls first e calls-premises (subst⁻¹ (λ z. Asked v plan z e) calls-reach asked)
 
-          pub now-keeps : Kept t q now
-          now-keeps = subst (Kept t q) more-reach (history-keeps t plan a (calls ++ (e ∷ [])) first k more-premises)
+          pub now-keeps : Kept v q now
+          now-keeps = subst (Kept v q) more-reach (history-keeps v plan a (calls ++ (e ∷ [])) first k more-premises)
 
           pub now-list : list ≡ keptAfter t q (stepsIn (h .taken) + x .steps)
           now-list = now-keeps .list ∙ ap (keptAfter t q) (steps-more (h .taken) x)
@@ -193,12 +199,13 @@ module _ (keep : Keeping) (t : Tables) (plan : List ℕ) (a : Accepted t plan) (
                 ap doneIn (append-nil (h .taken ++ (x ∷ [])))
                 ∙ done-more (h .taken) x (ap doneIn (sym all-taken) ∙ going)
 
-            pub goes-on : ¬ (saved ≡ 0) → (v : UnderWay keep t plan first before (count + 1) (turnOf i .state) (turnOf i .answer .saved) new words)
+            pub goes-on : ¬ (saved ≡ 0) → (v : UnderWay keep v plan first before (count + 1) (turnOf i .state) (turnOf i .answer .saved) new words)
                 × (doneIn (servedIn (v .held)) ≡ isDone (turnOf i .answer .ending))
                 × (stepsIn (v .held .taken) ≡ stepsIn (h .taken) + x .steps)
             goes-on f =
                 let s = follows i (is-served i served) in (
                   record {
+                    few = u .few;
                     events = calls ++ (e ∷ []);
                     premises = more-premises;
                     held = now;

@@ -11,6 +11,7 @@ use Rattle.words.specs.Sequences.{over}
 use Rattle.words.proofs.Booleans.{absurd-true}
 use Rattle.tables.specs.Tables.{Tables}
 use Rattle.plans.specs.Plans.{Plan, planOf}
+use Rattle.turns.specs.Surveys.{Survey}
 use Rattle.turns.specs.declared.TurnEnding.{TurnEnding}
 use Rattle.turns.specs.declared.TurnEnding.the-variants as ending
 use Rattle.turns.specs.Turns.{isDone, TurnInput, turnOf}
@@ -30,17 +31,21 @@ use Rattle.queries.proofs.Leaving.{Going, Becomes}
 use Rattle.queries.proofs.Leaving as leaving
 use Rattle.queries.proofs.ListTaken as taking
 
-module _ (keep : Keeping) (t : Tables) (plan : List ℕ) (a : Accepted t plan) (first : Phone) (k : Kept t (planOf plan) first) (before : List ℕ) where
+module _ (keep : Keeping) (v : Survey) (plan : List ℕ) (a : Accepted (v .tables) plan) (first : Phone)
+    (k : Kept v (planOf plan) first) (before : List ℕ) where
+  abbrev t : Tables
+  t = v .tables
+
   abbrev q : Plan
   q = planOf plan
 
   module _ (quantum most count : ℕ) (fewer : count < most) (output state : List ℕ) (saved : ℕ) (kept : List ℕ) (used : ℕ)
-      (g : Going keep t plan first before quantum (length output) count state saved kept used) where
-    abbrev u : UnderWay keep t plan first before count state saved kept used
+      (g : Going keep v plan first before quantum (length output) count state saved kept used) where
+    abbrev u : UnderWay keep v plan first before count state saved kept used
     u = g .under
 
     abbrev i : TurnInput
-    i = record { tables = t; plan = plan; state = state; given = saved; quantum = quantum; threshold = []; output = output }
+    i = record { survey = v; plan = plan; state = state; given = saved; quantum = quantum; threshold = []; output = output }
 
     -- the steps of the lists taken so far
     abbrev n : ℕ
@@ -53,15 +58,15 @@ module _ (keep : Keeping) (t : Tables) (plan : List ℕ) (a : Accepted t plan) (
     x = servedOf quantum (turnOf i)
 
     abbrev Taken : List ℕ → Written → Type 0
-    Taken = taking.TakenAs keep t plan a first k before quantum count output state saved kept used g
+    Taken = taking.TakenAs keep v plan a first k before quantum count output state saved kept used g
 
     abbrev Then : List ℕ → List ℕ → Went → Type 0
-    Then now left w = Becomes keep t plan first before quantum most (length output) count now left w
+    Then now left w = Becomes keep v plan first before quantum most (length output) count now left w
 
     stopped : (y : ℕ) (left : List ℕ) → (left ≡ kept) × Cause keep t plan quantum (length output) before n y
         → Then (turnOf i .state) left (Stopped y)
     stopped y left p =
-        leaving.stops keep t plan a first k before count state saved kept used u quantum most (length output) fewer (g .made) left y
+        leaving.stops keep v plan a first k before count state saved kept used u quantum most (length output) fewer (g .made) left y
         (p .1) (p .0)
 
     -- the list of a turn is taken: the query goes on, or is over
@@ -69,13 +74,13 @@ module _ (keep : Keeping) (t : Tables) (plan : List ℕ) (a : Accepted t plan) (
       made-then : Turns t plan quantum (length output) (count + 1) (stepsIn (p .0 .held .taken))
       made-then =
           subst⁻¹ (Turns t plan quantum (length output) (count + 1)) (p .2)
-          (taking.made-more keep t plan a first k before quantum count output state saved kept used g (ap isServed f ∙ s))
+          (taking.made-more keep v plan a first k before quantum count output state saved kept used g (ap isServed f ∙ s))
 
       goes : isDone e ≡ false → Then (turnOf i .state) (m .kept) (On (turnOf i .answer .saved) words)
       goes d =
           record {
             under = p .0;
-            alive = leaving.not-over keep t plan a first k before (count + 1) _ _ _ words (p .0) (p .1 ∙ ap isDone f ∙ d);
+            alive = leaving.not-over keep v plan a first k before (count + 1) _ _ _ words (p .0) (p .1 ∙ ap isDone f ∙ d);
             made = made-then;
           }
 
@@ -86,8 +91,8 @@ module _ (keep : Keeping) (t : Tables) (plan : List ℕ) (a : Accepted t plan) (
             allowed = omega arith;
             steps = stepsIn (p .0 .held .taken);
             made = made-then;
-            ends = leaving.ends keep t plan a first k before (count + 1) _ _ _ words (p .0) (p .1 ∙ ap isDone f ∙ d);
-            list = leaving.holds keep t plan a first k before (count + 1) _ _ _ words (p .0);
+            ends = leaving.ends keep v plan a first k before (count + 1) _ _ _ words (p .0) (p .1 ∙ ap isDone f ∙ d);
+            list = leaving.holds keep v plan a first k before (count + 1) _ _ _ words (p .0);
           }
 
     by-taking : (e : TurnEnding) → turnOf i .answer .ending ≡ e → isServed e ≡ true → (w : Written) → Taken (m .kept) w
@@ -101,7 +106,7 @@ module _ (keep : Keeping) (t : Tables) (plan : List ℕ) (a : Accepted t plan) (
     module _ (e : TurnEnding) (f : turnOf i .answer .ending ≡ e) where
       served-becomes : isServed e ≡ true → Then (turnOf i .state) (m .kept) (wentAs e (turnOf i .answer .saved) (m .answer))
       served-becomes s = by-taking e f s (m .answer)
-          (taking.list-taken keep t plan a first k before quantum count output state saved kept used g (ap isServed f ∙ s))
+          (taking.list-taken keep v plan a first k before quantum count output state saved kept used g (ap isServed f ∙ s))
 
       -- nothing is taken of a turn that is refused
       not-taken : isServed e ≡ false → m ≡ leftAsIs kept used
@@ -109,7 +114,7 @@ module _ (keep : Keeping) (t : Tables) (plan : List ℕ) (a : Accepted t plan) (
 
     turn-cause : (y : ℕ) → turnOf i .answer .ending ≡ ending.Refused y → Cause keep t plan quantum (length output) before n y
     turn-cause y f =
-        turn-stopped i a (advancing.given-passed keep t plan a first k before count state saved kept used u quantum output (g .alive)) (u .state-room)
+        turn-stopped i a (advancing.given-passed keep v plan a first k before count state saved kept used u quantum output (g .alive)) (u .state-room)
         refl keep before n y f
 
     by-ending : (e : TurnEnding) → turnOf i .answer .ending ≡ e → Then (turnOf i .state) (m .kept) (wentAs e (turnOf i .answer .saved) (m .answer))

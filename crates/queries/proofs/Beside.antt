@@ -7,8 +7,8 @@ use mathlib.Core.Bool.{Bool, true, false}
 use mathlib.Core.List.{List}
 use lib.Dec.{leb}
 use lib.ListN.{length}
-use Rattle.tables.specs.Tables.{Tables}
 use Rattle.plans.specs.Plans.{planOf}
+use Rattle.turns.specs.Surveys.{Survey}
 use Rattle.turns.specs.declared.TurnEnding.{TurnEnding}
 use Rattle.turns.specs.declared.TurnEnding.the-variants as ending
 use Rattle.turns.specs.Turns.{TurnInput, givenPlan, turnOf}
@@ -51,12 +51,12 @@ module _ (i : TurnInput) (kept : List ℕ) (used : ℕ) (first : List ℕ) (h : 
   turn-beside : Alike
   turn-beside = by-room (turnOf i .answer .ending) refl (leb (used + length (outputList (turnOf i))) (length kept)) refl
 
-module _ (t : Tables) (plan : List ℕ) (quantum : ℕ) (h : isRows (planOf plan .ending) ≡ true) (opened : ℕ) (lent : Lent) where
+module _ (v : Survey) (plan : List ℕ) (quantum : ℕ) (h : isRows (planOf plan .ending) ≡ true) (opened : ℕ) (lent : Lent) where
   abbrev kept-at : ℕ → Position
-  kept-at n = rounds All t plan quantum n (firstPosition opened lent)
+  kept-at n = rounds All v plan quantum n (firstPosition opened lent)
 
   abbrev left-at : ℕ → Position
-  left-at n = rounds Merged t plan quantum n (firstPosition opened lent)
+  left-at n = rounds Merged v plan quantum n (firstPosition opened lent)
 
   abbrev first : List ℕ
   first = lent .kept
@@ -64,25 +64,25 @@ module _ (t : Tables) (plan : List ℕ) (quantum : ℕ) (h : isRows (planOf plan
   later : (n : ℕ) (w : Went) (l : Lent) → kept-at n ≡ record { went = w; held = l } → BesideAs first w l (left-at n)
       → Beside first (kept-at (n + 1)) (left-at (n + 1))
   later n (On saved used) l e b =
-      let p = rounds-on All t plan quantum (firstPosition opened lent) n saved used l e in
-      let q = rounds-on Merged t plan quantum (firstPosition opened lent) n saved 0 (leaving first l) b in
+      let p = rounds-on All v plan quantum (firstPosition opened lent) n saved used l e in
+      let q = rounds-on Merged v plan quantum (firstPosition opened lent) n saved 0 (leaving first l) b in
       subst⁻¹ (λ x. Beside first x (left-at (n + 1))) p
-      (subst⁻¹ (Beside first (advanced (takeTurnOf All (roundInput t plan quantum saved l) (l .kept) used))) q
-      (turn-beside (roundInput t plan quantum saved l) (l .kept) used first h))
+      (subst⁻¹ (Beside first (advanced (takeTurnOf All (roundInput v plan quantum saved l) (l .kept) used))) q
+      (turn-beside (roundInput v plan quantum saved l) (l .kept) used first h))
   later n (Over words) l e b =
-      subst⁻¹ (λ x. Beside first x (left-at (n + 1))) (rounds-over All t plan quantum (firstPosition opened lent) n (n + 1) (omega arith) words l e)
-      (rounds-over Merged t plan quantum (firstPosition opened lent) n (n + 1) (omega arith) 0 (leaving first l) b)
+      subst⁻¹ (λ x. Beside first x (left-at (n + 1))) (rounds-over All v plan quantum (firstPosition opened lent) n (n + 1) (omega arith) words l e)
+      (rounds-over Merged v plan quantum (firstPosition opened lent) n (n + 1) (omega arith) 0 (leaving first l) b)
   later n (Stopped x) l e b =
-      subst⁻¹ (λ y. Beside first y (left-at (n + 1))) (rounds-stopped All t plan quantum (firstPosition opened lent) n (n + 1) (omega arith) x l e)
+      subst⁻¹ (λ y. Beside first y (left-at (n + 1))) (rounds-stopped All v plan quantum (firstPosition opened lent) n (n + 1) (omega arith) x l e)
       (elim b [
         | inl y ↦ inl y
-        | inr y ↦ inr (rounds-stopped Merged t plan quantum (firstPosition opened lent) n (n + 1) (omega arith) x (leaving first l) y)
+        | inr y ↦ inr (rounds-stopped Merged v plan quantum (firstPosition opened lent) n (n + 1) (omega arith) x (leaving first l) y)
       ])
 
   pub rows-beside : (n : ℕ) → Beside first (kept-at n) (left-at n)
   rows-beside zero =
-      subst⁻¹ (λ x. Beside first x (left-at 0)) (rounds-none All t plan quantum (firstPosition opened lent))
-      (rounds-none Merged t plan quantum (firstPosition opened lent))
+      subst⁻¹ (λ x. Beside first x (left-at 0)) (rounds-none All v plan quantum (firstPosition opened lent))
+      (rounds-none Merged v plan quantum (firstPosition opened lent))
   rows-beside (suc n) =
       let d : n + 1 ≡ suc n = omega arith in
       subst (λ k. Beside first (kept-at k) (left-at k)) d (later n (kept-at n .went) (kept-at n .held) refl (rows-beside n))

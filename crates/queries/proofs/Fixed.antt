@@ -16,6 +16,7 @@ use Rattle.plans.specs.Plans.{Plan, planOf}
 use Rattle.steps.specs.Steps.{Run, after}
 use Rattle.steps.specs.Saved.{savedWords}
 use Rattle.steps.proofs.Runs.{after-none}
+use Rattle.turns.specs.Surveys.{Survey}
 use Rattle.turns.specs.Opening.{Opens}
 use Rattle.cuts.specs.Uncut.{EndsAt, runFits, NotTaken, totals-pass, no-room}
 use Rattle.cuts.specs.Accepting.{Accepted}
@@ -49,7 +50,10 @@ refused-once t q steps room x y (totals-pass f) (no-room g l) = absurd-true g f
 refused-once t q steps room x y (no-room f l) (totals-pass g) = absurd-true f g
 refused-once t q steps room x y (no-room f l) (no-room g k) = refl
 
-module _ (keep : Keeping) (t : Tables) (plan : List ℕ) (a : Accepted t plan) (quantum room : ℕ) (before : List ℕ) where
+module _ (keep : Keeping) (v : Survey) (plan : List ℕ) (a : Accepted (v .tables) plan) (quantum room : ℕ) (before : List ℕ) where
+  abbrev t : Tables
+  t = v .tables
+
   abbrev q : Plan
   q = planOf plan
 
@@ -130,7 +134,7 @@ module _ (keep : Keeping) (t : Tables) (plan : List ℕ) (a : Accepted t plan) (
     )
 
     finished-or-paused : (kept : List ℕ) (words : ℕ) → Finishes keep t plan quantum most room before kept words
-        → (state kept₁ : List ℕ) (saved words₁ : ℕ) → Pauses keep t plan quantum most room before state kept₁ saved words₁ → ⊥
+        → (state kept₁ : List ℕ) (saved words₁ : ℕ) → Pauses keep v plan quantum most room before state kept₁ saved words₁ → ⊥
     finished-or-paused kept words f state kept₁ saved words₁ p =
         elim (decLt (f .count) most) [
           | yes l ↦ no-further t plan a quantum room (f .count) most (f .steps) (p .stands .steps) (f .made) (f .ends) (p .stands .made) l
@@ -152,7 +156,7 @@ module _ (keep : Keeping) (t : Tables) (plan : List ℕ) (a : Accepted t plan) (
           ]
         ]
 
-    paused-or-stopped : (state kept : List ℕ) (saved words : ℕ) → Pauses keep t plan quantum most room before state kept saved words
+    paused-or-stopped : (state kept : List ℕ) (saved words : ℕ) → Pauses keep v plan quantum most room before state kept saved words
         → (kept₁ : List ℕ) (x : ℕ) → Stops keep t plan quantum most room before kept₁ x → ⊥
     paused-or-stopped state kept saved words p kept₁ x s =
         not-stopped (s .count) (s .steps) x (s .made) (s .cause) most (p .stands .steps) (p .stands .made) (s .allowed) kept words (p .list)
@@ -173,8 +177,8 @@ module _ (keep : Keeping) (t : Tables) (plan : List ℕ) (a : Accepted t plan) (
           ]
         ]
 
-    leaves-once : (state kept state₁ kept₁ : List ℕ) (r r₁ : Played) → Leaves keep t plan quantum most room before state kept r
-        → Leaves keep t plan quantum most room before state₁ kept₁ r₁ → (r ≡ r₁) × (kept ≡ kept₁)
+    leaves-once : (state kept state₁ kept₁ : List ℕ) (r r₁ : Played) → Leaves keep v plan quantum most room before state kept r
+        → Leaves keep v plan quantum most room before state₁ kept₁ r₁ → (r ≡ r₁) × (kept ≡ kept₁)
     leaves-once state kept state₁ kept₁ (Finished n) (Finished n₁) f g =
         let e = same-list (f .steps) (g .steps) (ends-once t q (f .steps) (g .steps) (f .ends) (g .ends)) kept kept₁ n n₁ (f .list) (g .list) in
         (ap Finished (e .0), e .1)
@@ -184,7 +188,7 @@ module _ (keep : Keeping) (t : Tables) (plan : List ℕ) (a : Accepted t plan) (
     leaves-once state kept state₁ kept₁ (Unfinished s n) (Unfinished s₁ n₁) f g =
         let d = turns-once t plan a quantum room most most (f .stands .steps) (g .stands .steps) (f .stands .made) (g .stands .made) refl in
         let e = same-list (f .stands .steps) (g .stands .steps) d kept kept₁ n n₁ (f .list) (g .list) in
-        let w = f .stands .state-count ∙ ap (λ j. length (savedWords (after t q j .state))) d ∙ sym (g .stands .state-count) in
+        let w = f .stands .state-count ∙ ap (λ j. length (savedWords (v .number) (after t q j .state))) d ∙ sym (g .stands .state-count) in
         (ap₂ Unfinished w (e .0), e .1)
     leaves-once state kept state₁ kept₁ (Unfinished s n) (Stopped x) f g = absurd (paused-or-stopped state kept s n f kept₁ x g)
     leaves-once state kept state₁ kept₁ (Stopped x) (Finished n₁) f g = absurd (finished-or-stopped kept₁ n₁ g kept x f)
@@ -198,17 +202,17 @@ module _ (keep : Keeping) (t : Tables) (plan : List ℕ) (a : Accepted t plan) (
     leaves-once state kept state₁ kept₁ (Refused x) r f g = absurd f
 
 -- ---- from their opening on
-module _ (keep : Keeping) (t : Tables) (plan : List ℕ) (quantum most : ℕ) (before : Lent) where
-  by-opening : (left : Lent) (r : Played) → Plays keep t plan quantum most before left r
-      → ((x : ℕ) × (r ≡ Refused x) × OpeningRefused t plan before left x)
-      ⊎ (Opens t plan (before .state) × Leaves keep t plan quantum most (length (before .output)) (before .kept) (left .state) (left .kept) r)
+module _ (keep : Keeping) (v : Survey) (plan : List ℕ) (quantum most : ℕ) (before : Lent) where
+  by-opening : (left : Lent) (r : Played) → Plays keep v plan quantum most before left r
+      → ((x : ℕ) × (r ≡ Refused x) × OpeningRefused v plan before left x)
+      ⊎ (Opens v plan (before .state) × Leaves keep v plan quantum most (length (before .output)) (before .kept) (left .state) (left .kept) r)
   by-opening left (Finished n) p = inr p
   by-opening left (Unfinished s n) p = inr p
   by-opening left (Stopped x) p = inr p
   by-opening left (Refused x) p = inl (x, refl, p)
 
-  pub played-once : (left left₁ : Lent) (r r₁ : Played) → Plays keep t plan quantum most before left r
-      → Plays keep t plan quantum most before left₁ r₁
+  pub played-once : (left left₁ : Lent) (r r₁ : Played) → Plays keep v plan quantum most before left r
+      → Plays keep v plan quantum most before left₁ r₁
       → (r ≡ r₁) × (left .kept ≡ left₁ .kept)
   played-once left left₁ r r₁ p p₁ =
       elim (by-opening left r p) [
@@ -222,7 +226,7 @@ module _ (keep : Keeping) (t : Tables) (plan : List ℕ) (quantum most : ℕ) (b
         | inr n ↦ elim (by-opening left₁ r₁ p₁) [
           | inl m ↦ absurd (n .0 (m .0) (m .2 .refused))
           | inr m ↦
-              leaves-once keep t plan (opening-accepts t plan (before .state) (n .0)) quantum (length (before .output)) (before .kept) most
+              leaves-once keep v plan (opening-accepts v plan (before .state) (n .0)) quantum (length (before .output)) (before .kept) most
               (left .state) (left .kept) (left₁ .state) (left₁ .kept) r r₁ (n .1) (m .1)
         ]
       ]

@@ -10,6 +10,7 @@ use Rattle.tables.specs.Tables.{Tables}
 use Rattle.plans.specs.Plans.{Plan, planOf}
 use Rattle.steps.specs.Steps.{after}
 use Rattle.steps.specs.Saved.{savedWords}
+use Rattle.turns.specs.Surveys.{Survey}
 use Rattle.cuts.specs.Histories.{Phone, servedIn, stepsIn, doneIn}
 use Rattle.cuts.specs.Uncut.{EndsAt, AsUncut}
 use Rattle.cuts.specs.Accepting.{Accepted}
@@ -24,19 +25,23 @@ use Rattle.queries.proofs.Refusing.{at-first}
 use Rattle.queries.proofs.Advancing as advancing
 
 -- a query that goes on: under way, its saved words those of a state, and its turns made as the uncut run has them
-pub record Going (keep : Keeping) (t : Tables) (plan : List ℕ) (first : Phone) (before : List ℕ) (quantum room count : ℕ) (state : List ℕ) (saved : ℕ)
+pub record Going (keep : Keeping) (v : Survey) (plan : List ℕ) (first : Phone) (before : List ℕ) (quantum room count : ℕ) (state : List ℕ) (saved : ℕ)
     (kept : List ℕ) (used : ℕ) : Type 0 where
-  pub under : UnderWay keep t plan first before count state saved kept used
+  pub under : UnderWay keep v plan first before count state saved kept used
   pub alive : ¬ (saved ≡ 0)
-  pub made : Turns t plan quantum room count (stepsIn (under .held .taken))
+  pub made : Turns (v .tables) plan quantum room count (stepsIn (under .held .taken))
 
 -- what one more turn comes to, by how the query goes on
-abbrev pub Becomes : Keeping → Tables → List ℕ → Phone → List ℕ → ℕ → ℕ → ℕ → ℕ → List ℕ → List ℕ → Went → Type 0
-Becomes keep t plan first before quantum most room count now left (On s words) = Going keep t plan first before quantum room (count + 1) now s left words
-Becomes keep t plan first before quantum most room count now left (Over words) = Finishes keep t plan quantum most room before left words
-Becomes keep t plan first before quantum most room count now left (Stopped y) = Stops keep t plan quantum most room before left y
+abbrev pub Becomes : Keeping → Survey → List ℕ → Phone → List ℕ → ℕ → ℕ → ℕ → ℕ → List ℕ → List ℕ → Went → Type 0
+Becomes keep v plan first before quantum most room count now left (On s words) = Going keep v plan first before quantum room (count + 1) now s left words
+Becomes keep v plan first before quantum most room count now left (Over words) = Finishes keep (v .tables) plan quantum most room before left words
+Becomes keep v plan first before quantum most room count now left (Stopped y) = Stops keep (v .tables) plan quantum most room before left y
 
-module _ (keep : Keeping) (t : Tables) (plan : List ℕ) (a : Accepted t plan) (first : Phone) (k : Kept t (planOf plan) first) (before : List ℕ) where
+module _ (keep : Keeping) (v : Survey) (plan : List ℕ) (a : Accepted (v .tables) plan) (first : Phone)
+    (k : Kept v (planOf plan) first) (before : List ℕ) where
+  abbrev t : Tables
+  t = v .tables
+
   abbrev q : Plan
   q = planOf plan
 
@@ -44,19 +49,19 @@ module _ (keep : Keeping) (t : Tables) (plan : List ℕ) (a : Accepted t plan) (
   part = keptOf keep (q .ending)
 
   module _ (count : ℕ) (state : List ℕ) (saved : ℕ) (kept : List ℕ) (used : ℕ)
-      (u : UnderWay keep t plan first before count state saved kept used) where
+      (u : UnderWay keep v plan first before count state saved kept used) where
     abbrev h : Phone
     h = u .held
 
     -- ---- what a query under way says of the uncut run
-    uncut : AsUncut t q h
-    uncut = advancing.held-uncut keep t plan a first k before count state saved kept used u
+    uncut : AsUncut v q h
+    uncut = advancing.held-uncut keep v plan a first k before count state saved kept used u
 
-    run-kept : Kept t q h
-    run-kept = advancing.held-keeps keep t plan a first k before count state saved kept used u
+    run-kept : Kept v q h
+    run-kept = advancing.held-keeps keep v plan a first k before count state saved kept used u
 
     all-taken : servedIn h ≡ h .taken
-    all-taken = advancing.all-taken keep t plan a first k before count state saved kept used u
+    all-taken = advancing.all-taken keep v plan a first k before count state saved kept used u
 
     pub holds : Holds keep t plan (stepsIn (h .taken)) before kept used
     holds =
@@ -71,20 +76,21 @@ module _ (keep : Keeping) (t : Tables) (plan : List ℕ) (a : Accepted t plan) (
     ends d = uncut .finished d (u .taken) .0
 
     pub stands : ¬ (saved ≡ 0) → (quantum room : ℕ) → Turns t plan quantum room count (stepsIn (h .taken))
-        → StandsAfter t plan quantum room count state saved
+        → StandsAfter v plan quantum room count state saved
     stands f quantum room made =
         let n = stepsIn (h .taken) in
-        let s : h .saved ≡ savedWords (after t q n .state) = run-kept .saved ∙ ap (λ l. savedWords (after t q (stepsIn l) .state)) all-taken in
+        let s : h .saved ≡ savedWords (v .number) (after t q n .state) =
+        run-kept .saved ∙ ap (λ l. savedWords (v .number) (after t q (stepsIn l) .state)) all-taken in
         record {
           steps = n;
           made = made;
-          going = λ e. f (u .state-count ∙ ap length (s ∙ ap savedWords e));
+          going = λ e. f (u .state-count ∙ ap length (s ∙ ap (savedWords (v .number)) e));
           state-words = u .state-words ∙ s;
           state-count = u .state-count ∙ ap length s;
         }
 
     pub pauses : ¬ (saved ≡ 0) → (quantum room : ℕ) → Turns t plan quantum room count (stepsIn (h .taken))
-        → Pauses keep t plan quantum count room before state kept saved used
+        → Pauses keep v plan quantum count room before state kept saved used
     unfolding stands stepsIn
     pauses f quantum room made = record { stands = stands f quantum room made; list = holds }
 

@@ -15,6 +15,7 @@ use Rattle.tables.specs.Tables.{Tables}
 use Rattle.plans.specs.Endings.{Ending, rows, top, group}
 use Rattle.plans.specs.Plans.{Plan, planOf}
 use Rattle.steps.specs.Steps.{after}
+use Rattle.turns.specs.Surveys.{Survey}
 use Rattle.turns.specs.Turns.{isDone, TurnInput, turnOf}
 use Rattle.merges.specs.Merging.{MergeInput, MergeResult, mergeOf}
 use Rattle.merges.proofs.Refusals as refusals
@@ -41,7 +42,11 @@ merged-kept : (keep : Keeping) (e : Ending) → isRows e ≡ false → keeps kee
 merged-kept All e f = refl
 merged-kept Merged e f = ap not f
 
-module _ (keep : Keeping) (t : Tables) (plan : List ℕ) (a : Accepted t plan) (first : Phone) (k : Kept t (planOf plan) first) (before : List ℕ) where
+module _ (keep : Keeping) (v : Survey) (plan : List ℕ) (a : Accepted (v .tables) plan) (first : Phone)
+    (k : Kept v (planOf plan) first) (before : List ℕ) where
+  abbrev t : Tables
+  t = v .tables
+
   abbrev q : Plan
   q = planOf plan
 
@@ -56,12 +61,12 @@ module _ (keep : Keeping) (t : Tables) (plan : List ℕ) (a : Accepted t plan) (
   none-kept f list = rw f
 
   module _ (quantum count : ℕ) (output state : List ℕ) (saved : ℕ) (kept : List ℕ) (used : ℕ)
-      (g : Going keep t plan first before quantum (length output) count state saved kept used) where
-    abbrev u : UnderWay keep t plan first before count state saved kept used
+      (g : Going keep v plan first before quantum (length output) count state saved kept used) where
+    abbrev u : UnderWay keep v plan first before count state saved kept used
     u = g .under
 
     abbrev i : TurnInput
-    i = record { tables = t; plan = plan; state = state; given = saved; quantum = quantum; threshold = []; output = output }
+    i = record { survey = v; plan = plan; state = state; given = saved; quantum = quantum; threshold = []; output = output }
 
     -- the steps of the lists taken so far
     abbrev n : ℕ
@@ -79,25 +84,25 @@ module _ (keep : Keeping) (t : Tables) (plan : List ℕ) (a : Accepted t plan) (
     -- what the list's taking comes to, by its answer
     abbrev pub TakenAs : List ℕ → Written → Type 0
     TakenAs left (written.Words words) =
-        (v : UnderWay keep t plan first before (count + 1) (turnOf i .state) (turnOf i .answer .saved) left words)
+        (v : UnderWay keep v plan first before (count + 1) (turnOf i .state) (turnOf i .answer .saved) left words)
         × (doneIn (servedIn (v .held)) ≡ isDone (turnOf i .answer .ending))
         × (stepsIn (v .held .taken) ≡ n + x .steps)
     TakenAs left (written.Refused y) = (left ≡ kept) × Cause keep t plan quantum (length output) before n y
 
     module _ (served : isServed (turnOf i .answer .ending) ≡ true) where
       one-waits : turned .waiting ≡ x ∷ []
-      one-waits = advancing.one-waits keep t plan a first k before count state saved kept used u quantum output served
+      one-waits = advancing.one-waits keep v plan a first k before count state saved kept used u quantum output served
 
       kept-length : length kept ≡ length before
-      kept-length = advancing.kept-length keep t plan a first k before count state saved kept used u
+      kept-length = advancing.kept-length keep v plan a first k before count state saved kept used u
 
-      turned-keeps : Kept t q turned
-      turned-keeps = advancing.turned-keeps keep t plan a first k before count state saved kept used u quantum output served
+      turned-keeps : Kept v q turned
+      turned-keeps = advancing.turned-keeps keep v plan a first k before count state saved kept used u quantum output served
 
       -- the turn is one of the uncut run
       turn : Turn t plan quantum (length output) n (n + x .steps)
       turn =
-          let here = advancing.given-state keep t plan a first k before count state saved kept used u quantum output (g .alive) in
+          let here = advancing.given-state keep v plan a first k before count state saved kept used u quantum output (g .alive) in
           turn-made i a n (here .0) (here .1) (here .2) refl (is-served i served)
 
       pub made-more : Turns t plan quantum (length output) (count + 1) (n + x .steps)
@@ -113,7 +118,7 @@ module _ (keep : Keeping) (t : Tables) (plan : List ℕ) (a : Accepted t plan) (
         abbrev both : List ℕ
         both = u .held .kept ++ x .list
 
-        joins-made : happens t plan turned joins ≡ afterTaking turned x [] both
+        joins-made : happens v plan turned joins ≡ afterTaking turned x [] both
         unfolding happens
         joins-made = ap (afterJoining plan turned) one-waits ∙ ap (λ d. afterJoin d turned x []) e
 
@@ -125,7 +130,7 @@ module _ (keep : Keeping) (t : Tables) (plan : List ℕ) (a : Accepted t plan) (
         -- the rows of both are the uncut run's up to the end of the turn
         run-length : length both ≡ length (keptAfter t q (n + x .steps))
         run-length =
-            ap length (advancing.now-list keep t plan a first k before count state saved kept used u quantum output served joins tt both joins-made)
+            ap length (advancing.now-list keep v plan a first k before count state saved kept used u quantum output served joins tt both joins-made)
 
         rows-fit : runFits (q .ending) (after t q (n + x .steps)) ≡ true
         rows-fit = ap (λ d. runFits d (after t q (n + x .steps))) e
@@ -134,7 +139,7 @@ module _ (keep : Keeping) (t : Tables) (plan : List ℕ) (a : Accepted t plan) (
         joined-goes : (new : List ℕ) (words : ℕ) → new ≡ over (part both) kept → words ≡ length (part both) → words ≤ length kept
             → TakenAs new (written.Words words)
         joined-goes new words whole counted room =
-            advancing.goes-on keep t plan a first k before count state saved kept used u quantum output served joins tt both joins-made rows-fit
+            advancing.goes-on keep v plan a first k before count state saved kept used u quantum output served joins tt both joins-made rows-fit
             new words whole counted room (g .alive)
 
         module _ (f : keeps keep (q .ending) ≡ true) where
@@ -150,7 +155,7 @@ module _ (keep : Keeping) (t : Tables) (plan : List ℕ) (a : Accepted t plan) (
                 left-list f 14 (no-room rows-fit (omega (arith, run-length, both-length, kept-length, short))),
               )
           by-join true l =
-              let front = advancing.kept-front keep t plan a first k before count state saved kept used u ∙ all-kept f (u .held .kept) in
+              let front = advancing.kept-front keep v plan a first k before count state saved kept used u ∙ all-kept f (u .held .kept) in
               let all = sym (all-kept f both) in
               rw l
               (joined-goes (over (take used kept ++ x .list) kept) (used + length (x .list))
@@ -181,7 +186,7 @@ module _ (keep : Keeping) (t : Tables) (plan : List ℕ) (a : Accepted t plan) (
         kept-whole : u .held .kept ++ drop used kept ≡ kept
         kept-whole =
             ap (λ l. l ++ drop used kept) (sym (kept-all (u .held .kept)))
-            ∙ advancing.kept-whole keep t plan a first k before count state saved kept used u
+            ∙ advancing.kept-whole keep v plan a first k before count state saved kept used u
 
         same-input : mergeInputOf plan turned (drop used kept) x ≡ j
         same-input = ap₂ (λ l g. record { plan = plan; kept = l; given = g; list = x .list }) kept-whole
@@ -191,7 +196,7 @@ module _ (keep : Keeping) (t : Tables) (plan : List ℕ) (a : Accepted t plan) (
         merged-is = ap₂ (λ b d. cond b (cond d (rowsTaken keep kept used (x .list)) (mergeOf j)) (leftAsIs kept used)) served not-rows
 
         merges-made : (words : ℕ) → mergeOf j .answer ≡ written.Words words
-            → happens t plan turned (merges (drop used kept)) ≡ afterTaking turned x [] (take words (mergeOf j .kept))
+            → happens v plan turned (merges (drop used kept)) ≡ afterTaking turned x [] (take words (mergeOf j .kept))
         unfolding happens
         merges-made words e =
             ap (afterMerging plan turned (drop used kept)) one-waits
@@ -201,7 +206,7 @@ module _ (keep : Keeping) (t : Tables) (plan : List ℕ) (a : Accepted t plan) (
         not-taken-for : (y : ℕ) → mergeOf j .answer ≡ written.Refused y → NotTaken t q (n + x .steps) (length before) y
         not-taken-for y e =
             subst (λ l. NotTaken t q (n + x .steps) l y) (ap length kept-whole ∙ kept-length)
-            (merging.merge-refused t plan a turned turned-keeps others x [] one-waits (drop used kept) y (ap (λ d. mergeOf d .answer) same-input ∙ e))
+            (merging.merge-refused v plan a turned turned-keeps others x [] one-waits (drop used kept) y (ap (λ d. mergeOf d .answer) same-input ∙ e))
 
         by-answer : (w : Written) → mergeOf j .answer ≡ w → TakenAs (mergeOf j .kept) w
         by-answer (written.Refused y) e = (
@@ -212,11 +217,11 @@ module _ (keep : Keeping) (t : Tables) (plan : List ℕ) (a : Accepted t plan) (
             let w = merge-writes j (λ y f. let z : _≡_ {A = ℕ} 0 1 = cc in omega arith) in
             let count-is : wordsIn (mergeOf j .answer) ≡ words = ap wordsIn e in
             let list = take words (mergeOf j .kept) in
-            let fits = merging.merge-fits t plan a turned turned-keeps others x [] one-waits (drop used kept) words
+            let fits = merging.merge-fits v plan a turned turned-keeps others x [] one-waits (drop used kept) words
             (ap (λ d. mergeOf d .answer) same-input ∙ e) in
             let front : list ≡ _ = ap (λ d. take d (mergeOf j .kept)) (sym count-is) ∙ w .kept .front in
             let all = sym (kept-all list) in
-            advancing.goes-on keep t plan a first k before count state saved kept used u quantum output served (merges (drop used kept)) tt list
+            advancing.goes-on keep v plan a first k before count state saved kept used u quantum output served (merges (drop used kept)) tt list
             (merges-made words e) fits (mergeOf j .kept) words (w .kept .whole ∙ ap (λ l. over l kept) (sym front ∙ all))
             (sym count-is ∙ w .kept .counted ∙ ap length (sym front ∙ all)) (omega (arith, w .room, count-is)) (g .alive)
 

@@ -43,10 +43,11 @@ row-more t q s u m e b v d =
     ap (λ (r : Run). r .delivered) (from-add t q s u m 1 e)
     ∙ ap (λ (r : Run). runFrom t q s m .delivered ++ r .delivered) (first-delivers t q u 0 b v d)
 
-module _ (i : TurnInput) (a : Accepted (i .tables) (i .plan)) (n : ℕ) (s : State) (passes : after (i .tables) (givenPlan i) n .state ≡ some s)
-    (words : givenState i ≡ stateWords s) (none-sent : i .threshold ≡ []) (serve : Served i) where
+module _ (i : TurnInput) (a : Accepted (i .survey .tables) (i .plan)) (n : ℕ) (s : State)
+    (passes : after (i .survey .tables) (givenPlan i) n .state ≡ some s) (words : givenState i ≡ stateWords (i .survey .number) s)
+    (none-sent : i .threshold ≡ []) (serve : Served i) where
   abbrev t : Tables
-  t = i .tables
+  t = i .survey .tables
 
   abbrev q : Plan
   q = givenPlan i
@@ -55,7 +56,7 @@ module _ (i : TurnInput) (a : Accepted (i .tables) (i .plan)) (n : ℕ) (s : Sta
   m = turnOf i .answer .steps
 
   start : stateIn (givenState i) ≡ s
-  start = ap stateIn words ∙ loads-back t (i .plan) q (a .tables) (a .read) n s passes
+  start = ap stateIn words ∙ loads-back t (i .plan) q (a .tables) (a .read) (i .survey .number) n s passes
 
   state-is : (d : ℕ) → after t q (n + d) .state ≡ givenRun i d .state
   state-is d = after-state t q n d s passes ∙ sym (ap (λ u. runFrom t q u d .state) start)

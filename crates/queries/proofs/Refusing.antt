@@ -15,7 +15,7 @@ use Rattle.words.proofs.Testing.{none-some, some-injective, fails-first, all-pa
 use Rattle.tables.specs.Tables.{Tables, tableTests}
 use Rattle.plans.specs.Endings.{Ending}
 use Rattle.plans.specs.Plans.{hasForm, planTests}
-use Rattle.steps.specs.Saved.{leastStateWords, shapeRight, placesRight}
+use Rattle.steps.specs.Saved.{leastStateWords, shapeRight, surveyRight, placesRight}
 use Rattle.lists.specs.Gathering.{leastOutput, thresholdRight}
 use Rattle.turns.specs.declared.TurnEnding.the-variants.{Refused}
 use Rattle.turns.specs.Turns.{TurnInput, givenState, givenPlan, ownTests, turnTests, mostSteps, turnOf}
@@ -29,15 +29,16 @@ use Rattle.queries.specs.declared.Keeping.{Keeping}
 use Rattle.queries.specs.Playing.{InLimits, Turns, none-made, one-more, Cause, output-short, quantum-wrong, list-left}
 
 -- where the tests on the state and the threshold pass, 7 or 8 fails first
-seven-or-eight : (a b c d e : Bool) (y : ℕ) → c ≡ true → d ≡ true → e ≡ true
-    → cond a (cond b (cond c (cond d (cond e none (some 11)) (some 10)) (some 9)) (some 8)) (some 7) ≡ some y
+seven-or-eight : (a b c s d e : Bool) (y : ℕ) → c ≡ true → s ≡ true → d ≡ true → e ≡ true
+    → cond a (cond b (cond c (cond s (cond d (cond e none (some 11)) (some 10)) (some 22)) (some 9)) (some 8)) (some 7) ≡ some y
     → ((y ≡ 7) × (a ≡ false)) ⊎ ((y ≡ 8) × (a ≡ true) × (b ≡ false))
-seven-or-eight true true true true true y p q r h = absurd (none-some h)
-seven-or-eight true true true true false y p q r h = absurd-true r refl
-seven-or-eight true true true false e y p q r h = absurd-true q refl
-seven-or-eight true true false d e y p q r h = absurd-true p refl
-seven-or-eight true false c d e y p q r h = inr (sym (some-injective h), refl, refl)
-seven-or-eight false b c d e y p q r h = inl (sym (some-injective h), refl)
+seven-or-eight true true true true true true y p n q r h = absurd (none-some h)
+seven-or-eight true true true true true false y p n q r h = absurd-true r refl
+seven-or-eight true true true true false e y p n q r h = absurd-true q refl
+seven-or-eight true true true false d e y p n q r h = absurd-true n refl
+seven-or-eight true true false s d e y p n q r h = absurd-true p refl
+seven-or-eight true false c s d e y p n q r h = inr (sym (some-injective h), refl, refl)
+seven-or-eight false b c s d e y p n q r h = inl (sym (some-injective h), refl)
 
 -- the second of two tests fails where the first passes
 second-fails : (a b : Bool) → a ≡ true → a && b ≡ false → b ≡ false
@@ -49,10 +50,10 @@ unfolding thresholdRight
 empty-right e = refl
 
 -- a turn with no threshold, from a state that the uncut run passes through, with room for a state
-module _ (i : TurnInput) (a : Accepted (i .tables) (i .plan)) (p : Passed i) (room : leastStateWords ≤ length (i .state))
+module _ (i : TurnInput) (a : Accepted (i .survey .tables) (i .plan)) (p : Passed i) (room : leastStateWords ≤ length (i .state))
     (none-sent : i .threshold ≡ []) (keep : Keeping) (before : List ℕ) (steps : ℕ) where
   abbrev Caused : ℕ → Type 0
-  Caused y = Cause keep (i .tables) (i .plan) (i .quantum) (length (i .output)) before steps y
+  Caused y = Cause keep (i .survey .tables) (i .plan) (i .quantum) (length (i .output)) before steps y
 
   early : firstFailing (planTests (i .plan)) ≡ none
   early = all-passes (planTests (i .plan)) (ap hasForm (a .read), (a .variables, tt))
@@ -62,7 +63,7 @@ module _ (i : TurnInput) (a : Accepted (i .tables) (i .plan)) (p : Passed i) (ro
       sym (ap (λ o. orElse o (firstFailing (ownTests i))) early)
       ∙ sym (first-append (planTests (i .plan)) (ownTests i))
       ∙ sym (ap (λ o. orElse o (firstFailing (planTests (i .plan) ++ ownTests i))) (a .tables))
-      ∙ sym (first-append (tableTests (i .tables)) (planTests (i .plan) ++ ownTests i))
+      ∙ sym (first-append (tableTests (i .survey .tables)) (planTests (i .plan) ++ ownTests i))
       ∙ fails-first y (turnTests i) (turn-refusals i .refused y .0 e)
 
   short : leb leastStateWords (length (i .state)) && leb (leastOutput (givenPlan i .ending)) (length (i .output)) ≡ false → Caused 7
@@ -82,8 +83,9 @@ module _ (i : TurnInput) (a : Accepted (i .tables) (i .plan)) (p : Passed i) (ro
       elim (seven-or-eight (leb leastStateWords (length (i .state)) && leb (leastOutput (givenPlan i .ending)) (length (i .output)))
       (leb 1 (i .quantum) && leb (i .quantum) mostSteps)
       (leb (i .given) (length (i .state)) && shapeRight (givenPlan i) (givenState i))
-      (placesRight (i .tables) (givenPlan i) (givenState i)) (thresholdRight (givenPlan i .ending) (i .threshold)) y
-      (accepted-when-passed i a .1 p .0) (accepted-when-passed i a .1 p .1)
+      (surveyRight (i .survey .number) (givenState i)) (placesRight (i .survey .tables) (givenPlan i) (givenState i))
+      (thresholdRight (givenPlan i .ending) (i .threshold)) y
+      (accepted-when-passed i a .1 p .0) (accepted-when-passed i a .1 p .1) (accepted-when-passed i a .1 p .2)
       (ap (thresholdRight (givenPlan i .ending)) none-sent ∙ empty-right (givenPlan i .ending)) (late y e)) [
         | inl x ↦ subst Caused (sym (x .0)) (short (x .1))
         | inr x ↦ subst Caused (sym (x .0)) (wrong (x .1) (x .2))

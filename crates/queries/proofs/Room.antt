@@ -13,6 +13,7 @@ use Rattle.cuts.specs.Accepting.{Accepted}
 use Rattle.cuts.proofs.Accepting.{opening-accepts, accepted-form}
 use Rattle.cuts.proofs.Chains.{kept-some}
 use Rattle.cuts.proofs.AnyCut.{end-later}
+use Rattle.turns.specs.Surveys.{Survey}
 use Rattle.turns.specs.Opening.{Opens}
 use Rattle.queries.specs.declared.Keeping.{Keeping}
 use Rattle.queries.specs.Playing.{listAfter, Cause, output-short, quantum-wrong, list-left, Stops}
@@ -27,7 +28,7 @@ module _ (t : Tables) (plan : List ℕ) (a : Accepted t plan) where
   whole-longest n e m =
       elim (decLt n m) [
         | yes f ↦ let same = runs.done-later t q n m (omega arith) (e .over) in
-            let first = kept-some t q (accepted-form t plan a .ending) n (end-later t plan a n e) in
+            let first = kept-some t q (accepted-form t plan a .ending) n (end-later t q n e) in
             let later = kept-some t q (accepted-form t plan a .ending) m (omega arith) in
             omega (arith, ap length first, ap length later, ap (λ r. length (runList (q .ending) r)) same)
         | no f ↦ let d : n ≡ m + (n - m) = omega arith in
@@ -35,13 +36,13 @@ module _ (t : Tables) (plan : List ℕ) (a : Accepted t plan) where
       ]
 
 -- a play that was opened, over a kept buffer with room for the whole list of the uncut run, is stopped by no 14
-pub room-enough : (keep : Keeping) (t : Tables) (plan state : List ℕ) → Opens t plan state → (n : ℕ) → EndsAt t (planOf plan) n
-    → (quantum most room : ℕ) (before kept : List ℕ) → length (listAfter t plan n) ≤ length before
-    → (x : ℕ) → Stops keep t plan quantum most room before kept x → ¬ (x ≡ 14)
-room-enough keep t plan state o n ends quantum most room before kept fits x s = go x (s .cause)
+pub room-enough : (keep : Keeping) (v : Survey) (plan state : List ℕ) → Opens v plan state → (n : ℕ) → EndsAt (v .tables) (planOf plan) n
+    → (quantum most room : ℕ) (before kept : List ℕ) → length (listAfter (v .tables) plan n) ≤ length before
+    → (x : ℕ) → Stops keep (v .tables) plan quantum most room before kept x → ¬ (x ≡ 14)
+room-enough keep v plan state o n ends quantum most room before kept fits x s = go x (s .cause)
   where
-    go : (y : ℕ) → Cause keep t plan quantum room before (s .steps) y → ¬ (y ≡ 14)
+    go : (y : ℕ) → Cause keep (v .tables) plan quantum room before (s .steps) y → ¬ (y ≡ 14)
     go y (output-short l) e = omega arith
     go y (quantum-wrong l f) e = omega arith
     go y (list-left c m f z (totals-pass p)) e = omega arith
-    go y (list-left c m f z (no-room p l)) e = omega (arith, whole-longest t plan (opening-accepts t plan state o) n ends m)
+    go y (list-left c m f z (no-room p l)) e = omega (arith, whole-longest (v .tables) plan (opening-accepts v plan state o) n ends m)

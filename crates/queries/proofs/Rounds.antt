@@ -8,8 +8,8 @@ use Rattle.words.specs.declared.Written.{Written}
 use Rattle.words.specs.declared.Written.the-variants as written
 use Rattle.words.specs.Sequences.{iterate}
 use Rattle.words.proofs.Iterating.{iterate-add, iterate-fixed}
-use Rattle.tables.specs.Tables.{Tables}
 use Rattle.plans.specs.Plans.{planOf}
+use Rattle.turns.specs.Surveys.{Survey}
 use Rattle.turns.specs.Opening.{openOf}
 use Rattle.turns.specs.Turns.{TurnInput, givenPlan}
 use Rattle.queries.specs.declared.Keeping.{Keeping}
@@ -29,26 +29,26 @@ pub advanced-by : (s : Step) (state out kept : List ℕ) (z : Stepped) → recor
 advanced-by s state out kept z e w f =
     ap (λ v. record { went = v; held = record { state = state; output = out; kept = kept } }) f ∙ ap advanced e
 
-module _ (keep : Keeping) (t : Tables) (plan : List ℕ) (quantum : ℕ) (p : Position) where
+module _ (keep : Keeping) (v : Survey) (plan : List ℕ) (quantum : ℕ) (p : Position) where
   abbrev at : ℕ → Position
-  at n = rounds keep t plan quantum n p
+  at n = rounds keep v plan quantum n p
 
   pub rounds-none : at 0 ≡ p
   unfolding rounds iterate
   rounds-none = refl
 
-  rounds-more : (n : ℕ) → at (n + 1) ≡ round keep t plan quantum (at n)
+  rounds-more : (n : ℕ) → at (n + 1) ≡ round keep v plan quantum (at n)
   unfolding rounds iterate
-  rounds-more n = iterate-add (round keep t plan quantum) n 1 p
+  rounds-more n = iterate-add (round keep v plan quantum) n 1 p
 
   -- a query that goes on makes one turn more
   module _ (n saved used : ℕ) (l : Lent) (e : at n ≡ record { went = On saved used; held = l }) where
-    pub rounds-on : at (n + 1) ≡ advanced (takeTurnOf keep (roundInput t plan quantum saved l) (l .kept) used)
+    pub rounds-on : at (n + 1) ≡ advanced (takeTurnOf keep (roundInput v plan quantum saved l) (l .kept) used)
     unfolding round
-    rounds-on = rounds-more n ∙ ap (round keep t plan quantum) e
+    rounds-on = rounds-more n ∙ ap (round keep v plan quantum) e
 
     -- by what it answers and leaves
-    pub rounds-next : (w : Went) (m : Lent) → record { went = w; held = m } ≡ advanced (takeTurnOf keep (roundInput t plan quantum saved l) (l .kept) used)
+    pub rounds-next : (w : Went) (m : Lent) → record { went = w; held = m } ≡ advanced (takeTurnOf keep (roundInput v plan quantum saved l) (l .kept) used)
         → (v : Went) → w ≡ v → at (n + 1) ≡ record { went = v; held = m }
     rounds-next w m f v g = rounds-on ∙ sym f ∙ ap (λ u. record { went = u; held = m }) g
 
@@ -57,14 +57,14 @@ module _ (keep : Keeping) (t : Tables) (plan : List ℕ) (quantum : ℕ) (p : Po
   rounds-made n most d q e = ap at (sym d) ∙ e
 
   -- one that makes no more turns stays as it is
-  rounds-stay : (n most : ℕ) → n ≤ most → (q : Position) → at n ≡ q → round keep t plan quantum q ≡ q → at most ≡ q
+  rounds-stay : (n most : ℕ) → n ≤ most → (q : Position) → at n ≡ q → round keep v plan quantum q ≡ q → at most ≡ q
   unfolding rounds
   rounds-stay n most l q e f =
       let d : most ≡ n + (most - n) = omega arith in
       ap at d
-      ∙ iterate-add (round keep t plan quantum) n (most - n) p
-      ∙ ap (iterate (round keep t plan quantum) (most - n)) e
-      ∙ iterate-fixed (round keep t plan quantum) (most - n) q f
+      ∙ iterate-add (round keep v plan quantum) n (most - n) p
+      ∙ ap (iterate (round keep v plan quantum) (most - n)) e
+      ∙ iterate-fixed (round keep v plan quantum) (most - n) q f
 
   pub rounds-over : (n most : ℕ) → n ≤ most → (words : ℕ) (l : Lent) → at n ≡ record { went = Over words; held = l }
       → at most ≡ record { went = Over words; held = l }
@@ -77,21 +77,21 @@ module _ (keep : Keeping) (t : Tables) (plan : List ℕ) (quantum : ℕ) (p : Po
   rounds-stopped n most f x l e = rounds-stay n most f (record { went = Stopped x; held = l }) e refl
 
 -- ---- a play, from what its opening answers and leaves
-module _ (keep : Keeping) (t : Tables) (plan : List ℕ) (quantum most : ℕ) (lent : Lent) (w : Written) (state : List ℕ)
-    (answer : w ≡ openOf t plan (lent .state) .answer) (left : state ≡ openOf t plan (lent .state) .state) where
+module _ (keep : Keeping) (v : Survey) (plan : List ℕ) (quantum most : ℕ) (lent : Lent) (w : Written) (state : List ℕ)
+    (answer : w ≡ openOf v plan (lent .state) .answer) (left : state ≡ openOf v plan (lent .state) .state) where
   abbrev opened : Lent
   opened = record { state = state; output = lent .output; kept = lent .kept }
 
-  played-as : (v : Written) → w ≡ v → playedAs keep t plan quantum most v opened ≡ playOf keep t plan quantum most lent
+  played-as : (x : Written) → w ≡ x → playedAs keep v plan quantum most x opened ≡ playOf keep v plan quantum most lent
   unfolding playOf
-  played-as v e =
-      ap₂ (λ z s. playedAs keep t plan quantum most z (record { state = s; output = lent .output; kept = lent .kept })) (sym e ∙ answer) left
+  played-as x e =
+      ap₂ (λ z s. playedAs keep v plan quantum most z (record { state = s; output = lent .output; kept = lent .kept })) (sym e ∙ answer) left
 
-  pub play-refused : (x : ℕ) → w ≡ written.Refused x → record { answer = Refused x; held = opened } ≡ playOf keep t plan quantum most lent
+  pub play-refused : (x : ℕ) → w ≡ written.Refused x → record { answer = Refused x; held = opened } ≡ playOf keep v plan quantum most lent
   play-refused x e = played-as (written.Refused x) e
 
-  pub play-opened : (n : ℕ) → w ≡ written.Words n → (r : PlayResult) → r ≡ resultAt (rounds keep t plan quantum most (firstPosition n opened))
-      → r ≡ playOf keep t plan quantum most lent
+  pub play-opened : (n : ℕ) → w ≡ written.Words n → (r : PlayResult) → r ≡ resultAt (rounds keep v plan quantum most (firstPosition n opened))
+      → r ≡ playOf keep v plan quantum most lent
   play-opened n e r f = f ∙ played-as (written.Words n) e
 
 -- ---- a query whose lists are merged is played alike, whichever lists are kept
@@ -105,16 +105,16 @@ unfolding iterate
 iterate-same f g h zero p = refl
 iterate-same f g h (suc n) p = h (iterate f n p) ∙ ap g (iterate-same f g h n p)
 
-module _ (t : Tables) (plan : List ℕ) (quantum : ℕ) (h : isRows (planOf plan .ending) ≡ false) where
-  round-as : (w : Went) (l : Lent) → roundAs All t plan quantum w l ≡ roundAs Merged t plan quantum w l
-  round-as (On saved used) l = ap advanced (same-turn (roundInput t plan quantum saved l) (l .kept) used h)
+module _ (v : Survey) (plan : List ℕ) (quantum : ℕ) (h : isRows (planOf plan .ending) ≡ false) where
+  round-as : (w : Went) (l : Lent) → roundAs All v plan quantum w l ≡ roundAs Merged v plan quantum w l
+  round-as (On saved used) l = ap advanced (same-turn (roundInput v plan quantum saved l) (l .kept) used h)
   round-as (Over words) l = refl
   round-as (Stopped x) l = refl
 
-  same-round : (p : Position) → round All t plan quantum p ≡ round Merged t plan quantum p
+  same-round : (p : Position) → round All v plan quantum p ≡ round Merged v plan quantum p
   unfolding round
   same-round p = round-as (p .went) (p .held)
 
-  pub same-rounds : (most : ℕ) (p : Position) → rounds All t plan quantum most p ≡ rounds Merged t plan quantum most p
+  pub same-rounds : (most : ℕ) (p : Position) → rounds All v plan quantum most p ≡ rounds Merged v plan quantum most p
   unfolding rounds
-  same-rounds most p = iterate-same (round All t plan quantum) (round Merged t plan quantum) same-round most p
+  same-rounds most p = iterate-same (round All v plan quantum) (round Merged v plan quantum) same-round most p

@@ -34,13 +34,13 @@ some-state none f = absurd (f refl)
 some-state (some s) f = (s, refl)
 
 -- a turn from where a query stands, with no threshold
-pub shows : (i : TurnInput) → Accepted (i .tables) (i .plan) → i .threshold ≡ [] → (count : ℕ)
-    → StandsAfter (i .tables) (i .plan) (i .quantum) (length (i .output)) count (i .state) (i .given) → isServed (turnOf i .answer .ending) ≡ true
-    → Shows (i .tables) (i .plan) (i .quantum) (length (i .output)) (count + 1) (turnOf i .answer) (outputList (turnOf i))
+pub shows : (i : TurnInput) → Accepted (i .survey .tables) (i .plan) → i .threshold ≡ [] → (count : ℕ)
+    → StandsAfter (i .survey) (i .plan) (i .quantum) (length (i .output)) count (i .state) (i .given) → isServed (turnOf i .answer .ending) ≡ true
+    → Shows (i .survey .tables) (i .plan) (i .quantum) (length (i .output)) (count + 1) (turnOf i .answer) (outputList (turnOf i))
 shows i a none-sent count s served =
     let n = s .steps in
-    let here = some-state (after (i .tables) (givenPlan i) n .state) (s .going) in
-    let words = s .state-words ∙ ap savedWords (here .1) in
+    let here = some-state (after (i .survey .tables) (givenPlan i) n .state) (s .going) in
+    let words = s .state-words ∙ ap (savedWords (i .survey .number)) (here .1) in
     let serve = is-served i served in
     record {
       count = count;

@@ -5,13 +5,13 @@ use mathlib.Core.Path.{_≡_, refl, sym, _∙_, ap, ap₂, subst⁻¹}
 use mathlib.Core.Bool.{Bool, true, false, cond}
 use mathlib.Core.List.{List, []}
 use lib.ListN.{length, take}
-use borrow.Author.Tests.{leb-true}
+use borrow.Author.Tests.{ltb-true, leb-true}
 use Rattle.words.specs.declared.Written.{Written}
 use Rattle.words.specs.declared.Written.the-variants as written
+use Rattle.words.specs.Words.{lowNumbers}
 use Rattle.words.specs.Answers.{wordsIn}
 use Rattle.words.specs.Sequences.{all, over}
 use Rattle.words.proofs.Buffers.{length-over}
-use Rattle.tables.specs.Tables.{Tables}
 use Rattle.plans.specs.Endings.{Ending, rows, top, group}
 use Rattle.plans.specs.Plans.{planOf}
 use Rattle.steps.specs.Steps.{Run, after}
@@ -19,6 +19,7 @@ use Rattle.steps.specs.Saved.{savedWords, leastStateWords}
 use Rattle.steps.proofs.Runs.{after-none}
 use Rattle.lists.specs.Groups.{addAllBy, groupsOf}
 use Rattle.lists.specs.Gathering.{groupFits}
+use Rattle.turns.specs.Surveys.{Survey}
 use Rattle.turns.specs.Opening.{openOf, Opens}
 use Rattle.turns.proofs.Refusals.{open-refusals, open-passed}
 use Rattle.turns.proofs.Follows.{starts-run}
@@ -45,23 +46,24 @@ none-of : (b : Bool) → cond {A = List ℕ} b [] [] ≡ []
 none-of true = refl
 none-of false = refl
 
-module _ (t : Tables) (plan state : List ℕ) (saved : ℕ) (s : Started t plan state saved) where
-  pub start-accepts : Accepted t plan
-  start-accepts = opening-accepts t plan (s .lent) (s .opens)
+module _ (v : Survey) (plan state : List ℕ) (saved : ℕ) (s : Started v plan state saved) where
+  pub start-accepts : Accepted (v .tables) plan
+  start-accepts = opening-accepts v plan (s .lent) (s .opens)
 
-  same-start : startAt state saved ≡ fresh (openOf t plan (s .lent))
+  same-start : startAt state saved ≡ fresh (openOf v plan (s .lent))
   same-start = ap₂ startAt (s .left) (s .counted)
 
-  pub start-keeps : Kept t (planOf plan) (startAt state saved)
-  start-keeps = subst⁻¹ (Kept t (planOf plan)) same-start (fresh-keeps t plan start-accepts (s .lent) (s .opens))
+  pub start-keeps : Kept v (planOf plan) (startAt state saved)
+  start-keeps = subst⁻¹ (Kept v (planOf plan)) same-start (fresh-keeps v plan start-accepts (s .lent) (s .opens))
 
-  starts : (keep : Keeping) (kept : List ℕ) → UnderWay keep t plan (startAt state saved) kept 0 state saved kept 0
+  starts : (keep : Keeping) (kept : List ℕ) → UnderWay keep v plan (startAt state saved) kept 0 state saved kept 0
   unfolding history stepsIn
   starts keep kept =
-      let r = starts-run t plan (s .lent) (s .opens) in
-      let l = leb-true leastStateWords (length (s .lent)) (open-passed t plan (s .lent) 7 (s .opens)) in
-      let n = length-over (savedWords (after t (planOf plan) 0 .state)) (s .lent) (omega (arith, r .room, r .buffer .counted)) in
+      let r = starts-run v plan (s .lent) (s .opens) in
+      let l = leb-true leastStateWords (length (s .lent)) (open-passed v plan (s .lent) 7 (s .opens)) in
+      let n = length-over (savedWords (v .number) (after (v .tables) (planOf plan) 0 .state)) (s .lent) (omega (arith, r .room, r .buffer .counted)) in
       record {
+        few = ltb-true (v .number) lowNumbers (open-passed v plan (s .lent) 22 (s .opens));
         events = [];
         premises = tt;
         held = startAt state saved;
@@ -75,7 +77,7 @@ module _ (t : Tables) (plan state : List ℕ) (saved : ℕ) (s : Started t plan 
             ∙ ap length (sym (r .buffer .front))
             ∙ sym (ap₂ (λ n l. length (take n l)) (s .counted) (s .left));
         state-room = omega (arith, l, n, ap length (r .buffer .whole), ap length (s .left));
-        fits = no-rows-fit (planOf plan .ending) (after t (planOf plan) 0) (ap (λ (r : Run). r .delivered) (after-none t (planOf plan)));
+        fits = no-rows-fit (planOf plan .ending) (after (v .tables) (planOf plan) 0) (ap (λ (r : Run). r .delivered) (after-none (v .tables) (planOf plan)));
         list = sym (ap (λ l. over l kept) (nothing keep));
         words = sym (ap length (nothing keep));
         room = omega arith;
@@ -86,29 +88,29 @@ module _ (t : Tables) (plan state : List ℕ) (saved : ℕ) (s : Started t plan 
 
   start-alive : (keep : Keeping) (kept : List ℕ) → ¬ (saved ≡ 0)
   unfolding doneIn starts
-  start-alive keep kept = not-over keep t plan start-accepts (startAt state saved) start-keeps kept 0 state saved kept 0 (starts keep kept) refl
+  start-alive keep kept = not-over keep v plan start-accepts (startAt state saved) start-keeps kept 0 state saved kept 0 (starts keep kept) refl
 
-  pub start-goes : (keep : Keeping) (kept : List ℕ) (quantum room : ℕ) → Going keep t plan (startAt state saved) kept quantum room 0 state saved kept 0
+  pub start-goes : (keep : Keeping) (kept : List ℕ) (quantum room : ℕ) → Going keep v plan (startAt state saved) kept quantum room 0 state saved kept 0
   unfolding stepsIn starts
   start-goes keep kept quantum room = record { under = starts keep kept; alive = start-alive keep kept; made = none-made }
 
   -- where it stands, of what it leads to
   pub goes-stands : (keep : Keeping) (before : List ℕ) (quantum room count : ℕ) (now : List ℕ) (left : ℕ) (kept : List ℕ) (used : ℕ)
-      → Going keep t plan (startAt state saved) before quantum room count now left kept used → StandsAfter t plan quantum room count now left
+      → Going keep v plan (startAt state saved) before quantum room count now left kept used → StandsAfter v plan quantum room count now left
   goes-stands keep before quantum room count now left kept used g =
-      stands keep t plan start-accepts (startAt state saved) start-keeps before count now left kept used (g .under) (g .alive) quantum room (g .made)
+      stands keep v plan start-accepts (startAt state saved) start-keeps before count now left kept used (g .under) (g .alive) quantum room (g .made)
 
 -- ---- from the calls' answers
-module _ (t : Tables) (plan lent : List ℕ) (r : Written) (answer : r ≡ openOf t plan lent .answer) where
-  pub opens : (n : ℕ) → r ≡ written.Words n → Opens t plan lent
+module _ (v : Survey) (plan lent : List ℕ) (r : Written) (answer : r ≡ openOf v plan lent .answer) where
+  pub opens : (n : ℕ) → r ≡ written.Words n → Opens v plan lent
   opens n e x f = let z : _≡_ {A = ℕ} 0 1 = cc in omega arith
 
-  pub started : (state : List ℕ) → state ≡ openOf t plan lent .state → (n : ℕ) → r ≡ written.Words n → Started t plan state n
+  pub started : (state : List ℕ) → state ≡ openOf v plan lent .state → (n : ℕ) → r ≡ written.Words n → Started v plan state n
   started state left n e = record { lent = lent; opens = opens n e; left = left; counted = ap wordsIn (sym e ∙ answer) }
 
-  pub not-opened : (state output kept : List ℕ) → state ≡ openOf t plan lent .state → (x : ℕ) → r ≡ written.Refused x
-      → OpeningRefused t plan (record { state = lent; output = output; kept = kept }) (record { state = state; output = output; kept = kept }) x
+  pub not-opened : (state output kept : List ℕ) → state ≡ openOf v plan lent .state → (x : ℕ) → r ≡ written.Refused x
+      → OpeningRefused v plan (record { state = lent; output = output; kept = kept }) (record { state = state; output = output; kept = kept }) x
   not-opened state output kept left x e =
       let f = sym answer ∙ e in
-      let same = left ∙ open-refusals t plan lent .unchanged x f .buffer in
+      let same = left ∙ open-refusals v plan lent .unchanged x f .buffer in
       record { refused = f; unchanged = ap (λ l. record { state = l; output = output; kept = kept }) same }

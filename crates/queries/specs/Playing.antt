@@ -15,6 +15,7 @@ use Rattle.steps.specs.Steps.{after}
 use Rattle.steps.specs.Saved.{savedWords}
 use Rattle.lists.specs.Gathering.{leastOutput}
 use Rattle.lists.specs.Closing.{listAt}
+use Rattle.turns.specs.Surveys.{Survey}
 use Rattle.turns.specs.declared.TurnEnding.{TurnEnding}
 use Rattle.turns.specs.declared.TurnEnding.the-variants as ending
 use Rattle.turns.specs.declared.Turned.{Turned}
@@ -76,13 +77,13 @@ pub data Turns (t : Tables) (plan : List ℕ) (quantum room : ℕ) : ℕ → ℕ
   none-made : Turns t plan quantum room 0 0
   one-more : (count from to : ℕ) → Turns t plan quantum room count from → Turn t plan quantum room from to → Turns t plan quantum room (count + 1) to
 
--- where a query stands after so many turns: they are the uncut run's, and the saved words are its state after their steps
-pub record StandsAfter (t : Tables) (plan : List ℕ) (quantum room count : ℕ) (state : List ℕ) (saved : ℕ) : Type 0 where
+-- where a query stands after so many turns: they are the uncut run's, and the saved words are, under the survey's number, its state after their steps
+pub record StandsAfter (v : Survey) (plan : List ℕ) (quantum room count : ℕ) (state : List ℕ) (saved : ℕ) : Type 0 where
   pub steps : ℕ
-  pub made : Turns t plan quantum room count steps
-  pub going : ¬ (after t (planOf plan) steps .state ≡ none)
-  pub state-words : take saved state ≡ savedWords (after t (planOf plan) steps .state)
-  pub state-count : saved ≡ length (savedWords (after t (planOf plan) steps .state))
+  pub made : Turns (v .tables) plan quantum room count steps
+  pub going : ¬ (after (v .tables) (planOf plan) steps .state ≡ none)
+  pub state-words : take saved state ≡ savedWords (v .number) (after (v .tables) (planOf plan) steps .state)
+  pub state-count : saved ≡ length (savedWords (v .number) (after (v .tables) (planOf plan) steps .state))
 
 -- ---- the answers
 -- finished: the uncut run ends with one of the turns allowed, and of its whole list is kept what is to be
@@ -95,9 +96,9 @@ pub record Finishes (keep : Keeping) (t : Tables) (plan : List ℕ) (quantum mos
   pub list : Holds keep t plan steps before kept words
 
 -- not finished: the turns allowed were made, and what is kept is of the uncut run's list up to there
-pub record Pauses (keep : Keeping) (t : Tables) (plan : List ℕ) (quantum most room : ℕ) (before state kept : List ℕ) (saved words : ℕ) : Type 0 where
-  pub stands : StandsAfter t plan quantum room most state saved
-  pub list : Holds keep t plan (stands .steps) before kept words
+pub record Pauses (keep : Keeping) (v : Survey) (plan : List ℕ) (quantum most room : ℕ) (before state kept : List ℕ) (saved words : ℕ) : Type 0 where
+  pub stands : StandsAfter v plan quantum room most state saved
+  pub list : Holds keep (v .tables) plan (stands .steps) before kept words
 
 -- why a query that was opened is stopped, its lists taken up to so many steps. By a turn: for an output of so many words, else for the quantum.
 -- Where the list of the next turn is to be kept: for its totals, or for a kept buffer in which it has no room
@@ -120,30 +121,30 @@ pub record Stops (keep : Keeping) (t : Tables) (plan : List ℕ) (quantum most r
   pub list : Holds keep t plan steps before kept words
 
 -- what is left of a query that was opened, which is not refused
-abbrev pub Leaves : Keeping → Tables → List ℕ → ℕ → ℕ → ℕ → List ℕ → List ℕ → List ℕ → Played → Type 0
-Leaves keep t plan quantum most room before state kept (Finished words) = Finishes keep t plan quantum most room before kept words
-Leaves keep t plan quantum most room before state kept (Unfinished saved words) = Pauses keep t plan quantum most room before state kept saved words
-Leaves keep t plan quantum most room before state kept (Stopped x) = Stops keep t plan quantum most room before kept x
-Leaves keep t plan quantum most room before state kept (Refused x) = ⊥
+abbrev pub Leaves : Keeping → Survey → List ℕ → ℕ → ℕ → ℕ → List ℕ → List ℕ → List ℕ → Played → Type 0
+Leaves keep v plan quantum most room before state kept (Finished words) = Finishes keep (v .tables) plan quantum most room before kept words
+Leaves keep v plan quantum most room before state kept (Unfinished saved words) = Pauses keep v plan quantum most room before state kept saved words
+Leaves keep v plan quantum most room before state kept (Stopped x) = Stops keep (v .tables) plan quantum most room before kept x
+Leaves keep v plan quantum most room before state kept (Refused x) = ⊥
 
 -- the opening is refused by x, and every buffer is as it was
-pub record OpeningRefused (t : Tables) (plan : List ℕ) (before after : Lent) (x : ℕ) : Type 0 where
-  pub refused : openOf t plan (before .state) .answer ≡ written.Refused x
+pub record OpeningRefused (v : Survey) (plan : List ℕ) (before after : Lent) (x : ℕ) : Type 0 where
+  pub refused : openOf v plan (before .state) .answer ≡ written.Refused x
   pub unchanged : after ≡ before
 
-abbrev pub Plays : Keeping → Tables → List ℕ → ℕ → ℕ → Lent → Lent → Played → Type 0
-Plays keep t plan quantum most before after (Finished words) =
-    Opens t plan (before .state) × Finishes keep t plan quantum most (length (before .output)) (before .kept) (after .kept) words
-Plays keep t plan quantum most before after (Unfinished saved words) =
-    Opens t plan (before .state) × Pauses keep t plan quantum most (length (before .output)) (before .kept) (after .state) (after .kept) saved words
-Plays keep t plan quantum most before after (Stopped x) =
-    Opens t plan (before .state) × Stops keep t plan quantum most (length (before .output)) (before .kept) (after .kept) x
-Plays keep t plan quantum most before after (Refused x) = OpeningRefused t plan before after x
+abbrev pub Plays : Keeping → Survey → List ℕ → ℕ → ℕ → Lent → Lent → Played → Type 0
+Plays keep v plan quantum most before after (Finished words) =
+    Opens v plan (before .state) × Finishes keep (v .tables) plan quantum most (length (before .output)) (before .kept) (after .kept) words
+Plays keep v plan quantum most before after (Unfinished saved words) =
+    Opens v plan (before .state) × Pauses keep v plan quantum most (length (before .output)) (before .kept) (after .state) (after .kept) saved words
+Plays keep v plan quantum most before after (Stopped x) =
+    Opens v plan (before .state) × Stops keep (v .tables) plan quantum most (length (before .output)) (before .kept) (after .kept) x
+Plays keep v plan quantum most before after (Refused x) = OpeningRefused v plan before after x
 
 -- what a play refuses, for every input: it answers refused by x exactly where its opening does, and then every buffer is as it was
-pub record PlayRefusals (keep : Keeping) (t : Tables) (plan : List ℕ) (quantum most : ℕ) (lent : Lent) : Type 0 where
-  pub number : (x : ℕ) → (playOf keep t plan quantum most lent .answer ≡ Refused x) ↔ (openOf t plan (lent .state) .answer ≡ written.Refused x)
-  pub unchanged : (x : ℕ) → playOf keep t plan quantum most lent .answer ≡ Refused x → playOf keep t plan quantum most lent .held ≡ lent
+pub record PlayRefusals (keep : Keeping) (v : Survey) (plan : List ℕ) (quantum most : ℕ) (lent : Lent) : Type 0 where
+  pub number : (x : ℕ) → (playOf keep v plan quantum most lent .answer ≡ Refused x) ↔ (openOf v plan (lent .state) .answer ≡ written.Refused x)
+  pub unchanged : (x : ℕ) → playOf keep v plan quantum most lent .answer ≡ Refused x → playOf keep v plan quantum most lent .held ≡ lent
 
 -- ---- what is shown
 -- a turn's number, its answer and the list in its output are those of the uncut run's turn with that number
@@ -166,8 +167,8 @@ pub record IsWhole (keep : Keeping) (t : Tables) (plan list : List ℕ) : Type 0
 
 -- ---- the start
 -- the state buffer is as a served opening left it
-pub record Started (t : Tables) (plan state : List ℕ) (saved : ℕ) : Type 0 where
+pub record Started (v : Survey) (plan state : List ℕ) (saved : ℕ) : Type 0 where
   pub lent : List ℕ
-  pub opens : Opens t plan lent
-  pub left : state ≡ openOf t plan lent .state
-  pub counted : saved ≡ wordsIn (openOf t plan lent .answer)
+  pub opens : Opens v plan lent
+  pub left : state ≡ openOf v plan lent .state
+  pub counted : saved ≡ wordsIn (openOf v plan lent .answer)

@@ -5,7 +5,7 @@ use mathlib.Core.List.{List, []}
 use Rattle.words.specs.declared.Written.{Written}
 use Rattle.words.specs.declared.Written.the-variants as written
 use Rattle.words.specs.Sequences.{iterate}
-use Rattle.tables.specs.Tables.{Tables}
+use Rattle.turns.specs.Surveys.{Survey}
 use Rattle.turns.specs.Opening.{openOf}
 use Rattle.turns.specs.Turns.{TurnInput}
 use Rattle.queries.specs.declared.Keeping.{Keeping}
@@ -34,22 +34,22 @@ abbrev pub advanced : Stepped → Position
 advanced s = record { went = wentOf (s .answer); held = buffers (s .state) (s .output) (s .kept) }
 
 -- the turn of a round, with no threshold
-abbrev pub roundInput : Tables → List ℕ → ℕ → ℕ → Lent → TurnInput
-roundInput t plan quantum saved l =
-    record { tables = t; plan = plan; state = l .state; given = saved; quantum = quantum; threshold = []; output = l .output }
+abbrev pub roundInput : Survey → List ℕ → ℕ → ℕ → Lent → TurnInput
+roundInput v plan quantum saved l =
+    record { survey = v; plan = plan; state = l .state; given = saved; quantum = quantum; threshold = []; output = l .output }
 
 -- a query that is over or stopped makes no more turns
-abbrev pub roundAs : Keeping → Tables → List ℕ → ℕ → Went → Lent → Position
-roundAs keep t plan quantum (On saved used) l = advanced (takeTurnOf keep (roundInput t plan quantum saved l) (l .kept) used)
-roundAs keep t plan quantum (Over words) l = record { went = Over words; held = l }
-roundAs keep t plan quantum (Stopped x) l = record { went = Stopped x; held = l }
+abbrev pub roundAs : Keeping → Survey → List ℕ → ℕ → Went → Lent → Position
+roundAs keep v plan quantum (On saved used) l = advanced (takeTurnOf keep (roundInput v plan quantum saved l) (l .kept) used)
+roundAs keep v plan quantum (Over words) l = record { went = Over words; held = l }
+roundAs keep v plan quantum (Stopped x) l = record { went = Stopped x; held = l }
 
-unfoldable pub round : Keeping → Tables → List ℕ → ℕ → Position → Position
-round keep t plan quantum p = roundAs keep t plan quantum (p .went) (p .held)
+unfoldable pub round : Keeping → Survey → List ℕ → ℕ → Position → Position
+round keep v plan quantum p = roundAs keep v plan quantum (p .went) (p .held)
 
 -- at most so many turns
-unfoldable pub rounds : Keeping → Tables → List ℕ → ℕ → ℕ → Position → Position
-rounds keep t plan quantum most p = iterate (round keep t plan quantum) most p
+unfoldable pub rounds : Keeping → Survey → List ℕ → ℕ → ℕ → Position → Position
+rounds keep v plan quantum most p = iterate (round keep v plan quantum) most p
 
 -- ---- a play
 -- what it answers, and the buffers at exit
@@ -70,13 +70,13 @@ abbrev pub firstPosition : ℕ → Lent → Position
 firstPosition opened l = record { went = On opened 0; held = l }
 
 -- by what the opening answers, with what it leaves: it is refused where that is, and an opened query is never
-abbrev pub playedAs : Keeping → Tables → List ℕ → ℕ → ℕ → Written → Lent → PlayResult
-playedAs keep t plan quantum most (written.Words opened) l = resultAt (rounds keep t plan quantum most (firstPosition opened l))
-playedAs keep t plan quantum most (written.Refused x) l = record { answer = played.Refused x; held = l }
+abbrev pub playedAs : Keeping → Survey → List ℕ → ℕ → ℕ → Written → Lent → PlayResult
+playedAs keep v plan quantum most (written.Words opened) l = resultAt (rounds keep v plan quantum most (firstPosition opened l))
+playedAs keep v plan quantum most (written.Refused x) l = record { answer = played.Refused x; held = l }
 
 -- the opening of a state buffer, the other buffers as they were
-abbrev pub afterOpening : Tables → List ℕ → Lent → Lent
-afterOpening t plan l = record { state = openOf t plan (l .state) .state; output = l .output; kept = l .kept }
+abbrev pub afterOpening : Survey → List ℕ → Lent → Lent
+afterOpening v plan l = record { state = openOf v plan (l .state) .state; output = l .output; kept = l .kept }
 
-unfoldable pub playOf : Keeping → Tables → List ℕ → ℕ → ℕ → Lent → PlayResult
-playOf keep t plan quantum most l = playedAs keep t plan quantum most (openOf t plan (l .state) .answer) (afterOpening t plan l)
+unfoldable pub playOf : Keeping → Survey → List ℕ → ℕ → ℕ → Lent → PlayResult
+playOf keep v plan quantum most l = playedAs keep v plan quantum most (openOf v plan (l .state) .answer) (afterOpening v plan l)

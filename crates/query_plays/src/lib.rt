@@ -5,7 +5,7 @@ use queries::Went;
 use query_turns::advance;
 use words::Written;
 ghost use mathlib.Core.Path.{_≡_};
-ghost use Rattle.tables.specs.Tables.{tablesOf};
+ghost use Rattle.turns.specs.Surveys.{surveyOf};
 ghost use Rattle.queries.specs.declared.Keeping.the-variants.{All};
 ghost use Rattle.queries.specs.Rounds.{buffers, firstPosition, rounds, resultAt, playOf};
 
@@ -14,6 +14,7 @@ fn go_on(
     rows: &[u32],
     pos: &[u32],
     osp: &[u32],
+    survey: u32,
     plan: &[u32],
     quantum: u32,
     most: u64,
@@ -23,7 +24,7 @@ fn go_on(
     kept: &mut [u32],
 ) -> Played
     ensures { λ r. ⌜ record { answer = r; held = buffers (now (state .exit)) (now (output .exit)) (now (kept .exit)) }
-        ≡ resultAt (rounds All (tablesOf (now (rows .entry)) (now (pos .entry)) (now (osp .entry))) (now (plan .entry)) quantum most
+        ≡ resultAt (rounds All (surveyOf (now (rows .entry)) (now (pos .entry)) (now (osp .entry)) survey) (now (plan .entry)) quantum most
         (firstPosition opened (buffers (now (state .entry)) (now (output .entry)) (now (kept .entry))))) ⌝ }
 {
     let mut saved = opened;
@@ -34,6 +35,7 @@ fn go_on(
             rows,
             pos,
             osp,
+            survey,
             plan,
             state,
             saved,
@@ -64,6 +66,7 @@ pub fn play(
     rows: &[u32],
     pos: &[u32],
     osp: &[u32],
+    survey: u32,
     plan: &[u32],
     quantum: u32,
     most: u64,
@@ -72,15 +75,16 @@ pub fn play(
     kept: &mut [u32],
 ) -> Played
     ensures { λ r. ⌜ record { answer = r; held = buffers (now (state .exit)) (now (output .exit)) (now (kept .exit)) }
-        ≡ playOf All (tablesOf (now (rows .entry)) (now (pos .entry)) (now (osp .entry))) (now (plan .entry)) quantum most
+        ≡ playOf All (surveyOf (now (rows .entry)) (now (pos .entry)) (now (osp .entry)) survey) (now (plan .entry)) quantum most
         (buffers (now (state .entry)) (now (output .entry)) (now (kept .entry))) ⌝ }
 {
-    match turn_calls::open(rows, pos, osp, plan, state) {
+    match turn_calls::open(rows, pos, osp, survey, plan, state) {
         Written::Refused(x) => Played::Refused(x),
         Written::Words(opened) => go_on(
             rows,
             pos,
             osp,
+            survey,
             plan,
             quantum,
             most,

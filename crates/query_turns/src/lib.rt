@@ -27,6 +27,7 @@ pub fn take_turn(
     rows: &[u32],
     pos: &[u32],
     osp: &[u32],
+    survey: u32,
     plan: &[u32],
     state: &mut [u32],
     saved: usize,
@@ -37,13 +38,14 @@ pub fn take_turn(
     keeping: Keeping,
 ) -> Step
     ensures { λ r. ⌜ record { answer = r; state = now (state .exit); output = now (output .exit); kept = now (kept .exit) }
-        ≡ takeTurnOf keeping (turnInput (now (rows .entry)) (now (pos .entry)) (now (osp .entry)) (now (plan .entry)) (now (state .entry))
+        ≡ takeTurnOf keeping (turnInput (now (rows .entry)) (now (pos .entry)) (now (osp .entry)) survey (now (plan .entry)) (now (state .entry))
         saved quantum [] (now (output .entry))) (now (kept .entry)) used ⌝ }
 {
     let turned = turn_calls::turn(
         rows,
         pos,
         osp,
+        survey,
         plan,
         state,
         saved,
@@ -95,6 +97,7 @@ pub fn advance(
     rows: &[u32],
     pos: &[u32],
     osp: &[u32],
+    survey: u32,
     plan: &[u32],
     state: &mut [u32],
     saved: usize,
@@ -105,13 +108,14 @@ pub fn advance(
     keeping: Keeping,
 ) -> Went
     ensures { λ r. ⌜ record { went = r; held = buffers (now (state .exit)) (now (output .exit)) (now (kept .exit)) }
-        ≡ advanced (takeTurnOf keeping (turnInput (now (rows .entry)) (now (pos .entry)) (now (osp .entry)) (now (plan .entry)) (now (state .entry))
+        ≡ advanced (takeTurnOf keeping (turnInput (now (rows .entry)) (now (pos .entry)) (now (osp .entry)) survey (now (plan .entry)) (now (state .entry))
         saved quantum [] (now (output .entry))) (now (kept .entry)) used) ⌝ }
 {
     outcome(take_turn(
         rows,
         pos,
         osp,
+        survey,
         plan,
         state,
         saved,

@@ -10,13 +10,14 @@ ghost use Rattle.queues.specs.Lists.{lentAs};
 ghost use Rattle.queues.specs.ToppingUp.{topUpOf};
 ghost use Rattle.queues.specs.Joining.{joinQueueOf};
 ghost use Rattle.queues.specs.Serving.{serveOf};
-ghost use Rattle.tables.specs.Tables.{tablesOf};
+ghost use Rattle.turns.specs.Surveys.{surveyOf};
 
 // An owner's query joins: with steps at the end of the line, without at the end of the list set aside.
 pub fn join(
     rows: &[u32],
     pos: &[u32],
     osp: &[u32],
+    survey: u32,
     line: &mut [Entry],
     given: usize,
     aside: &mut [Entry],
@@ -27,7 +28,7 @@ pub fn join(
     state: &[u32],
 ) -> Queued
     ensures { λ r. ⌜ record { answer = r; line = now (line .exit); aside = now (aside .exit) }
-        ≡ joinQueueOf (tablesOf (now (rows .entry)) (now (pos .entry)) (now (osp .entry)))
+        ≡ joinQueueOf (surveyOf (now (rows .entry)) (now (pos .entry)) (now (osp .entry)) survey)
         (lentAs (now (line .entry)) given (now (aside .entry)) kept)
         (record { owner = owner; allowance = allowance; plan = now (plan .entry); state = now (state .entry) }) ⌝ }
 {
@@ -36,6 +37,7 @@ pub fn join(
         rows,
         pos,
         osp,
+        survey,
         seen,
         given,
         kept,
@@ -74,6 +76,7 @@ pub fn serve(
     rows: &[u32],
     pos: &[u32],
     osp: &[u32],
+    survey: u32,
     line: &mut [Entry],
     given: usize,
     aside: &mut [Entry],
@@ -83,7 +86,7 @@ pub fn serve(
     output: &mut [u32],
 ) -> Service
     ensures { λ r. ⌜ record { answer = r; line = now (line .exit); aside = now (aside .exit); output = now (output .exit) }
-        ≡ serveOf (tablesOf (now (rows .entry)) (now (pos .entry)) (now (osp .entry)))
+        ≡ serveOf (surveyOf (now (rows .entry)) (now (pos .entry)) (now (osp .entry)) survey)
         (lentAs (now (line .entry)) given (now (aside .entry)) kept)
         (record { quantum = quantum; threshold = now (threshold .entry); output = now (output .entry) }) ⌝ }
 {
@@ -93,6 +96,7 @@ pub fn serve(
         rows,
         pos,
         osp,
+        survey,
         seen,
         given,
         kept,

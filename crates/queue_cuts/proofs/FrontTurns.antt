@@ -11,8 +11,8 @@ use borrow.Author.Tests.{eqb-false, ne-eqb}
 use Rattle.words.specs.Sequences.{member}
 use Rattle.words.specs.Tests.{firstFailing}
 use Rattle.words.proofs.Booleans.{or-left, or-right}
-use Rattle.tables.specs.Tables.{Tables}
 use Rattle.steps.specs.Steps.{after}
+use Rattle.turns.specs.Surveys.{Survey}
 use Rattle.turns.specs.declared.TurnEnding.{TurnEnding}
 use Rattle.turns.specs.declared.TurnEnding.the-variants as ending
 use Rattle.turns.specs.Turns.{TurnResult}
@@ -58,31 +58,31 @@ snoc : (xs ys : List Entry) (a b : Entry) → (xs ++ (a ∷ ys)) ++ (b ∷ []) �
 snoc xs ys a b = append-assoc xs (a ∷ ys) (b ∷ [])
 
 -- ---- a turn of the front entry
-pub record Told (t : Tables) (s : Serving) (e : Entry) (y : ServeResult) : Type 0 where
-  pub turned : y .answer .turned ≡ frontTurn t s e .answer
-  pub output : y .output ≡ frontTurn t s e .output
-  pub served : (x : ℕ) → frontTurn t s e .answer .ending ≡ ending.Refused x → ⊥
+pub record Told (v : Survey) (s : Serving) (e : Entry) (y : ServeResult) : Type 0 where
+  pub turned : y .answer .turned ≡ frontTurn v s e .answer
+  pub output : y .output ≡ frontTurn v s e .output
+  pub served : (x : ℕ) → frontTurn v s e .answer .ending ≡ ending.Refused x → ⊥
 
-pub data Serviced (t : Tables) (s : Serving) (q : Queue) (y : ServeResult) : Queue → Type 0 where
-  not-served : isServed (y .answer .turned .ending) ≡ false → Serviced t s q y q
-  off : (e : Entry) (es : List Entry) → q .line ≡ e ∷ es → Told t s e y → Serviced t s q y (queue es (q .aside))
-  on : (e : Entry) (es : List Entry) → q .line ≡ e ∷ es → Told t s e y
-      → Serviced t s q y (queue (es ++ (entryAfter e (frontTurn t s e) ∷ [])) (q .aside))
-  out : (e : Entry) (es : List Entry) → q .line ≡ e ∷ es → Told t s e y
-      → Serviced t s q y (queue es (q .aside ++ (entryAfter e (frontTurn t s e) ∷ [])))
+pub data Serviced (v : Survey) (s : Serving) (q : Queue) (y : ServeResult) : Queue → Type 0 where
+  not-served : isServed (y .answer .turned .ending) ≡ false → Serviced v s q y q
+  off : (e : Entry) (es : List Entry) → q .line ≡ e ∷ es → Told v s e y → Serviced v s q y (queue es (q .aside))
+  on : (e : Entry) (es : List Entry) → q .line ≡ e ∷ es → Told v s e y
+      → Serviced v s q y (queue (es ++ (entryAfter e (frontTurn v s e) ∷ [])) (q .aside))
+  out : (e : Entry) (es : List Entry) → q .line ≡ e ∷ es → Told v s e y
+      → Serviced v s q y (queue es (q .aside ++ (entryAfter e (frontTurn v s e) ∷ [])))
 
-module _ (t : Tables) (q : Queue) (m : MadeCall) (s : Serving) where
+module _ (v : Survey) (q : Queue) (m : MadeCall) (s : Serving) where
   abbrev held : LentLists
   held = lentTo q m
 
   module _ (e : Entry) (es : List Entry) (line-is : lineOf held ≡ e ∷ es) where
     abbrev r : TurnResult
-    r = frontTurn t s e
+    r = frontTurn v s e
 
     front : q .line ≡ e ∷ es
     front = sym (line-lent q m) ∙ line-is
 
-    told : (line aside : List Entry) → ((x : ℕ) → r .answer .ending ≡ ending.Refused x → ⊥) → Told t s e (serviceWith held e r line aside)
+    told : (line aside : List Entry) → ((x : ℕ) → r .answer .ending ≡ ending.Refused x → ⊥) → Told v s e (serviceWith held e r line aside)
     told line aside h = record { turned = refl; output = refl; served = h }
 
     -- the lists of a turn that was served are those it left
@@ -94,14 +94,14 @@ module _ (t : Tables) (q : Queue) (m : MadeCall) (s : Serving) where
     left y (ending.Refused z) h = absurd (h z refl)
 
     to : (line aside aside′ : List Entry) → ((x : ℕ) → r .answer .ending ≡ ending.Refused x → ⊥) → aside ≡ aside′
-        → Serviced t s q (serviceWith held e r line aside) (queue line aside′)
-        → Serviced t s q (serviceWith held e r line aside) (afterService q (serviceWith held e r line aside) (r .answer .ending))
+        → Serviced v s q (serviceWith held e r line aside) (queue line aside′)
+        → Serviced v s q (serviceWith held e r line aside) (afterService q (serviceWith held e r line aside) (r .answer .ending))
     to line aside aside′ h f k =
-        subst (λ (x : Queue). Serviced t s q (serviceWith held e r line aside) x)
+        subst (λ (x : Queue). Serviced v s q (serviceWith held e r line aside) x)
         (sym (left (serviceWith held e r line aside) (r .answer .ending) h ∙ both-taken held line aside line aside′ refl f)) k
 
     back : ((x : ℕ) → r .answer .ending ≡ ending.Refused x → ⊥)
-        → Serviced t s q (goesBack held e es r) (afterService q (goesBack held e es r) (goesBack held e es r .answer .turned .ending))
+        → Serviced v s q (goesBack held e es r) (afterService q (goesBack held e es r) (goesBack held e es r .answer .turned .ending))
     back h = by-left (eqb (e .allowance - r .answer .steps) 0)
       where
         d : Entry
@@ -110,14 +110,14 @@ module _ (t : Tables) (q : Queue) (m : MadeCall) (s : Serving) where
         choose : Bool → ServeResult
         choose b = cond b (serviceWith held e r es (asideOf held ++ (d ∷ []))) (serviceWith held e r (es ++ (d ∷ [])) (asideOf held))
 
-        by-left : (b : Bool) → Serviced t s q (choose b) (afterService q (choose b) (choose b .answer .turned .ending))
+        by-left : (b : Bool) → Serviced v s q (choose b) (afterService q (choose b) (choose b .answer .turned .ending))
         by-left true =
             to es (asideOf held ++ (d ∷ [])) (q .aside ++ (d ∷ [])) h (ap (λ (ds : List Entry). ds ++ (d ∷ [])) (aside-lent q m))
             (out e es front (told es (asideOf held ++ (d ∷ [])) h))
         by-left false = to (es ++ (d ∷ [])) (asideOf held) (q .aside) h (aside-lent q m) (on e es front (told (es ++ (d ∷ [])) (asideOf held) h))
 
     by-ending : (x : TurnEnding) → r .answer .ending ≡ x
-        → Serviced t s q (turnedTo held s e es r x) (afterService q (turnedTo held s e es r x) (turnedTo held s e es r x .answer .turned .ending))
+        → Serviced v s q (turnedTo held s e es r x) (afterService q (turnedTo held s e es r x) (turnedTo held s e es r x .answer .turned .ending))
     by-ending ending.Done is =
         let h : (x : ℕ) → r .answer .ending ≡ ending.Refused x → ⊥ = λ x f. let z : _≡_ {A = ℕ} 0 1 = cc in omega arith in
         to es (asideOf held) (q .aside) h (aside-lent q m) (off e es front (told es (asideOf held) h))
@@ -126,14 +126,14 @@ module _ (t : Tables) (q : Queue) (m : MadeCall) (s : Serving) where
     by-ending (ending.Refused x) is = not-served refl
 
   by-line : (es : List Entry) → lineOf held ≡ es
-      → Serviced t s q (frontServed t held s es) (afterService q (frontServed t held s es) (frontServed t held s es .answer .turned .ending))
+      → Serviced v s q (frontServed v held s es) (afterService q (frontServed v held s es) (frontServed v held s es .answer .turned .ending))
   by-line [] is = not-served refl
-  by-line (e ∷ es) is = by-ending e es is (frontTurn t s e .answer .ending) refl
+  by-line (e ∷ es) is = by-ending e es is (frontTurn v s e .answer .ending) refl
 
-  pub serves : Serviced t s q (serveOf t held s) (afterCall t q held (serve s))
+  pub serves : Serviced v s q (serveOf v held s) (afterCall v q held (serve s))
   unfolding serveOf
-  serves = by-tests (firstFailing (serveTests t held s))
+  serves = by-tests (firstFailing (serveTests v held s))
     where
-      by-tests : (o : Option ℕ) → Serviced t s q (servedAs t held s o) (afterService q (servedAs t held s o) (servedAs t held s o .answer .turned .ending))
+      by-tests : (o : Option ℕ) → Serviced v s q (servedAs v held s o) (afterService q (servedAs v held s o) (servedAs v held s o .answer .turned .ending))
       by-tests (some x) = not-served refl
       by-tests none = by-line (lineOf held) refl

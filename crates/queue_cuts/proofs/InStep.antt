@@ -12,9 +12,9 @@ use Rattle.words.specs.declared.Written.{Written}
 use Rattle.words.specs.declared.Written.the-variants as written
 use Rattle.words.specs.Sequences.{keep}
 use Rattle.words.specs.Tests.{firstFailing}
-use Rattle.tables.specs.Tables.{Tables}
 use Rattle.plans.specs.Endings.{Ending, rows, top, group}
 use Rattle.plans.specs.Plans.{planOf}
+use Rattle.turns.specs.Surveys.{Survey}
 use Rattle.turns.specs.declared.TurnEnding.{TurnEnding}
 use Rattle.turns.specs.declared.TurnEnding.the-variants as ending
 use Rattle.turns.specs.Turns.{TurnInput, TurnResult, turnOf}
@@ -36,7 +36,7 @@ use Rattle.queue_cuts.proofs.FrontTurns.{other, not-first, none-behind,
 use Rattle.queue_cuts.proofs.FrontTurns.{off, on, out, serves}
 
 -- ---- the owner's own turn, as an event of its cut
-module _ (t : Tables) (plan : List ℕ) (owner : ℕ) (s : Serving) (e : Entry) (h : Phone) (k : HoldsQuery owner plan (h .saved) e) where
+module _ (v : Survey) (plan : List ℕ) (owner : ℕ) (s : Serving) (e : Entry) (h : Phone) (k : HoldsQuery owner plan (h .saved) e) where
   abbrev quantum : ℕ
   quantum = min (s .quantum) (e .allowance)
 
@@ -44,12 +44,12 @@ module _ (t : Tables) (plan : List ℕ) (owner : ℕ) (s : Serving) (e : Entry) 
   behind-saved = drop (e .saved) (e .state)
 
   abbrev res : TurnResult
-  res = frontTurn t s e
+  res = frontTurn v s e
 
-  same-input : turnInputOf t plan h behind-saved quantum (s .threshold) (s .output) ≡ entryTurn t s e quantum
+  same-input : turnInputOf v plan h behind-saved quantum (s .threshold) (s .output) ≡ entryTurn v s e quantum
   same-input i =
       record {
-        tables = t;
+        survey = v;
         plan = sym (k .plans) i;
         state = (ap (λ (ws : List ℕ). ws ++ behind-saved) (sym (k .words)) ∙ take-append-drop (e .saved) (e .state)) i;
         given = k .count i;
@@ -64,7 +64,7 @@ module _ (t : Tables) (plan : List ℕ) (owner : ℕ) (s : Serving) (e : Entry) 
   after-served ending.Full f = refl
   after-served (ending.Refused z) f = absurd (f z refl)
 
-  own-happens : ((x : ℕ) → res .answer .ending ≡ ending.Refused x → ⊥) → happens t plan h (ownTurn owner s e) ≡ afterServed h quantum res
+  own-happens : ((x : ℕ) → res .answer .ending ≡ ending.Refused x → ⊥) → happens v plan h (ownTurn owner s e) ≡ afterServed h quantum res
   unfolding happens
   own-happens f =
       ap (λ (i : TurnInput). afterTurn h quantum (turnOf i) (turnOf i .answer .ending)) same-input ∙ after-served (res .answer .ending) f
@@ -72,10 +72,10 @@ module _ (t : Tables) (plan : List ℕ) (owner : ℕ) (s : Serving) (e : Entry) 
   -- the entry that goes on holds the words that the turn saved
   still-holds : ((x : ℕ) → res .answer .ending ≡ ending.Refused x → ⊥) → HoldsQuery owner plan (afterServed h quantum res .saved) (entryAfter e res)
   still-holds f =
-      let o = follows (entryTurn t s e quantum) f .state in
+      let o = follows (entryTurn v s e quantum) f .state in
       record { its = k .its; plans = k .plans; words = refl; count = ap length (o .front) ∙ sym (o .counted) }
 
-  told-same : (y : ServeResult) → Told t s e y → ownService owner s e y ≡ servedOf quantum res
+  told-same : (y : ServeResult) → Told v s e y → ownService owner s e y ≡ servedOf quantum res
   told-same y w i =
       record {
         quantum = quantum;
@@ -85,11 +85,11 @@ module _ (t : Tables) (plan : List ℕ) (owner : ℕ) (s : Serving) (e : Entry) 
       }
 
 -- ---- what one call means for the owner
-module _ (t : Tables) (owner : ℕ) (plan : List ℕ) where
+module _ (v : Survey) (owner : ℕ) (plan : List ℕ) where
   -- nothing of its own happened, or one turn of its own
   data Step (h : Phone) (q : Queue) : List Event → List ServedTurn → Type 0 where
     not-its : Waits owner plan (h .saved) q → Step h q [] []
-    its-turn : (x : Event) (y : ServedTurn) → Waits owner plan (happens t plan h x .saved) q → servedIn (happens t plan h x) ≡ servedIn h ++ (y ∷ [])
+    its-turn : (x : Event) (y : ServedTurn) → Waits owner plan (happens v plan h x .saved) q → servedIn (happens v plan h x) ≡ servedIn h ++ (y ∷ [])
         → Step h q (x ∷ []) (y ∷ [])
 
   -- an entry of another's goes from the front
@@ -148,9 +148,9 @@ module _ (t : Tables) (owner : ℕ) (plan : List ℕ) where
         always true = refl
         always false = refl
 
-    module _ (e : Entry) (es : List Entry) (front : q .line ≡ e ∷ es) (told : Told t s e y) where
+    module _ (e : Entry) (es : List Entry) (front : q .line ≡ e ∷ es) (told : Told v s e y) where
       abbrev made : TurnResult
-      made = frontTurn t s e
+      made = frontTurn v s e
 
       counted : isServed (y .answer .turned .ending) ≡ true
       counted = ap (λ a. isServed (a .ending)) (told .turned) ∙ by-ending (made .answer .ending) (told .served)
@@ -173,31 +173,31 @@ module _ (t : Tables) (owner : ℕ) (plan : List ℕ) where
               → Step h (queue line aside) (cond b (ownTurn owner s e ∷ []) []) (cond b (ownService owner s e y ∷ []) [])
           by-owner true hers =
               let at = at-front (h .saved) q e es front (eqb-true (e .owner) owner hers) w in
-              let ev = own-happens t plan owner s e h (at .holds) (told .served) in
+              let ev = own-happens v plan owner s e h (at .holds) (told .served) in
               its-turn (ownTurn owner s e) (ownService owner s e y)
               (subst (λ (z : Phone). Waits owner plan (z .saved) (queue line aside)) (sym ev) (own (eqb-true (e .owner) owner hers) at))
               (ap servedIn ev ∙ served-more h (min (s .quantum) (e .allowance)) made
-              ∙ ap (λ (z : ServedTurn). servedIn h ++ (z ∷ [])) (sym (told-same t plan owner s e h (at .holds) y told)))
+              ∙ ap (λ (z : ServedTurn). servedIn h ++ (z ∷ [])) (sym (told-same v plan owner s e h (at .holds) y told)))
           by-owner false not-hers =
               let n = others (eqb-false (e .owner) owner not-hers) in
               not-its (subst (λ (z : Queue). Waits owner plan (h .saved) z) (λ i. queue (sym f i) (sym g i))
               (tail-waits (h .saved) q e es front (eqb-false (e .owner) owner not-hers) w xs ys (n .0) (n .1)))
 
-    serve-step : {q′ : Queue} → Serviced t s q y q′ → Step h q′ (events (q .line)) (services (q .line))
+    serve-step : {q′ : Queue} → Serviced v s q y q′ → Step h q′ (events (q .line)) (services (q .line))
     serve-step (not-served e) = rw (nobody's (ownTurn owner s) (q .line) e, nobody's (λ (x : Entry). ownService owner s x y) (q .line) e) (not-its w)
     serve-step (off e es front told) =
         step-of e es front told es (q .aside) [] [] (sym (append-nil es)) (sym (append-nil (q .aside))) (λ _. (none-of-no-one owner, none-of-no-one owner))
         (λ hers at. gone (at .behind-none) (at .aside-none))
     serve-step (on e es front told) =
-        let d = entryAfter e (frontTurn t s e) in
+        let d = entryAfter e (frontTurn v s e) in
         step-of e es front told (one-end es d) (q .aside) (d ∷ []) [] refl (sym (append-nil (q .aside)))
         (λ f. (other owner d [] f (none-of-no-one owner), none-of-no-one owner))
-        (λ hers at. in-line es [] d refl (still-holds t plan owner s e h (at .holds) (told .served)) (at .behind-none) (none-of-no-one owner) (at .aside-none))
+        (λ hers at. in-line es [] d refl (still-holds v plan owner s e h (at .holds) (told .served)) (at .behind-none) (none-of-no-one owner) (at .aside-none))
     serve-step (out e es front told) =
-        let d = entryAfter e (frontTurn t s e) in
+        let d = entryAfter e (frontTurn v s e) in
         step-of e es front told es (one-end (q .aside) d) [] (d ∷ []) (sym (append-nil es)) refl
         (λ f. (none-of-no-one owner, other owner d [] f (none-of-no-one owner)))
-        (λ hers at. set-aside (q .aside) [] d refl (still-holds t plan owner s e h (at .holds) (told .served)) (at .behind-none) (at .aside-none)
+        (λ hers at. set-aside (q .aside) [] d refl (still-holds v plan owner s e h (at .holds) (told .served)) (at .behind-none) (at .aside-none)
         (none-of-no-one owner))
 
   -- ---- joining and topping up
@@ -212,9 +212,9 @@ module _ (t : Tables) (owner : ℕ) (plan : List ℕ) where
       (none-both owner (q .line) xs a n) b (none-both owner behind ys c k)
 
   join-waits : (saved : List ℕ) (q : Queue) (m : MadeCall) (j : Joining) → (j .owner ≡ owner → ⊥) → Waits owner plan saved q
-      → Waits owner plan saved (afterCall t q (lentTo q m) (join j))
+      → Waits owner plan saved (afterCall v q (lentTo q m) (join j))
   unfolding joinQueueOf
-  join-waits saved q m j hers w = by-tests (firstFailing (joinTests t (lentTo q m) j))
+  join-waits saved q m j hers w = by-tests (firstFailing (joinTests v (lentTo q m) j))
     where
       l : LentLists
       l = lentTo q m
@@ -316,7 +316,7 @@ module _ (t : Tables) (owner : ℕ) (plan : List ℕ) where
         same-words k = record { its = k .its; plans = k .plans; words = k .words; count = k .count }
 
   top-up-waits : (saved : List ℕ) (q : Queue) (m : MadeCall) (o n : ℕ) → Waits owner plan saved q
-      → Waits owner plan saved (afterCall t q (lentTo q m) (topUp o n))
+      → Waits owner plan saved (afterCall v q (lentTo q m) (topUp o n))
   unfolding topUpOf
   top-up-waits saved q m o n w = by-tests (firstFailing (topUpTests l o n)) refl
     where
@@ -343,7 +343,7 @@ module _ (t : Tables) (owner : ℕ) (plan : List ℕ) where
   taking : (h : Phone) (x : ServedTurn) (rest : List ServedTurn) (kept : List ℕ) → h .waiting ≡ x ∷ rest → Unmoved h (afterTaking h x rest kept)
   taking h x rest kept e = record { saved = refl; served = append-assoc (h .taken) (x ∷ []) rest ∙ ap (λ (xs : List ServedTurn). h .taken ++ xs) (sym e) }
 
-  merge-unmoved : (h : Phone) (behind : List ℕ) → Unmoved h (happens t plan h (merges behind))
+  merge-unmoved : (h : Phone) (behind : List ℕ) → Unmoved h (happens v plan h (merges behind))
   unfolding happens
   merge-unmoved h behind = by-waiting (h .waiting) refl
     where
@@ -356,7 +356,7 @@ module _ (t : Tables) (owner : ℕ) (plan : List ℕ) where
       by-waiting [] e = record { saved = refl; served = refl }
       by-waiting (x ∷ rest) e = by-answer x rest e (mergeOf (mergeInputOf plan h behind x)) (mergeOf (mergeInputOf plan h behind x) .answer)
 
-  join-unmoved : (h : Phone) → Unmoved h (happens t plan h joins)
+  join-unmoved : (h : Phone) → Unmoved h (happens v plan h joins)
   unfolding happens
   join-unmoved h = by-waiting (h .waiting) refl
     where
@@ -372,29 +372,29 @@ module _ (t : Tables) (owner : ℕ) (plan : List ℕ) where
   -- ---- any list of calls and takings
   pub record InStep (q : Queue) (h : Phone) (acts : List Act) : Type 0 where
     -- the owner's entry holds the words that its own cut saved, or it has left
-    pub waits : Waits owner plan (history t plan h (ownEvents t owner q acts) .saved) (afterActs t q acts)
+    pub waits : Waits owner plan (history v plan h (ownEvents v owner q acts) .saved) (afterActs v q acts)
     -- the turns of that cut are those that the calls answered
-    pub served : servedIn (history t plan h (ownEvents t owner q acts)) ≡ servedIn h ++ ownServices t owner q acts
+    pub served : servedIn (history v plan h (ownEvents v owner q acts)) ≡ servedIn h ++ ownServices v owner q acts
 
   -- what one call means
   call-step : (q : Queue) (h : Phone) (m : MadeCall) (c : QueueCall) → Waits owner plan (h .saved) q → notJoined owner c
-      → Step h (afterCall t q (lentTo q m) c) (callEvents t owner q m c) (callServices t owner q m c)
+      → Step h (afterCall v q (lentTo q m) c) (callEvents v owner q m c) (callServices v owner q m c)
   call-step q h m (join j) w n = not-its (join-waits (h .saved) q m j n w)
-  call-step q h m (serve s) w n = serve-step h q s (serveOf t (lentTo q m) s) w (serves t q m s)
+  call-step q h m (serve s) w n = serve-step h q s (serveOf v (lentTo q m) s) w (serves v q m s)
   call-step q h m (topUp o k) w n = not-its (top-up-waits (h .saved) q m o k w)
 
   -- and then the rest
   go-on : (q : Queue) (h : Phone) (acts : List Act) {es : List Event} {xs : List ServedTurn} → Step h q es xs
       → ((h′ : Phone) → Waits owner plan (h′ .saved) q → InStep q h′ acts)
-      → Waits owner plan (history t plan h (es ++ ownEvents t owner q acts) .saved) (afterActs t q acts)
-      × (servedIn (history t plan h (es ++ ownEvents t owner q acts)) ≡ servedIn h ++ (xs ++ ownServices t owner q acts))
+      → Waits owner plan (history v plan h (es ++ ownEvents v owner q acts) .saved) (afterActs v q acts)
+      × (servedIn (history v plan h (es ++ ownEvents v owner q acts)) ≡ servedIn h ++ (xs ++ ownServices v owner q acts))
   unfolding history
   go-on q h acts (not-its w) again = (again h w .waits, again h w .served)
   go-on q h acts (its-turn x y w e) again =
-      let i = again (happens t plan h x) w in (
+      let i = again (happens v plan h x) w in (
         i .waits,
-        i .served ∙ ap (λ (zs : List ServedTurn). zs ++ ownServices t owner q acts) e
-            ∙ append-assoc (servedIn h) (y ∷ []) (ownServices t owner q acts),
+        i .served ∙ ap (λ (zs : List ServedTurn). zs ++ ownServices v owner q acts) e
+            ∙ append-assoc (servedIn h) (y ∷ []) (ownServices v owner q acts),
       )
 
   pub in-step : (acts : List Act) (q : Queue) (h : Phone) → Waits owner plan (h .saved) q → NeverAgain owner acts → InStep q h acts
@@ -402,13 +402,13 @@ module _ (t : Tables) (owner : ℕ) (plan : List ℕ) where
   in-step [] q h w a = record { waits = w; served = sym (append-nil (servedIn h)) }
   in-step (merging behind ∷ acts) q h w a =
       let u = merge-unmoved h behind in
-      let i = in-step acts q (happens t plan h (merges behind)) (subst (λ (ws : List ℕ). Waits owner plan ws q) (sym (u .saved)) w) (a .1) in
-      record { waits = i .waits; served = i .served ∙ ap (λ (xs : List ServedTurn). xs ++ ownServices t owner q acts) (u .served) }
+      let i = in-step acts q (happens v plan h (merges behind)) (subst (λ (ws : List ℕ). Waits owner plan ws q) (sym (u .saved)) w) (a .1) in
+      record { waits = i .waits; served = i .served ∙ ap (λ (xs : List ServedTurn). xs ++ ownServices v owner q acts) (u .served) }
   in-step (joining ∷ acts) q h w a =
       let u = join-unmoved h in
-      let i = in-step acts q (happens t plan h joins) (subst (λ (ws : List ℕ). Waits owner plan ws q) (sym (u .saved)) w) (a .1) in
-      record { waits = i .waits; served = i .served ∙ ap (λ (xs : List ServedTurn). xs ++ ownServices t owner q acts) (u .served) }
+      let i = in-step acts q (happens v plan h joins) (subst (λ (ws : List ℕ). Waits owner plan ws q) (sym (u .saved)) w) (a .1) in
+      record { waits = i .waits; served = i .served ∙ ap (λ (xs : List ServedTurn). xs ++ ownServices v owner q acts) (u .served) }
   in-step (calls m ∷ acts) q h w a =
-      let q′ = afterCall t q (lentTo q m) (m .call) in
+      let q′ = afterCall v q (lentTo q m) (m .call) in
       let g = go-on q′ h acts (call-step q h m (m .call) w (a .0)) (λ h′ w′. in-step acts q′ h′ w′ (a .1)) in
       record { waits = g .0; served = g .1 }

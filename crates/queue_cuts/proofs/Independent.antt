@@ -18,6 +18,7 @@ use Rattle.words.proofs.Orders.{less, same, more, three}
 use Rattle.tables.specs.Tables.{Tables, tableTests}
 use Rattle.plans.specs.Plans.{Plan, planOf, planTests}
 use Rattle.steps.specs.Steps.{after}
+use Rattle.turns.specs.Surveys.{Survey}
 use Rattle.turns.specs.Opening.{openOf, Opens}
 use Rattle.cuts.specs.Histories.{turns, Phone, stepsIn}
 use Rattle.cuts.specs.Histories.{fresh}
@@ -49,14 +50,14 @@ entry-holds j =
     fits : length (j .plan) ≤ length (filled entryPlanRoom (j .plan))
     fits = simp length-append (omega arith)
 
-pub independent : (t : Tables) (plan state : List ℕ) → Opens t plan state → (owner : ℕ) (q : Queue)
-    → Waits owner plan (fresh (openOf t plan state) .saved) q → (acts : List Act) → NeverAgain owner acts
-    → Premises t plan (fresh (openOf t plan state)) (ownEvents t owner q acts)
-    → Independent t owner plan (fresh (openOf t plan state)) q acts
-independent t plan state o owner q w acts never p =
+pub independent : (v : Survey) (plan state : List ℕ) → Opens v plan state → (owner : ℕ) (q : Queue)
+    → Waits owner plan (fresh (openOf v plan state) .saved) q → (acts : List Act) → NeverAgain owner acts
+    → Premises v plan (fresh (openOf v plan state)) (ownEvents v owner q acts)
+    → Independent v owner plan (fresh (openOf v plan state)) q acts
+independent v plan state o owner q w acts never p =
     record {
-      turns = in-step t owner plan acts q (fresh (openOf t plan state)) w never .served;
-      uncut = any-cut t plan state o (ownEvents t owner q acts) p;
+      turns = in-step v owner plan acts q (fresh (openOf v plan state)) w never .served;
+      uncut = any-cut v plan state o (ownEvents v owner q acts) p;
     }
 
 -- the uncut run ends once
@@ -64,12 +65,12 @@ ends-once : (t : Tables) (q : Plan) (m n : ℕ) → EndsAt t q m → EndsAt t q 
 ends-once t q m n a b = elim (three m n) [ less l ↦ absurd (b .not-before m l (a .over)) | same e ↦ e | more l ↦ absurd (a .not-before n l (b .over)) ]
 
 -- two finished cuts of one plan keep the same list
-pub same-list : (t : Tables) (plan : List ℕ) (h k : Phone) → AsUncut t (planOf plan) h → AsUncut t (planOf plan) k → Finished h → Finished k
+pub same-list : (v : Survey) (plan : List ℕ) (h k : Phone) → AsUncut v (planOf plan) h → AsUncut v (planOf plan) k → Finished h → Finished k
     → h .kept ≡ k .kept
-same-list t plan h k a b f g =
+same-list v plan h k a b f g =
     let x = a .finished (f .0) (f .1) in let y = b .finished (g .0) (g .1) in
-    x .1 ∙ ap (λ (n : ℕ). runList (planOf plan .ending) (after t (planOf plan) n))
-    (ends-once t (planOf plan) (stepsIn (h .taken)) (stepsIn (k .taken)) (x .0) (y .0)) ∙ sym (y .1)
+    x .1 ∙ ap (λ (n : ℕ). runList (planOf plan .ending) (after (v .tables) (planOf plan) n))
+    (ends-once (v .tables) (planOf plan) (stepsIn (h .taken)) (stepsIn (k .taken)) (x .0) (y .0)) ∙ sym (y .1)
 
 -- ---- a served join
 not-there : (owner : ℕ) (xs ys : List ℕ) → member owner (xs ++ ys) ≡ false → (member owner xs ≡ false) × (member owner ys ≡ false)
@@ -89,10 +90,10 @@ unfolding firstFailing
 after-first x true xs h = h
 after-first x false xs h = absurd (none-some (sym h))
 
-pub joined-waits : (t : Tables) (q : Queue) (m : MadeCall) (j : Joining) → firstFailing (joinTests t (lentTo q m) j) ≡ none
-    → Waits (j .owner) (j .plan) (j .state) (afterCall t q (lentTo q m) (join j))
+pub joined-waits : (v : Survey) (q : Queue) (m : MadeCall) (j : Joining) → firstFailing (joinTests v (lentTo q m) j) ≡ none
+    → Waits (j .owner) (j .plan) (j .state) (afterCall v q (lentTo q m) (join j))
 unfolding joinQueueOf
-joined-waits t q m j passed = rw passed (by-steps (eqb (j .allowance) 0))
+joined-waits v q m j passed = rw passed (by-steps (eqb (j .allowance) 0))
   where
     l : LentLists
     l = lentTo q m
@@ -102,9 +103,9 @@ joined-waits t q m j passed = rw passed (by-steps (eqb (j .allowance) 0))
 
     free : member (j .owner) (owners l) ≡ false
     free =
-        let behind-tables = both-pass (tableTests t) _ passed .1 in
+        let behind-tables = both-pass (tableTests (v .tables)) _ passed .1 in
         let behind-plan = both-pass (planTests (j .plan)) _ behind-tables .1 in
-        let seventeen = first-passes _ 17 _ (after-first 10 _ _ (after-first 9 _ _ behind-plan)) in
+        let seventeen = first-passes _ 17 _ (after-first 10 _ _ (after-first 22 _ _ (after-first 9 _ _ behind-plan))) in
         not-true (member (j .owner) (owners l)) (and-right (entriesRight l) (not (member (j .owner) (owners l))) seventeen)
 
     line-free : NoneOf (j .owner) (q .line)

@@ -5,7 +5,7 @@ use mathlib.Core.Bool.{Bool, true, false, cond, not}
 use mathlib.Core.List.{List, [], _∷_, _++_}
 use lib.ListN.{length, take, drop}
 use Rattle.words.specs.Sequences.{all, member}
-use Rattle.tables.specs.Tables.{Tables}
+use Rattle.turns.specs.Surveys.{Survey}
 use Rattle.turns.specs.declared.TurnEnding.{TurnEnding}
 use Rattle.turns.specs.declared.TurnEnding.the-variants as ending
 use Rattle.plans.specs.Plans.{planOf}
@@ -41,36 +41,36 @@ abbrev pub ifOwn {ℓ} : {A : Type ℓ} → ℕ → List Entry → ServeResult �
 ifOwn owner [] r f = []
 ifOwn owner (e ∷ es) r f = cond (hasOwner owner e) (cond (isServed (r .answer .turned .ending)) (f e ∷ []) []) []
 
-abbrev pub callEvents : Tables → ℕ → Queue → MadeCall → QueueCall → List Event
-callEvents t owner q m (join j) = []
-callEvents t owner q m (serve s) = ifOwn owner (q .line) (serveOf t (lentTo q m) s) (ownTurn owner s)
-callEvents t owner q m (topUp o n) = []
+abbrev pub callEvents : Survey → ℕ → Queue → MadeCall → QueueCall → List Event
+callEvents v owner q m (join j) = []
+callEvents v owner q m (serve s) = ifOwn owner (q .line) (serveOf v (lentTo q m) s) (ownTurn owner s)
+callEvents v owner q m (topUp o n) = []
 
-abbrev pub callServices : Tables → ℕ → Queue → MadeCall → QueueCall → List ServedTurn
-callServices t owner q m (join j) = []
-callServices t owner q m (serve s) =
-    ifOwn owner (q .line) (serveOf t (lentTo q m) s) (λ (e : Entry). ownService owner s e (serveOf t (lentTo q m) s))
-callServices t owner q m (topUp o n) = []
+abbrev pub callServices : Survey → ℕ → Queue → MadeCall → QueueCall → List ServedTurn
+callServices v owner q m (join j) = []
+callServices v owner q m (serve s) =
+    ifOwn owner (q .line) (serveOf v (lentTo q m) s) (λ (e : Entry). ownService owner s e (serveOf v (lentTo q m) s))
+callServices v owner q m (topUp o n) = []
 
-unfoldable pub ownEvents : Tables → ℕ → Queue → List Act → List Event
-ownEvents t owner q [] = []
-ownEvents t owner q (calls m ∷ acts) =
-    callEvents t owner q m (m .call) ++ ownEvents t owner (afterCall t q (lentTo q m) (m .call)) acts
-ownEvents t owner q (merging behind ∷ acts) = merges behind ∷ ownEvents t owner q acts
-ownEvents t owner q (joining ∷ acts) = joins ∷ ownEvents t owner q acts
+unfoldable pub ownEvents : Survey → ℕ → Queue → List Act → List Event
+ownEvents v owner q [] = []
+ownEvents v owner q (calls m ∷ acts) =
+    callEvents v owner q m (m .call) ++ ownEvents v owner (afterCall v q (lentTo q m) (m .call)) acts
+ownEvents v owner q (merging behind ∷ acts) = merges behind ∷ ownEvents v owner q acts
+ownEvents v owner q (joining ∷ acts) = joins ∷ ownEvents v owner q acts
 
-unfoldable pub ownServices : Tables → ℕ → Queue → List Act → List ServedTurn
-ownServices t owner q [] = []
-ownServices t owner q (calls m ∷ acts) =
-    callServices t owner q m (m .call) ++ ownServices t owner (afterCall t q (lentTo q m) (m .call)) acts
-ownServices t owner q (merging behind ∷ acts) = ownServices t owner q acts
-ownServices t owner q (joining ∷ acts) = ownServices t owner q acts
+unfoldable pub ownServices : Survey → ℕ → Queue → List Act → List ServedTurn
+ownServices v owner q [] = []
+ownServices v owner q (calls m ∷ acts) =
+    callServices v owner q m (m .call) ++ ownServices v owner (afterCall v q (lentTo q m) (m .call)) acts
+ownServices v owner q (merging behind ∷ acts) = ownServices v owner q acts
+ownServices v owner q (joining ∷ acts) = ownServices v owner q acts
 
-unfoldable pub afterActs : Tables → Queue → List Act → Queue
-afterActs t q [] = q
-afterActs t q (calls m ∷ acts) = afterActs t (afterCall t q (lentTo q m) (m .call)) acts
-afterActs t q (merging behind ∷ acts) = afterActs t q acts
-afterActs t q (joining ∷ acts) = afterActs t q acts
+unfoldable pub afterActs : Survey → Queue → List Act → Queue
+afterActs v q [] = q
+afterActs v q (calls m ∷ acts) = afterActs v (afterCall v q (lentTo q m) (m .call)) acts
+afterActs v q (merging behind ∷ acts) = afterActs v q acts
+afterActs v q (joining ∷ acts) = afterActs v q acts
 
 -- ---- the owner's entry
 -- the owner does not join again: one query, from joining to leaving
@@ -109,9 +109,9 @@ pub data Waits (owner : ℕ) (plan saved : List ℕ) (q : Queue) : Type 0 where
 
 -- ---- what is promised
 -- the owner's cut: its turns are those that the calls answered, and it is as the uncut run
-pub record Independent (t : Tables) (owner : ℕ) (plan : List ℕ) (start : Phone) (q : Queue) (acts : List Act) : Type 0 where
-  pub turns : servedIn (history t plan start (ownEvents t owner q acts)) ≡ ownServices t owner q acts
-  pub uncut : AsUncut t (planOf plan) (history t plan start (ownEvents t owner q acts))
+pub record Independent (v : Survey) (owner : ℕ) (plan : List ℕ) (start : Phone) (q : Queue) (acts : List Act) : Type 0 where
+  pub turns : servedIn (history v plan start (ownEvents v owner q acts)) ≡ ownServices v owner q acts
+  pub uncut : AsUncut v (planOf plan) (history v plan start (ownEvents v owner q acts))
 
 -- done was answered, and every list is taken
 abbrev pub Finished : Phone → Type 0

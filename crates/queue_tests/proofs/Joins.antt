@@ -11,14 +11,14 @@ use lib.Seq.{take-length, length-take-le, paste}
 use borrow.Author.Tests.{leb-true}
 use Rattle.words.specs.Sequences.{all, member}
 use Rattle.words.specs.Tests.{firstFailing, numberOf, AllPass}
-use Rattle.words.proofs.Booleans.{absurd-true}
+use Rattle.words.proofs.Booleans.{absurd-true, and-right}
 use Rattle.words.proofs.Numbering.{none-fails, one-fails}
 use Rattle.words.proofs.Testing.{passes-all, test-passed}
-use Rattle.tables.specs.Tables.{Tables}
 use Rattle.plans.specs.Branches.{readBranches}
-use Rattle.plans.specs.Plans.{Plan, mostPlanWords, branchCount, withEnding, readPlan, hasForm}
-use Rattle.steps.specs.Saved.{leastStateWords}
+use Rattle.plans.specs.Plans.{Plan, mostPlanWords, branchCount, withEnding, readPlan, hasForm, planOf}
+use Rattle.steps.specs.Saved.{leastStateWords, isSurvey, shapeBehind, shapeRight}
 use Rattle.state_saving.proofs.Loads.{whole}
+use Rattle.turns.specs.Surveys.{Survey}
 use Rattle.queues.specs.declared.Entry.{Entry}
 use Rattle.queues.specs.declared.Queued.the-variants.{Lists}
 use Rattle.queues.specs.Lists.{LentLists, lentAs, lineOf, asideOf, ownersIn, owners, filled, entriesOver, entryPlanRoom, entryStateRoom}
@@ -53,12 +53,19 @@ plan-short ws h =
     by-test true b x e f = leb-true (length ws) mostPlanWords e
     by-test false b x e f = absurd-true f refl
 
+-- and so is a state that has the shape
+state-short : (plan ws : List ℕ) → hasForm (readPlan plan) ≡ true → shapeRight (planOf plan) ws ≡ true → length ws ≤ leastStateWords
+state-short plan [] h e = omega arith
+state-short plan (w ∷ ws) h e =
+    let f = whole plan ws h (and-right (isSurvey w) (shapeBehind (planOf plan) ws) e) .few in
+    omega arith
+
 -- ---- tests
 not-either : (a b : Bool) → not (a || b) ≡ (not a && not b)
 not-either true b = refl
 not-either false b = refl
 
-module _ (t : Tables) (line : List Entry) (given : ℕ) (aside : List Entry) (kept : ℕ) (j : Joining) (seen : Seen)
+module _ (v : Survey) (line : List Entry) (given : ℕ) (aside : List Entry) (kept : ℕ) (j : Joining) (seen : Seen)
     (is : SeenOf (lentAs line given aside kept) (j .owner) seen) where
   abbrev l : LentLists
   l = lentAs line given aside kept
@@ -75,52 +82,51 @@ module _ (t : Tables) (line : List Entry) (given : ℕ) (aside : List Entry) (ke
       ∙ sym (not-either (member (j .owner) (ownersIn (take given line))) (member (j .owner) (ownersIn (take kept aside))))
       ∙ ap not (sym (member-both (j .owner) (ownersIn (take given line)) (ownersIn (take kept aside))))
 
-  same-tests : firstFailing (joinTestsBy t (j .plan) (j .state) entries room) ≡ firstFailing (joinTests t l j)
+  same-tests : firstFailing (joinTestsBy v (j .plan) (j .state) entries room) ≡ firstFailing (joinTests v l j)
   same-tests =
-      λ i. firstFailing (joinTestsBy t (j .plan) (j .state) (seen-entries line given aside kept (j .owner) seen is i && free i)
+      λ i. firstFailing (joinTestsBy v (j .plan) (j .state) (seen-entries line given aside kept (j .owner) seen is i && free i)
       (seen-room line given aside kept (j .owner) seen is 1 i))
 
-  pub join-refuses : (n : ℕ) → n ≡ numberOf (firstFailing (joinTestsBy t (j .plan) (j .state) entries room)) → (n ≡ 0 → ⊥)
-      → Decides l (queueingRefused n) (joinQueueOf t l j)
+  pub join-refuses : (n : ℕ) → n ≡ numberOf (firstFailing (joinTestsBy v (j .plan) (j .state) entries room)) → (n ≡ 0 → ⊥)
+      → Decides l (queueingRefused n) (joinQueueOf v l j)
   unfolding joinQueueOf
   join-refuses n e h =
       record {
         line = ((λ z. absurd (omega arith)), (λ z. absurd-true z refl));
         aside = ((λ z. absurd (omega arith)), (λ z. absurd-true z refl));
-        result = sym (ap (joinedAs l j) (sym same-tests ∙ one-fails (firstFailing (joinTestsBy t (j .plan) (j .state) entries room)) n e h));
+        result = sym (ap (joinedAs l j) (sym same-tests ∙ one-fails (firstFailing (joinTestsBy v (j .plan) (j .state) entries room)) n e h));
       }
 
 -- the number that the code puts together
-pub join-number : (t : Tables) (plan state : List ℕ) (entries room : Bool) (n query late : ℕ) → n ≡ firstNumber query late
-    → query ≡ numberOf (firstFailing (queryTests t plan state)) → late ≡ numberOf (firstFailing (topUpTestsBy entries room))
-    → n ≡ numberOf (firstFailing (joinTestsBy t plan state entries room))
+pub join-number : (v : Survey) (plan state : List ℕ) (entries room : Bool) (n query late : ℕ) → n ≡ firstNumber query late
+    → query ≡ numberOf (firstFailing (queryTests v plan state)) → late ≡ numberOf (firstFailing (topUpTestsBy entries room))
+    → n ≡ numberOf (firstFailing (joinTestsBy v plan state entries room))
 unfolding all
-join-number t plan state entries room n query late e f g =
-    e ∙ (λ i. firstNumber (f i) (g i)) ∙ numbers-follow (queryTests t plan state) (topUpTestsBy entries room) refl
+join-number v plan state entries room n query late e f g =
+    e ∙ (λ i. firstNumber (f i) (g i)) ∙ numbers-follow (queryTests v plan state) (topUpTestsBy entries room) refl
 
 -- ---- a call that passes its tests
-module _ (t : Tables) (plan state : List ℕ) (entries : Bool) (seen : Seen) (given kept : ℕ)
-    (passed : numberOf (firstFailing (joinTestsBy t plan state entries (roomBy (seen .room) (seen .spare) given kept 1))) ≡ 0) where
-  all-pass : AllPass (joinTestsBy t plan state entries (roomBy (seen .room) (seen .spare) given kept 1))
+module _ (v : Survey) (plan state : List ℕ) (entries : Bool) (seen : Seen) (given kept : ℕ)
+    (passed : numberOf (firstFailing (joinTestsBy v plan state entries (roomBy (seen .room) (seen .spare) given kept 1))) ≡ 0) where
+  all-pass : AllPass (joinTestsBy v plan state entries (roomBy (seen .room) (seen .spare) given kept 1))
   unfolding all
-  all-pass = passes-all _ (none-fails (joinTestsBy t plan state entries (roomBy (seen .room) (seen .spare) given kept 1)) refl passed)
+  all-pass = passes-all _ (none-fails (joinTestsBy v plan state entries (roomBy (seen .room) (seen .spare) given kept 1)) refl passed)
 
-  pub joined-none : firstFailing (joinTestsBy t plan state entries (roomBy (seen .room) (seen .spare) given kept 1)) ≡ none
+  pub joined-none : firstFailing (joinTestsBy v plan state entries (roomBy (seen .room) (seen .spare) given kept 1)) ≡ none
   unfolding all
-  joined-none = none-fails (joinTestsBy t plan state entries (roomBy (seen .room) (seen .spare) given kept 1)) refl passed
+  joined-none = none-fails (joinTestsBy v plan state entries (roomBy (seen .room) (seen .spare) given kept 1)) refl passed
 
   pub joined-room : Roomy (seen .room) (seen .spare) given kept 1
   joined-room =
       roomy (seen .room) (seen .spare) given kept 1
-      (test-passed 18 (joinTestsBy t plan state entries (roomBy (seen .room) (seen .spare) given kept 1)) all-pass)
+      (test-passed 18 (joinTestsBy v plan state entries (roomBy (seen .room) (seen .spare) given kept 1)) all-pass)
 
   form : hasForm (readPlan plan) ≡ true
-  form = test-passed 5 (joinTestsBy t plan state entries (roomBy (seen .room) (seen .spare) given kept 1)) all-pass
+  form = test-passed 5 (joinTestsBy v plan state entries (roomBy (seen .room) (seen .spare) given kept 1)) all-pass
 
   pub joined-short : (length plan ≤ entryPlanRoom) × (length state ≤ entryStateRoom)
   joined-short =
-      let w = whole plan state form (test-passed 9 (joinTestsBy t plan state entries (roomBy (seen .room) (seen .spare) given kept 1)) all-pass) in
-      let f : length state ≤ leastStateWords = w .few in
+      let f = state-short plan state form (test-passed 9 (joinTestsBy v plan state entries (roomBy (seen .room) (seen .spare) given kept 1)) all-pass) in
       (plan-short plan form, omega arith)
 
 -- ---- where the entry goes
@@ -174,19 +180,19 @@ module _ (line : List Entry) (given : ℕ) (aside : List Entry) (kept : ℕ) (e 
         };
       }
 
-module _ (t : Tables) (line : List Entry) (given : ℕ) (aside : List Entry) (kept : ℕ) (j : Joining) (seen : Seen)
+module _ (v : Survey) (line : List Entry) (given : ℕ) (aside : List Entry) (kept : ℕ) (j : Joining) (seen : Seen)
     (is : SeenOf (lentAs line given aside kept) (j .owner) seen)
     (passed : numberOf
-    (firstFailing (joinTestsBy t (j .plan) (j .state) (entries t line given aside kept j seen is) (room t line given aside kept j seen is))) ≡ 0) where
-  pub join-accepts : Decides (lentAs line given aside kept) (admittedBy (newEntry j) given kept) (joinQueueOf t (lentAs line given aside kept) j)
+    (firstFailing (joinTestsBy v (j .plan) (j .state) (entries v line given aside kept j seen is) (room v line given aside kept j seen is))) ≡ 0) where
+  pub join-accepts : Decides (lentAs line given aside kept) (admittedBy (newEntry j) given kept) (joinQueueOf v (lentAs line given aside kept) j)
   unfolding joinQueueOf
   join-accepts =
-      let r = joined-room t (j .plan) (j .state) (entries t line given aside kept j seen is) seen given kept passed in
+      let r = joined-room v (j .plan) (j .state) (entries v line given aside kept j seen is) seen given kept passed in
       let a : seen .room ≡ length line = is .room in
       let b : seen .spare ≡ length aside = is .spare in
       let f = r .line in let g = r .aside in let h = r .entries in
       subst (λ (o : Option ℕ). Decides (lentAs line given aside kept) (admittedBy (newEntry j) given kept) (joinedAs (lentAs line given aside kept) j o))
-      (sym (joined-none t (j .plan) (j .state) (entries t line given aside kept j seen is) seen given kept passed)
-      ∙ same-tests t line given aside kept j seen is)
+      (sym (joined-none v (j .plan) (j .state) (entries v line given aside kept j seen is) seen given kept passed)
+      ∙ same-tests v line given aside kept j seen is)
       (goes line given aside kept (newEntry j) (let z : given < length line = omega arith in z) (let z : kept < length aside = omega arith in
       z) (eqb (j .allowance) 0))

@@ -7,9 +7,10 @@ use mathlib.Core.List.{List, [], _∷_, _++_}
 use lib.Dec.{leb, eqb}
 use lib.ListN.{length}
 use Rattle.words.specs.Tests.{Test}
-use Rattle.tables.specs.Tables.{Tables, tableTests}
+use Rattle.tables.specs.Tables.{tableTests}
 use Rattle.plans.specs.Plans.{planOf, planTests}
-use Rattle.steps.specs.Saved.{shapeRight, placesRight}
+use Rattle.steps.specs.Saved.{shapeRight, surveyRight, placesRight}
+use Rattle.turns.specs.Surveys.{Survey}
 use Rattle.queues.specs.declared.Entry.{Entry}
 use Rattle.queues.specs.declared.Queued.{Queued}
 use Rattle.queues.specs.declared.Queued.the-variants.{Lists, Refused}
@@ -73,5 +74,11 @@ abbrev pub toppedBy : ℕ → ℕ → ℕ → Entry → Queueing
 toppedBy g n m e = record { answer = Lists (n + 1) (m - 1); line = appended n; aside = removed g m; entry = e }
 
 -- ---- tests of a query that joins, but those of the lists
-abbrev pub queryTests : Tables → List ℕ → List ℕ → List Test
-queryTests t plan state = tableTests t ++ (planTests plan ++ ((9, shapeRight (planOf plan) state) ∷ (10, placesRight t (planOf plan) state) ∷ []))
+abbrev pub queryTests : Survey → List ℕ → List ℕ → List Test
+queryTests v plan state =
+    tableTests (v .tables)
+    ++ (planTests plan
+    ++ ((9, shapeRight (planOf plan) state)
+    ∷ (22, surveyRight (v .number) state)
+    ∷ (10, placesRight (v .tables) (planOf plan) state)
+    ∷ []))

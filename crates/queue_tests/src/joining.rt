@@ -1,4 +1,4 @@
-// Joining: tests 1 to 6, 9, 10, 17 and 18, and the new entry to the end of one of the lists.
+// Joining: tests 1 to 6, 9, 22, 10, 17 and 18, and the new entry to the end of one of the lists.
 use crate::Queueing;
 use crate::changes::appended;
 use crate::changes::first_of;
@@ -17,16 +17,23 @@ ghost use Prim.Native.Nat.{_+_, _<_, _≤_};
 ghost use lib.Dec.{ltb};
 ghost use lib.ListN.{length};
 ghost use Rattle.words.specs.Tests.{firstFailing, numberOf};
-ghost use Rattle.tables.specs.Tables.{tablesOf};
+ghost use Rattle.turns.specs.Surveys.{surveyOf};
 ghost use Rattle.queues.specs.declared.Entry.{Entry};
 ghost use Rattle.queues.specs.Lists.{mostEntries, entryPlanRoom, entryStateRoom, lentAs};
 ghost use Rattle.queues.specs.Joining.{newEntry, joinQueueOf};
 ghost use Rattle.queue_entries.specs.Seeing.{SeenOf};
 ghost use Rattle.queue_tests.specs.Changes.{Decides, queryTests, admittedBy};
 
-// The number of the first of tests 1 to 6, 9 and 10 that a query fails, or 0.
-fn query_number(rows: &[u32], pos: &[u32], osp: &[u32], plan: &[u32], state: &[u32]) -> u32
-    ensures { λ r. ⌜ r ≡ numberOf (firstFailing (queryTests (tablesOf (now (rows .entry)) (now (pos .entry)) (now (osp .entry)))
+// The number of the first of tests 1 to 6, 9, 22 and 10 that a query fails, or 0.
+fn query_number(
+    rows: &[u32],
+    pos: &[u32],
+    osp: &[u32],
+    survey: u32,
+    plan: &[u32],
+    state: &[u32],
+) -> u32
+    ensures { λ r. ⌜ r ≡ numberOf (firstFailing (queryTests (surveyOf (now (rows .entry)) (now (pos .entry)) (now (osp .entry)) survey)
         (now (plan .entry)) (now (state .entry)))) ⌝ }
 {
     let number = turn_tests::check(rows, pos, osp, plan);
@@ -34,7 +41,7 @@ fn query_number(rows: &[u32], pos: &[u32], osp: &[u32], plan: &[u32], state: &[u
         return number;
     }
     let mut bound = [Term::UNBOUND; 16];
-    state_loading::load(rows, pos, osp, plan, state, &mut bound).refused
+    state_loading::load(rows, pos, osp, survey, plan, state, &mut bound).refused
 }
 
 // Test 17 with the joining entry.
@@ -98,6 +105,7 @@ pub fn join(
     rows: &[u32],
     pos: &[u32],
     osp: &[u32],
+    survey: u32,
     seen: Seen,
     given: usize,
     kept: usize,
@@ -107,13 +115,13 @@ pub fn join(
     state: &[u32],
 ) -> Queueing
     ensures { λ r. ⌜ ((line aside : List Entry) → SeenOf (lentAs line given aside kept) owner seen
-        → Decides (lentAs line given aside kept) r (joinQueueOf (tablesOf (now (rows .entry)) (now (pos .entry)) (now (osp .entry)))
+        → Decides (lentAs line given aside kept) r (joinQueueOf (surveyOf (now (rows .entry)) (now (pos .entry)) (now (osp .entry)) survey)
         (lentAs line given aside kept)
         (record { owner = owner; allowance = allowance; plan = now (plan .entry); state = now (state .entry) }))) ⌝ }
 {
     let room = room_right(seen.room, seen.spare, given, kept, 1);
     let late = lists_number(join_right(seen), room);
-    let number = first_of(query_number(rows, pos, osp, plan, state), late);
+    let number = first_of(query_number(rows, pos, osp, survey, plan, state), late);
     if number != 0 {
         return refused(number);
     }

@@ -21,7 +21,7 @@ pub record Bounded (i : TurnInput) : Type 0 where
 module _ (i : TurnInput) where
   when-served : Served i → Bounded i
   when-served h =
-      let ws = savedWords (turnRun i .state) in
+      let ws = savedWords (i .survey .number) (turnRun i .state) in
       let f = follows i h .state in
       let k = keeps-lengths i h .state in
       let w = ap length (f .whole) in

@@ -1,7 +1,7 @@
 -- The tests that serving makes besides those of a turn, as the code makes them, one after the other.
 use Prim.Native.Nat.{ℕ, _<_, _≤_}
 use native.Mathlib.Omega.{arith}
-use mathlib.Core.Path.{_≡_, refl}
+use mathlib.Core.Path.{_≡_, refl, ap, _∙_}
 use mathlib.Core.Bool.{Bool, true, false, _&&_, not}
 use mathlib.Core.List.{_++_}
 use lib.Dec.{eqb}
@@ -10,8 +10,9 @@ use Rattle.words.specs.Sequences.{all}
 use Rattle.words.specs.Tests.{firstFailing, numberOf}
 use Rattle.words.proofs.Booleans.{absurd-true}
 use Rattle.tables.specs.Tables.{Tables, tableTests}
+use Rattle.steps.specs.Saved.{numberRight}
 use Rattle.turns.specs.Turns.{mostSteps}
-use Rattle.queues.specs.Serving.{quantumTests, queueTestsBy}
+use Rattle.queues.specs.Serving.{quantumTests, numberTests, queueTestsBy}
 use Rattle.queue_tests.specs.Changes.{firstNumber}
 use Rattle.queue_tests.proofs.Following.{numbers-follow}
 
@@ -60,11 +61,25 @@ module _ (quantum : ℕ) where
   unfolding firstFailing
   quantum-right e h = rw (le-leb 1 quantum (omega arith), le-leb quantum mostSteps h)
 
--- the tables, then the quantum
-pub tables-then : (t : Tables) (quantum : ℕ) → firstNumber (numberOf (firstFailing (tableTests t))) (numberOf (firstFailing (quantumTests quantum)))
-    ≡ numberOf (firstFailing (tableTests t ++ quantumTests quantum))
+-- ---- 22
+module _ (survey : ℕ) where
+  pub number-long : numberRight survey ≡ false → 22 ≡ numberOf (firstFailing (numberTests survey))
+  unfolding firstFailing
+  number-long h = rw h
+
+  pub number-short : numberRight survey ≡ true → 0 ≡ numberOf (firstFailing (numberTests survey))
+  unfolding firstFailing
+  number-short h = rw h
+
+-- the tables, then the quantum, then the survey's number
+pub tables-then : (t : Tables) (quantum survey : ℕ)
+    → firstNumber (numberOf (firstFailing (tableTests t)))
+    (firstNumber (numberOf (firstFailing (quantumTests quantum))) (numberOf (firstFailing (numberTests survey))))
+    ≡ numberOf (firstFailing (tableTests t ++ (quantumTests quantum ++ numberTests survey)))
 unfolding all
-tables-then t quantum = numbers-follow (tableTests t) (quantumTests quantum) refl
+tables-then t quantum survey =
+    ap (firstNumber (numberOf (firstFailing (tableTests t)))) (numbers-follow (quantumTests quantum) (numberTests survey) refl)
+    ∙ numbers-follow (tableTests t) (quantumTests quantum ++ numberTests survey) refl
 
 -- ---- test 17 of both lists
 pub line-wrong : (lined rested : Bool) → not lined ≡ true → false ≡ lined && rested

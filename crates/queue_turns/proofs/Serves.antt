@@ -15,7 +15,7 @@ use Rattle.words.proofs.Booleans.{absurd-true, and-left, and-right, and-both}
 use Rattle.words.proofs.Elements.{all-head}
 use Rattle.words.proofs.Testing.{orElse, first-append, passes-all, test-passed}
 use Rattle.words.proofs.Numbering.{isNumbered, none-fails, one-fails, both-pass}
-use Rattle.tables.specs.Tables.{Tables}
+use Rattle.turns.specs.Surveys.{Survey}
 use Rattle.turns.specs.Turns.{TurnInput, turnTests, turnedAs, turnOf, mostSteps}
 use Rattle.turns.proofs.Refusals.{turn-refusals}
 use Rattle.queues.specs.declared.Entry.{Entry}
@@ -46,47 +46,47 @@ front-is (suc n) [] h = let z = min-le-right (suc n) (length {A = Entry} []) in 
 front-is (suc n) (e ∷ es) h = ap (λ (k : ℕ). e ∷ take k es) (let z : n ≡ suc n - 1 = omega arith in z)
 
 -- ---- numbers
-module _ (t : Tables) (s : Serving) (n : ℕ) (e : Entry) (entries room : Bool) where
+module _ (v : Survey) (s : Serving) (n : ℕ) (e : Entry) (entries room : Bool) where
   abbrev late : List Test
   late = queueTestsBy entries room (not (eqb n 0))
 
-  numbered-front : all isNumbered (frontBy t s n e) ≡ true
+  numbered-front : all isNumbered (frontBy v s n e) ≡ true
   unfolding all
   numbered-front = by-test (eqb n 0)
     where
-      by-test : (b : Bool) → all isNumbered (cond b (frontTests t s []) (frontTests t s (e ∷ []))) ≡ true
+      by-test : (b : Bool) → all isNumbered (cond b (frontTests v s []) (frontTests v s (e ∷ []))) ≡ true
       by-test true = refl
       by-test false = refl
 
-  numbered : all isNumbered (frontBy t s n e ++ late) ≡ true
+  numbered : all isNumbered (frontBy v s n e ++ late) ≡ true
   unfolding all
   numbered = by-test (eqb n 0)
     where
-      by-test : (b : Bool) → all isNumbered (cond b (frontTests t s []) (frontTests t s (e ∷ [])) ++ queueTestsBy entries room (not b)) ≡ true
+      by-test : (b : Bool) → all isNumbered (cond b (frontTests v s []) (frontTests v s (e ∷ [])) ++ queueTestsBy entries room (not b)) ≡ true
       by-test true = refl
       by-test false = refl
 
   -- the number that the code puts together
-  pub serve-number : (r k : ℕ) → k ≡ numberOf (firstFailing late) → r ≡ firstNumber (numberOf (firstFailing (frontBy t s n e))) k
-      → r ≡ numberOf (firstFailing (frontBy t s n e ++ late))
+  pub serve-number : (r k : ℕ) → k ≡ numberOf (firstFailing late) → r ≡ firstNumber (numberOf (firstFailing (frontBy v s n e))) k
+      → r ≡ numberOf (firstFailing (frontBy v s n e ++ late))
   serve-number r k f h =
-      h ∙ ap (firstNumber (numberOf (firstFailing (frontBy t s n e)))) f ∙ numbers-follow (frontBy t s n e) late numbered-front
+      h ∙ ap (firstNumber (numberOf (firstFailing (frontBy v s n e)))) f ∙ numbers-follow (frontBy v s n e) late numbered-front
 
   -- the front's tests have the quantum's among them
-  quantum-passed : AllPass (frontBy t s n e) → leb 1 (s .quantum) && leb (s .quantum) mostSteps ≡ true
+  quantum-passed : AllPass (frontBy v s n e) → leb 1 (s .quantum) && leb (s .quantum) mostSteps ≡ true
   quantum-passed = by-test (eqb n 0)
     where
-      by-test : (b : Bool) → AllPass (cond b (frontTests t s []) (frontTests t s (e ∷ []))) → leb 1 (s .quantum) && leb (s .quantum) mostSteps ≡ true
-      by-test true p = test-passed 8 (frontTests t s []) p
-      by-test false p = test-passed 8 (frontTests t s (e ∷ [])) p
+      by-test : (b : Bool) → AllPass (cond b (frontTests v s []) (frontTests v s (e ∷ []))) → leb 1 (s .quantum) && leb (s .quantum) mostSteps ≡ true
+      by-test true p = test-passed 8 (frontTests v s []) p
+      by-test false p = test-passed 8 (frontTests v s (e ∷ [])) p
 
   -- where the tests of both lists or of the quantum fail, the number is not 0
-  pub not-served : (r k q : ℕ) → r ≡ numberOf (firstFailing (frontBy t s n e ++ late)) → k ≡ numberOf (firstFailing late)
+  pub not-served : (r k q : ℕ) → r ≡ numberOf (firstFailing (frontBy v s n e ++ late)) → k ≡ numberOf (firstFailing late)
       → q ≡ numberOf (firstFailing (quantumTests (s .quantum))) → (firstNumber k q ≡ 0 → ⊥) → r ≡ 0 → ⊥
   unfolding firstFailing
   not-served r k q is f g h z =
-      let both = both-pass (frontBy t s n e) late (none-fails (frontBy t s n e ++ late) numbered (sym is ∙ z)) in
-      let asked = quantum-passed (passes-all (frontBy t s n e) (both .0)) in
+      let both = both-pass (frontBy v s n e) late (none-fails (frontBy v s n e ++ late) numbered (sym is ∙ z)) in
+      let asked = quantum-passed (passes-all (frontBy v s n e) (both .0)) in
       let k-none : k ≡ 0 = f ∙ ap numberOf (both .1) in
       let q-none : q ≡ 0 = g ∙ ap (λ (b : Bool). numberOf (cond b none (some 8))) asked in
       h (λ i. firstNumber (k-none i) (q-none i))
@@ -122,7 +122,7 @@ passed entries room n quantum k q f g h =
     by-tests false b c d x y z w u v = absurd (omega arith)
 
 -- ---- a call
-module _ (t : Tables) (s : Serving) (line : List Entry) (given : ℕ) (aside : List Entry) (kept : ℕ) (seen : Seen)
+module _ (v : Survey) (s : Serving) (line : List Entry) (given : ℕ) (aside : List Entry) (kept : ℕ) (seen : Seen)
     (is : SeenOf (lentAs line given aside kept) 0 seen) (e : Entry) (its : e ≡ getD line 0 nobody) where
   abbrev l : LentLists
   l = lentAs line given aside kept
@@ -145,12 +145,12 @@ module _ (t : Tables) (s : Serving) (line : List Entry) (given : ℕ) (aside : L
   line-front : (n ≡ 0 → ⊥) → lineOf l ≡ e ∷ es
   line-front h = front-is given line (λ z. h (is .waiting ∙ z)) ∙ ap (λ (x : Entry). x ∷ es) (sym its)
 
-  same-front : frontBy t s n e ≡ frontTests t s (lineOf l)
+  same-front : frontBy v s n e ≡ frontTests v s (lineOf l)
   same-front = by-test (eqb n 0) refl
     where
-      by-test : (b : Bool) → eqb n 0 ≡ b → cond b (frontTests t s []) (frontTests t s (e ∷ [])) ≡ frontTests t s (lineOf l)
-      by-test true h = ap (λ (xs : List Entry). frontTests t s xs) (sym (line-none (eqb-true n 0 h)))
-      by-test false h = ap (λ (xs : List Entry). frontTests t s xs) (sym (line-front (eqb-false n 0 h)))
+      by-test : (b : Bool) → eqb n 0 ≡ b → cond b (frontTests v s []) (frontTests v s (e ∷ [])) ≡ frontTests v s (lineOf l)
+      by-test true h = ap (λ (xs : List Entry). frontTests v s xs) (sym (line-none (eqb-true n 0 h)))
+      by-test false h = ap (λ (xs : List Entry). frontTests v s xs) (sym (line-front (eqb-false n 0 h)))
 
   same-end : not (eqb n 0) ≡ not (isEmpty (lineOf l))
   same-end = by-test (eqb n 0) refl
@@ -162,17 +162,17 @@ module _ (t : Tables) (s : Serving) (line : List Entry) (given : ℕ) (aside : L
   same-late : queueTestsBy entries room (not (eqb n 0)) ≡ queueTests l
   same-late = λ i. queueTestsBy (seen-entries line given aside kept 0 seen is i) (seen-room line given aside kept 0 seen is 0 i) (same-end i)
 
-  pub serve-refuses : (r : ℕ) → r ≡ numberOf (firstFailing (frontBy t s n e ++ queueTestsBy entries room (not (eqb n 0)))) → (r ≡ 0 → ⊥)
-      → Settles l (servingRefused r) (s .output) (serveOf t l s)
+  pub serve-refuses : (r : ℕ) → r ≡ numberOf (firstFailing (frontBy v s n e ++ queueTestsBy entries room (not (eqb n 0)))) → (r ≡ 0 → ⊥)
+      → Settles l (servingRefused r) (s .output) (serveOf v l s)
   unfolding serveOf
   serve-refuses r f h =
       record {
         line = ((λ z. absurd (omega arith)), (λ z. absurd-true z refl));
         aside = ((λ z. absurd (omega arith)), (λ z. absurd-true z refl));
-        result = sym (ap (servedAs t l s) (sym same-tests ∙ one-fails _ r f h));
+        result = sym (ap (servedAs v l s) (sym same-tests ∙ one-fails _ r f h));
       }
     where
-      same-tests : firstFailing (frontBy t s n e ++ queueTestsBy entries room (not (eqb n 0))) ≡ firstFailing (serveTests t l s)
+      same-tests : firstFailing (frontBy v s n e ++ queueTestsBy entries room (not (eqb n 0))) ≡ firstFailing (serveTests v l s)
       same-tests = λ i. firstFailing (same-front i ++ same-late i)
 
   -- all tests of both lists pass, and that of the quantum
@@ -181,7 +181,7 @@ module _ (t : Tables) (s : Serving) (line : List Entry) (given : ℕ) (aside : L
     k = min (s .quantum) (e .allowance)
 
     abbrev i′ : TurnInput
-    i′ = entryTurn t s e k
+    i′ = entryTurn v s e k
 
     line-is : lineOf l ≡ e ∷ es
     line-is = line-front (p .some-wait)
@@ -214,29 +214,29 @@ module _ (t : Tables) (s : Serving) (line : List Entry) (given : ℕ) (aside : L
         and-both (leb 1 k) (leb k mostSteps) (le-leb 1 k (le-min a some-left)) (le-leb k mostSteps (le-trans (min-le-left (s .quantum) (e .allowance)) b))
 
     -- with the lesser quantum a turn fails at the same test
-    same-at-least : firstFailing (turnTests (entryTurn t s e (s .quantum))) ≡ firstFailing (turnTests i′)
+    same-at-least : firstFailing (turnTests (entryTurn v s e (s .quantum))) ≡ firstFailing (turnTests i′)
     same-at-least = rw (p .quantum-right, within) refl
 
     or-none : (o : Option ℕ) → orElse o none ≡ o
     or-none none = refl
     or-none (some x) = refl
 
-    tests-are : firstFailing (serveTests t l s) ≡ firstFailing (turnTests i′)
+    tests-are : firstFailing (serveTests v l s) ≡ firstFailing (turnTests i′)
     tests-are =
-        ap (λ (xs : List Entry). firstFailing (frontTests t s xs ++ queueTests l)) line-is
-        ∙ first-append (turnTests (entryTurn t s e (s .quantum))) (queueTests l)
-        ∙ ap (orElse (firstFailing (turnTests (entryTurn t s e (s .quantum))))) lists-pass
-        ∙ or-none (firstFailing (turnTests (entryTurn t s e (s .quantum))))
+        ap (λ (xs : List Entry). firstFailing (frontTests v s xs ++ queueTests l)) line-is
+        ∙ first-append (turnTests (entryTurn v s e (s .quantum))) (queueTests l)
+        ∙ ap (orElse (firstFailing (turnTests (entryTurn v s e (s .quantum))))) lists-pass
+        ∙ or-none (firstFailing (turnTests (entryTurn v s e (s .quantum))))
         ∙ same-at-least
 
-    serve-is : serveOf t l s ≡ turnedTo l s e es (turnOf i′) (turnOf i′ .answer .ending)
+    serve-is : serveOf v l s ≡ turnedTo l s e es (turnOf i′) (turnOf i′ .answer .ending)
     unfolding serveOf turnOf
-    serve-is = ap (servedAs t l s) tests-are ∙ by-tests (firstFailing (turnTests i′)) refl
+    serve-is = ap (servedAs v l s) tests-are ∙ by-tests (firstFailing (turnTests i′)) refl
       where
         by-tests : (o : Option ℕ) → firstFailing (turnTests i′) ≡ o
-            → servedAs t l s o ≡ turnedTo l s e es (turnOf i′) (turnOf i′ .answer .ending)
+            → servedAs v l s o ≡ turnedTo l s e es (turnOf i′) (turnOf i′ .answer .ending)
         by-tests (some x) h = sym (ap (λ (q : Option ℕ). turnedTo l s e es (turnOf i′) (turnedAs i′ q .answer .ending)) h)
-        by-tests none h = ap (frontServed t l s) line-is
+        by-tests none h = ap (frontServed v l s) line-is
 
     -- the room that there is
     roomy-so : Roomy (seen .room) (seen .spare) given kept 0
@@ -259,10 +259,10 @@ module _ (t : Tables) (s : Serving) (line : List Entry) (given : ℕ) (aside : L
     ended-is : (x : Ended) (written : List ℕ) → EndedBy (turnOf i′) e x written → x ≡ ended
     ended-is x written g = λ i. record { turned = g .turned i; entry = g .entry i }
 
-    pub serve-accepts : (x : Ended) (written : List ℕ) (steps : ℕ) → steps ≡ k → EndedBy (turnOf (entryTurn t s e steps)) e x written
-        → Settles l (goesBy (x .turned .ending) x given kept) written (serveOf t l s)
+    pub serve-accepts : (x : Ended) (written : List ℕ) (steps : ℕ) → steps ≡ k → EndedBy (turnOf (entryTurn v s e steps)) e x written
+        → Settles l (goesBy (x .turned .ending) x given kept) written (serveOf v l s)
     serve-accepts x written steps f h =
-        let g = subst (λ (m : ℕ). EndedBy (turnOf (entryTurn t s e m)) e x written) f h in
+        let g = subst (λ (m : ℕ). EndedBy (turnOf (entryTurn v s e m)) e x written) f h in
         let a : seen .room ≡ length line = is .room in
         let b : seen .spare ≡ length aside = is .spare in
         let c = roomy-so .line in let d = roomy-so .aside in let q = roomy-so .entries in let w = some-given in

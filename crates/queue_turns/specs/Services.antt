@@ -5,9 +5,9 @@ use mathlib.Core.Bool.{cond}
 use mathlib.Core.List.{List, [], _∷_}
 use lib.Dec.{leb, eqb}
 use Rattle.words.specs.Tests.{Test}
-use Rattle.tables.specs.Tables.{Tables}
 use Rattle.turns.specs.declared.TurnEnding.{TurnEnding}
 use Rattle.turns.specs.declared.TurnEnding.the-variants as ending
+use Rattle.turns.specs.Surveys.{Survey}
 use Rattle.turns.specs.Turns.{TurnResult}
 use Rattle.queues.specs.declared.Entry.{Entry}
 use Rattle.queues.specs.declared.Service.{Service}
@@ -66,8 +66,8 @@ goesBy (ending.Refused y) x n m = servingRefused y
 
 -- ---- a whole call
 -- the tests before those of both lists, where so many wait and this one is at the front
-abbrev pub frontBy : Tables → Serving → ℕ → Entry → List Test
-frontBy t s waiting e = cond (eqb waiting 0) (frontTests t s []) (frontTests t s (e ∷ []))
+abbrev pub frontBy : Survey → Serving → ℕ → Entry → List Test
+frontBy v s waiting e = cond (eqb waiting 0) (frontTests v s []) (frontTests v s (e ∷ []))
 
 -- both lists after a decision, and the output
 abbrev pub servedBy : LentLists → ServeChanges → List ℕ → ServeResult

@@ -1,6 +1,7 @@
 // The numbers that refuse serving: by the front entry, by an empty line, and by both lists.
 use queue_tests::first_of;
 use queues::Entry;
+use state_forms::number_right;
 use words::Term;
 ghost use mathlib.Core.Path.{_≡_};
 ghost use mathlib.Core.Bool.{_&&_, not};
@@ -9,9 +10,9 @@ ghost use Prim.Native.Nat.{_≤_};
 ghost use lib.Dec.{leb, eqb};
 ghost use lib.ListN.{length};
 ghost use Rattle.words.specs.Tests.{firstFailing, numberOf};
-ghost use Rattle.tables.specs.Tables.{tablesOf};
+ghost use Rattle.turns.specs.Surveys.{surveyOf};
 ghost use Rattle.turns.specs.Turns.{turnTests};
-ghost use Rattle.queues.specs.Serving.{entryTurn, frontTests, quantumTests, queueTestsBy};
+ghost use Rattle.queues.specs.Serving.{entryTurn, frontTests, quantumTests, numberTests, queueTestsBy};
 ghost use Rattle.queues.specs.Lists.{entryPlanRoom, entryStateRoom};
 ghost use Rattle.queue_turns.specs.Services.{plannedIn};
 
@@ -26,6 +27,9 @@ pub const EMPTY: u32 = 19;
 pub const MOST_STEPS: u32 = 1000000;
 
 pub const QUANTUM: u32 = 8;
+
+// The test of a survey's number.
+pub const SURVEY: u32 = 22;
 
 // The number of the first of tests 17, 18 and 19 that fails, or 0.
 pub fn list_number(entries: bool, room: bool, waiting: usize) -> u32
@@ -56,12 +60,25 @@ pub fn quantum_number(quantum: u32) -> u32
     0
 }
 
-// The number of the first test that fails with no front entry: those of the tables and of the quantum; or 0.
-pub fn empty_number(rows: &[u32], pos: &[u32], osp: &[u32], quantum: u32) -> u32
-    ensures { λ r. ⌜ r ≡ numberOf (firstFailing (frontTests (tablesOf (now (rows .entry)) (now (pos .entry)) (now (osp .entry)))
+// The number of the test of a survey's number alone, or 0.
+fn survey_number(survey: u32) -> u32
+    ensures { λ r. ⌜ r ≡ numberOf (firstFailing (numberTests survey)) ⌝ }
+{
+    if number_right(survey) {
+        return 0;
+    }
+    SURVEY
+}
+
+// The number of the first test that fails with no front entry: those of the tables, of the quantum and of the survey's number; or 0.
+pub fn empty_number(rows: &[u32], pos: &[u32], osp: &[u32], survey: u32, quantum: u32) -> u32
+    ensures { λ r. ⌜ r ≡ numberOf (firstFailing (frontTests (surveyOf (now (rows .entry)) (now (pos .entry)) (now (osp .entry)) survey)
         (record { quantum = quantum; threshold = []; output = [] }) [])) ⌝ }
 {
-    first_of(table_tests::check(rows, pos, osp), quantum_number(quantum))
+    first_of(
+        table_tests::check(rows, pos, osp),
+        first_of(quantum_number(quantum), survey_number(survey)),
+    )
 }
 
 // The words of an entry's plan: none where its count passes the array.
@@ -74,17 +91,18 @@ pub fn planned(e: Entry) -> usize
     e.planned as usize
 }
 
-// The number of the first of tests 1 to 11 that a turn of an entry fails, or 0.
+// The number of the first of tests 1 to 11 and 22 that a turn of an entry fails, or 0.
 pub fn front_number(
     rows: &[u32],
     pos: &[u32],
     osp: &[u32],
+    survey: u32,
     e: Entry,
     quantum: u32,
     threshold: &[u32],
     output: &[u32],
 ) -> u32
-    ensures { λ r. ⌜ r ≡ numberOf (firstFailing (turnTests (entryTurn (tablesOf (now (rows .entry)) (now (pos .entry)) (now (osp .entry)))
+    ensures { λ r. ⌜ r ≡ numberOf (firstFailing (turnTests (entryTurn (surveyOf (now (rows .entry)) (now (pos .entry)) (now (osp .entry)) survey)
         (record { quantum = quantum; threshold = now (threshold .entry); output = now (output .entry) }) e quantum))) ⌝ }
 {
     let words = e.plan;
@@ -95,6 +113,7 @@ pub fn front_number(
         rows,
         pos,
         osp,
+        survey,
         &words[..count],
         &state[..],
         e.saved as usize,

@@ -17,7 +17,7 @@ ghost use mathlib.Core.List.{List};
 ghost use Prim.Native.Nat.{_≤_, min};
 ghost use lib.ListN.{getD};
 ghost use Rattle.words.specs.Tests.{firstFailing, numberOf};
-ghost use Rattle.tables.specs.Tables.{tablesOf};
+ghost use Rattle.turns.specs.Surveys.{surveyOf};
 ghost use Rattle.queues.specs.declared.Entry.{Entry};
 ghost use Rattle.queues.specs.Lists.{lentAs};
 ghost use Rattle.queues.specs.Serving.{serveOf};
@@ -51,6 +51,7 @@ fn serve_number(
     rows: &[u32],
     pos: &[u32],
     osp: &[u32],
+    survey: u32,
     waiting: usize,
     e: Entry,
     quantum: u32,
@@ -58,14 +59,14 @@ fn serve_number(
     output: &[u32],
     late: u32,
 ) -> u32
-    ensures { λ r. ⌜ r ≡ firstNumber (numberOf (firstFailing (frontBy (tablesOf (now (rows .entry)) (now (pos .entry)) (now (osp .entry)))
+    ensures { λ r. ⌜ r ≡ firstNumber (numberOf (firstFailing (frontBy (surveyOf (now (rows .entry)) (now (pos .entry)) (now (osp .entry)) survey)
         (record { quantum = quantum; threshold = now (threshold .entry); output = now (output .entry) }) waiting e))) late ⌝ }
 {
     if waiting == 0 {
-        return first_of(empty_number(rows, pos, osp, quantum), late);
+        return first_of(empty_number(rows, pos, osp, survey, quantum), late);
     }
     first_of(
-        front_number(rows, pos, osp, e, quantum, threshold, output),
+        front_number(rows, pos, osp, survey, e, quantum, threshold, output),
         late,
     )
 }
@@ -76,6 +77,7 @@ pub fn serve(
     rows: &[u32],
     pos: &[u32],
     osp: &[u32],
+    survey: u32,
     seen: Seen,
     given: usize,
     kept: usize,
@@ -86,7 +88,7 @@ pub fn serve(
 ) -> ServeChanges
     requires { ⌜ seen .waiting ≤ given ⌝ }
     ensures { λ r. ⌜ ((line aside : List Entry) → SeenOf (lentAs line given aside kept) 0 seen → e ≡ getD line 0 nobody
-        → Settles (lentAs line given aside kept) r (now (output .exit)) (serveOf (tablesOf (now (rows .entry)) (now (pos .entry)) (now (osp .entry)))
+        → Settles (lentAs line given aside kept) r (now (output .exit)) (serveOf (surveyOf (now (rows .entry)) (now (pos .entry)) (now (osp .entry)) survey)
         (lentAs line given aside kept)
         (record { quantum = quantum; threshold = now (threshold .entry); output = now (output .entry) }))) ⌝ }
 {
@@ -97,6 +99,7 @@ pub fn serve(
             rows,
             pos,
             osp,
+            survey,
             seen.waiting,
             e,
             quantum,
@@ -107,7 +110,7 @@ pub fn serve(
     }
     let steps = least_steps(quantum, e.allowance);
     goes(
-        turn_entry(rows, pos, osp, e, steps, threshold, output),
+        turn_entry(rows, pos, osp, survey, e, steps, threshold, output),
         given,
         kept,
     )

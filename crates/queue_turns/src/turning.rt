@@ -6,7 +6,7 @@ ghost use mathlib.Core.Path.{_≡_};
 ghost use mathlib.Core.List.{List};
 ghost use Prim.Native.Nat.{_-_, _≤_};
 ghost use lib.ListN.{length};
-ghost use Rattle.tables.specs.Tables.{tablesOf};
+ghost use Rattle.turns.specs.Surveys.{surveyOf};
 ghost use Rattle.turns.specs.Turns.{turnOf};
 ghost use Rattle.queues.specs.Serving.{entryTurn};
 ghost use Rattle.queue_turns.specs.Services.{entryWith, EndedBy};
@@ -28,13 +28,14 @@ pub fn turn_entry(
     rows: &[u32],
     pos: &[u32],
     osp: &[u32],
+    survey: u32,
     e: Entry,
     steps: u32,
     threshold: &[u32],
     output: &mut [u32],
 ) -> Ended
     requires { ⌜ steps ≤ e .allowance ⌝ }
-    ensures { λ r. ⌜ EndedBy (turnOf (entryTurn (tablesOf (now (rows .entry)) (now (pos .entry)) (now (osp .entry)))
+    ensures { λ r. ⌜ EndedBy (turnOf (entryTurn (surveyOf (now (rows .entry)) (now (pos .entry)) (now (osp .entry)) survey)
         (record { quantum = steps; threshold = now (threshold .entry); output = now (output .entry) }) e steps)) e r (now (output .exit)) ⌝ }
 {
     let words = e.plan;
@@ -44,6 +45,7 @@ pub fn turn_entry(
         rows,
         pos,
         osp,
+        survey,
         &words[..count],
         &mut state,
         e.saved as usize,

@@ -5,7 +5,7 @@ use mathlib.Core.Path.{_≡_, refl, _∙_}
 use mathlib.Core.Bool.{Bool, true, false, cond}
 use mathlib.Core.List.{List, [], _∷_, _++_}
 use lib.Dec.{eqb}
-use Rattle.tables.specs.Tables.{Tables}
+use Rattle.turns.specs.Surveys.{Survey}
 use Rattle.turns.specs.declared.TurnEnding.{TurnEnding}
 use Rattle.turns.specs.declared.TurnEnding.the-variants as ending
 use Rattle.queues.specs.declared.Entry.{Entry}
@@ -69,9 +69,9 @@ module _ (owner : ℕ) where
       let c = carried-none (e .owner) n (e .allowance - n) x not-done in omega arith
 
 -- any list of calls, by anyone, refused ones included
-pub accounts : (t : Tables) (owner : ℕ) (ms : List MadeCall) (q : Queue) → Accounts t q ms owner
+pub accounts : (v : Survey) (owner : ℕ) (ms : List MadeCall) (q : Queue) → Accounts v q ms owner
 unfolding afterCalls deeds summed
-accounts t owner [] q = omega arith
-accounts t owner (m ∷ ms) q =
-    let h = one-accounts owner (call-moves t q m (m .call)) in
-    let g = accounts t owner ms (afterCall t q (lentTo q m) (m .call)) in omega arith
+accounts v owner [] q = omega arith
+accounts v owner (m ∷ ms) q =
+    let h = one-accounts owner (call-moves v q m (m .call)) in
+    let g = accounts v owner ms (afterCall v q (lentTo q m) (m .call)) in omega arith

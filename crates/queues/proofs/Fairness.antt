@@ -8,7 +8,7 @@ use mathlib.Core.List.{List, [], _∷_, _++_}
 use lib.Dec.{eqb}
 use borrow.Author.Tests.{eqb-true}
 use Rattle.words.proofs.Testing.{none-some}
-use Rattle.tables.specs.Tables.{Tables}
+use Rattle.turns.specs.Surveys.{Survey}
 use Rattle.turns.specs.declared.TurnEnding.{TurnEnding}
 use Rattle.queues.specs.declared.Entry.{Entry}
 use Rattle.queues.specs.Calls.{Queue, MadeCall, lentTo, Deed, turns, afterCall, afterCalls, deedOf, deeds, turnsOf, turnsIn, placeInLine, Fair}
@@ -80,21 +80,21 @@ module _ (owner : ℕ) where
   one-its (goes-on a d es aside y k l not-done same m) h o x n left e = let z : a .owner ≡ o = cc in sym z ∙ at-front a es h
   one-its (runs-out a d es aside y k l not-done same m w) h o x n left e = let z : a .owner ≡ o = cc in sym z ∙ at-front a es h
 
-  moves-up : (t : Tables) (ms : List MadeCall) (q : Queue) (p : ℕ) → placeInLine owner (q .line) ≡ some p → turnsIn (deeds t q ms) ≤ p
-      → placeInLine owner (afterCalls t q ms .line) ≡ some (p - turnsIn (deeds t q ms))
+  moves-up : (v : Survey) (ms : List MadeCall) (q : Queue) (p : ℕ) → placeInLine owner (q .line) ≡ some p → turnsIn (deeds v q ms) ≤ p
+      → placeInLine owner (afterCalls v q ms .line) ≡ some (p - turnsIn (deeds v q ms))
   unfolding afterCalls deeds turnsIn
-  moves-up t [] q p h l = as-was p h
-  moves-up t (m ∷ ms) q p h l =
-      let q′ = afterCall t q (lentTo q m) (m .call) in
-      let d = deedOf t (lentTo q m) (m .call) in
-      moves-up t ms q′ (p - turnsOf d) (one-moves (call-moves t q m (m .call)) p h (omega arith)) (omega arith)
-      ∙ ap (λ (x : ℕ). some x) (let g : p - turnsOf d - turnsIn (deeds t q′ ms) ≡ p - (turnsOf d + turnsIn (deeds t q′ ms)) = omega arith in g)
+  moves-up v [] q p h l = as-was p h
+  moves-up v (m ∷ ms) q p h l =
+      let q′ = afterCall v q (lentTo q m) (m .call) in
+      let d = deedOf v (lentTo q m) (m .call) in
+      moves-up v ms q′ (p - turnsOf d) (one-moves (call-moves v q m (m .call)) p h (omega arith)) (omega arith)
+      ∙ ap (λ (x : ℕ). some x) (let g : p - turnsOf d - turnsIn (deeds v q′ ms) ≡ p - (turnsOf d + turnsIn (deeds v q′ ms)) = omega arith in g)
 
-pub fair : (t : Tables) (q : Queue) (owner p : ℕ) → placeInLine owner (q .line) ≡ some p → Fair t q owner p
-fair t q owner p h =
+pub fair : (v : Survey) (q : Queue) (owner p : ℕ) → placeInLine owner (q .line) ≡ some p → Fair v q owner p
+fair v q owner p h =
     record {
-      moves-up = λ ms l. moves-up owner t ms q p h l;
+      moves-up = λ ms l. moves-up owner v ms q p h l;
       next-is-its = λ ms e m o x n left is.
-          one-its owner (call-moves t (afterCalls t q ms) m (m .call))
-          (moves-up owner t ms q p h (omega arith) ∙ ap (λ (x : ℕ). some x) (let g : p - turnsIn (deeds t q ms) ≡ 0 = omega arith in g)) o x n left is;
+          one-its owner (call-moves v (afterCalls v q ms) m (m .call))
+          (moves-up owner v ms q p h (omega arith) ∙ ap (λ (x : ℕ). some x) (let g : p - turnsIn (deeds v q ms) ≡ 0 = omega arith in g)) o x n left is;
     }

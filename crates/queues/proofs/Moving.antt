@@ -14,7 +14,7 @@ use Rattle.words.specs.Sequences.{all, keep, member, distinct}
 use Rattle.words.specs.Tests.{Test, firstFailing}
 use Rattle.words.proofs.Booleans.{absurd-true, and-left, and-right, or-left, or-right}
 use Rattle.words.proofs.Testing.{none-some}
-use Rattle.tables.specs.Tables.{Tables}
+use Rattle.turns.specs.Surveys.{Survey}
 use Rattle.turns.specs.declared.TurnEnding.{TurnEnding}
 use Rattle.turns.specs.declared.TurnEnding.the-variants as ending
 use Rattle.turns.specs.Turns.{TurnResult}
@@ -63,11 +63,11 @@ pub both-taken : (l : LentLists) (line aside : List Entry) (line′ aside′ : L
 both-taken l line aside line′ aside′ e f = λ i. queue ((taken line (l .line) ∙ e) i) ((taken aside (l .aside) ∙ f) i)
 
 -- ---- joining
-module _ (t : Tables) (q : Queue) (m : MadeCall) where
+module _ (v : Survey) (q : Queue) (m : MadeCall) where
   abbrev l : LentLists
   l = lentTo q m
 
-  join-moves : (j : Joining) (o : Option ℕ) → firstFailing (joinTests t l j) ≡ o
+  join-moves : (j : Joining) (o : Option ℕ) → firstFailing (joinTests v l j) ≡ o
       → Moves q (afterQueued q (joinedAs l j o) (joinedAs l j o .answer)) (granted (j .owner) (j .allowance) (joinedAs l j o .answer))
   join-moves j (some x) e = stays
   join-moves j none e = by-steps (eqb (j .allowance) 0) refl
@@ -212,20 +212,20 @@ module _ (q : Queue) (m : MadeCall) where
       (returns (q .line) (topped-up owner n e .before) (topped-up owner n e .behind) (topped-up owner n e .entry) n (topped-up owner n e .nothing-left))))
 
 -- ---- serving
-module _ (t : Tables) (q : Queue) (m : MadeCall) (s : Serving) where
+module _ (v : Survey) (q : Queue) (m : MadeCall) (s : Serving) where
   abbrev held : LentLists
   held = lentTo q m
 
   module _ (e : Entry) (es : List Entry) (line-is : lineOf held ≡ e ∷ es) where
     abbrev r : TurnResult
-    r = frontTurn t s e
+    r = frontTurn v s e
 
     abbrev n : ℕ
     n = r .answer .steps
 
     -- a turn that is not refused takes no more steps than are left
     within : ((x : ℕ) → r .answer .ending ≡ ending.Refused x → ⊥) → n ≤ e .allowance
-    within h = le-trans (progresses (entryTurn t s e (min (s .quantum) (e .allowance))) h .within) (min-le-right (s .quantum) (e .allowance))
+    within h = le-trans (progresses (entryTurn v s e (min (s .quantum) (e .allowance))) h .within) (min-le-right (s .quantum) (e .allowance))
 
     front : q .line ≡ e ∷ es
     front = sym (line-lent q m) ∙ line-is
@@ -303,20 +303,20 @@ module _ (t : Tables) (q : Queue) (m : MadeCall) (s : Serving) where
     by-ending (ending.Refused x) is = stays
 
   by-line : (es : List Entry) → lineOf held ≡ es
-      → Moves q (afterService q (frontServed t held s es) (frontServed t held s es .answer .turned .ending))
-      (tookTurn (frontServed t held s es) (frontServed t held s es .answer .turned .ending))
+      → Moves q (afterService q (frontServed v held s es) (frontServed v held s es .answer .turned .ending))
+      (tookTurn (frontServed v held s es) (frontServed v held s es .answer .turned .ending))
   by-line [] is = stays
-  by-line (e ∷ es) is = by-ending e es is (frontTurn t s e .answer .ending) refl
+  by-line (e ∷ es) is = by-ending e es is (frontTurn v s e .answer .ending) refl
 
   serve-moves : (o : Option ℕ)
-      → Moves q (afterService q (servedAs t held s o) (servedAs t held s o .answer .turned .ending))
-      (tookTurn (servedAs t held s o) (servedAs t held s o .answer .turned .ending))
+      → Moves q (afterService q (servedAs v held s o) (servedAs v held s o .answer .turned .ending))
+      (tookTurn (servedAs v held s o) (servedAs v held s o .answer .turned .ending))
   serve-moves (some x) = stays
   serve-moves none = by-line (lineOf held) refl
 
 -- what one call does
-pub call-moves : (t : Tables) (q : Queue) (m : MadeCall) (c : QueueCall) → Moves q (afterCall t q (lentTo q m) c) (deedOf t (lentTo q m) c)
+pub call-moves : (v : Survey) (q : Queue) (m : MadeCall) (c : QueueCall) → Moves q (afterCall v q (lentTo q m) c) (deedOf v (lentTo q m) c)
 unfolding joinQueueOf topUpOf serveOf
-call-moves t q m (join j) = join-moves t q m j (firstFailing (joinTests t (lentTo q m) j)) refl
-call-moves t q m (serve s) = serve-moves t q m s (firstFailing (serveTests t (lentTo q m) s))
-call-moves t q m (topUp owner n) = top-up-moves q m owner n (firstFailing (topUpTests (lentTo q m) owner n)) refl
+call-moves v q m (join j) = join-moves v q m j (firstFailing (joinTests v (lentTo q m) j)) refl
+call-moves v q m (serve s) = serve-moves v q m s (firstFailing (serveTests v (lentTo q m) s))
+call-moves v q m (topUp owner n) = top-up-moves q m owner n (firstFailing (topUpTests (lentTo q m) owner n)) refl

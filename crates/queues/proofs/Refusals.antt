@@ -16,7 +16,7 @@ use Rattle.words.proofs.Booleans.{absurd-true, and-left, and-right, and-both}
 use Rattle.words.proofs.Elements.{all-head}
 use Rattle.words.proofs.Testing.{passes-all, all-passes, first-fails, fails-first, front-passes, rest-passes, test-passed}
 use Rattle.words.proofs.Refusing.{refused-by, served-when}
-use Rattle.tables.specs.Tables.{Tables}
+use Rattle.turns.specs.Surveys.{Survey}
 use Rattle.turns.specs.declared.TurnEnding.{TurnEnding}
 use Rattle.turns.specs.declared.TurnEnding.the-variants as ending
 use Rattle.turns.specs.Turns.{mostSteps, refusalOf, turnTests}
@@ -67,9 +67,9 @@ module _ (l : LentLists) (tests : List Test) (leaves : Option ℕ → QueuedResu
         serves = served-when Refused (λ o. leaves o .answer) (λ x y e. cc) (λ x. ap (λ (r : QueuedResult). r .answer) (refuses x)) never tests;
       }
 
-pub join-refusals : (t : Tables) (l : LentLists) (j : Joining) → JoinRefusals t l j
+pub join-refusals : (v : Survey) (l : LentLists) (j : Joining) → JoinRefusals v l j
 unfolding joinQueueOf
-join-refusals t l j = queued-refusals l (joinTests t l j) (joinedAs l j) (λ x. refl) (λ x. admits (eqb (j .allowance) 0) x) _ refl
+join-refusals v l j = queued-refusals l (joinTests v l j) (joinedAs l j) (λ x. refl) (λ x. admits (eqb (j .allowance) 0) x) _ refl
   where
     admits : (b : Bool) (x : ℕ)
         → ¬ (cond b (listsWith l (lineOf l) (asideOf l ++ (newEntry j ∷ [])))
@@ -83,18 +83,18 @@ top-up-refusals l owner amount =
     queued-refusals l (topUpTests l owner amount) (toppedAs l owner amount) (λ x. refl) (λ x e. let z : _≡_ {A = ℕ} 0 1 = cc in omega arith) _ refl
 
 -- ---- serving
-module _ (t : Tables) (l : LentLists) (s : Serving) where
+module _ (v : Survey) (l : LentLists) (s : Serving) where
   -- the front entry passes with the steps left what it passes with the call's quantum
-  front-serves : (e : Entry) → 1 ≤ e .allowance → AllPass (turnTests (entryTurn t s e (s .quantum)))
-      → Served (entryTurn t s e (min (s .quantum) (e .allowance)))
+  front-serves : (e : Entry) → 1 ≤ e .allowance → AllPass (turnTests (entryTurn v s e (s .quantum)))
+      → Served (entryTurn v s e (min (s .quantum) (e .allowance)))
   front-serves e some-left passed =
-      turn-refusals (entryTurn t s e n) .serves .1 (rw within (rw asked at passed))
+      turn-refusals (entryTurn v s e n) .serves .1 (rw within (rw asked at passed))
     where
       n : ℕ
       n = min (s .quantum) (e .allowance)
 
       asked : leb 1 (s .quantum) && leb (s .quantum) mostSteps ≡ true
-      asked = test-passed 8 (turnTests (entryTurn t s e (s .quantum))) passed
+      asked = test-passed 8 (turnTests (entryTurn v s e (s .quantum))) passed
 
       within : leb 1 n && leb n mostSteps ≡ true
       within =
@@ -108,64 +108,64 @@ module _ (t : Tables) (l : LentLists) (s : Serving) where
   either-ends true y z x e f = e
   either-ends false y z x e f = f
 
-  back-ends : (e : Entry) (es : List Entry) → goesBack l e es (frontTurn t s e) .answer .turned .ending ≡ frontTurn t s e .answer .ending
+  back-ends : (e : Entry) (es : List Entry) → goesBack l e es (frontTurn v s e) .answer .turned .ending ≡ frontTurn v s e .answer .ending
   back-ends e es =
-      let r = frontTurn t s e in
+      let r = frontTurn v s e in
       either-ends (eqb (e .allowance - r .answer .steps) 0) (serviceWith l e r es (asideOf l ++ (entryAfter e r ∷ [])))
       (serviceWith l e r (es ++ (entryAfter e r ∷ [])) (asideOf l)) (r .answer .ending) refl refl
 
-  ends-so : (e : Entry) (es : List Entry) → Served (entryTurn t s e (min (s .quantum) (e .allowance)))
-      → (x : ℕ) → ¬ (frontServed t l s (e ∷ es) .answer .turned .ending ≡ ending.Refused x)
-  ends-so e es h x = by-ending (frontTurn t s e .answer .ending) refl
+  ends-so : (e : Entry) (es : List Entry) → Served (entryTurn v s e (min (s .quantum) (e .allowance)))
+      → (x : ℕ) → ¬ (frontServed v l s (e ∷ es) .answer .turned .ending ≡ ending.Refused x)
+  ends-so e es h x = by-ending (frontTurn v s e .answer .ending) refl
     where
-      by-ending : (y : TurnEnding) → frontTurn t s e .answer .ending ≡ y
-          → ¬ (turnedTo l s e es (frontTurn t s e) y .answer .turned .ending ≡ ending.Refused x)
+      by-ending : (y : TurnEnding) → frontTurn v s e .answer .ending ≡ y
+          → ¬ (turnedTo l s e es (frontTurn v s e) y .answer .turned .ending ≡ ending.Refused x)
       by-ending ending.Done is f = h x f
       by-ending ending.Spent is f = h x (sym (back-ends e es) ∙ f)
       by-ending ending.Full is f = h x (sym (back-ends e es) ∙ f)
       by-ending (ending.Refused z) is f = h z is
 
   -- where every test passes there is a front entry, and its turn is served
-  served-so : AllPass (serveTests t l s) → (x : ℕ) → ¬ (servedAs t l s none .answer .turned .ending ≡ ending.Refused x)
+  served-so : AllPass (serveTests v l s) → (x : ℕ) → ¬ (servedAs v l s none .answer .turned .ending ≡ ending.Refused x)
   served-so passed = by-line (lineOf l) refl passed
     where
-      by-line : (es : List Entry) → lineOf l ≡ es → AllPass (frontTests t s es ++ queueTests l)
-          → (x : ℕ) → ¬ (frontServed t l s es .answer .turned .ending ≡ ending.Refused x)
-      by-line [] is p = λ x f. absurd-true (test-passed 19 (queueTests l) (rest-passes (frontTests t s []) (queueTests l) p)) (rw is refl)
+      by-line : (es : List Entry) → lineOf l ≡ es → AllPass (frontTests v s es ++ queueTests l)
+          → (x : ℕ) → ¬ (frontServed v l s es .answer .turned .ending ≡ ending.Refused x)
+      by-line [] is p = λ x f. absurd-true (test-passed 19 (queueTests l) (rest-passes (frontTests v s []) (queueTests l) p)) (rw is refl)
       by-line (e ∷ es) is p =
-          let own = front-passes (frontTests t s (e ∷ es)) (queueTests l) p in
-          let lists = rest-passes (frontTests t s (e ∷ es)) (queueTests l) p in
+          let own = front-passes (frontTests v s (e ∷ es)) (queueTests l) p in
+          let lists = rest-passes (frontTests v s (e ∷ es)) (queueTests l) p in
           let right = and-right (distinct (owners l)) _ (test-passed 17 (queueTests l) lists) in
           let steps = and-left (all hasSteps (lineOf l)) (all hasNone (asideOf l)) right in
           ends-so e es (front-serves e (leb-true 1 (e .allowance) (all-head hasSteps e es (rw is at steps))) own)
 
-  serve-refused : (x : ℕ) → (serveOf t l s .answer .turned .ending ≡ ending.Refused x) ↔ FirstFails x (serveTests t l s)
+  serve-refused : (x : ℕ) → (serveOf v l s .answer .turned .ending ≡ ending.Refused x) ↔ FirstFails x (serveTests v l s)
   unfolding serveOf
   serve-refused
-      x = (by-tests (firstFailing (serveTests t l s)) refl, λ h. ap (λ o. servedAs t l s o .answer .turned .ending) (fails-first x (serveTests t l s) h))
+      x = (by-tests (firstFailing (serveTests v l s)) refl, λ h. ap (λ o. servedAs v l s o .answer .turned .ending) (fails-first x (serveTests v l s) h))
     where
-      by-tests : (o : Option ℕ) → firstFailing (serveTests t l s) ≡ o → servedAs t l s o .answer .turned .ending ≡ ending.Refused x
-          → FirstFails x (serveTests t l s)
-      by-tests (some y) is e = first-fails x (serveTests t l s) (is ∙ ap (λ (n : ℕ). some n) (let z : y ≡ x = cc in z))
-      by-tests none is e = absurd (served-so (passes-all (serveTests t l s) is) x e)
+      by-tests : (o : Option ℕ) → firstFailing (serveTests v l s) ≡ o → servedAs v l s o .answer .turned .ending ≡ ending.Refused x
+          → FirstFails x (serveTests v l s)
+      by-tests (some y) is e = first-fails x (serveTests v l s) (is ∙ ap (λ (n : ℕ). some n) (let z : y ≡ x = cc in z))
+      by-tests none is e = absurd (served-so (passes-all (serveTests v l s) is) x e)
 
-  serve-serves : Serves t l s ↔ AllPass (serveTests t l s)
+  serve-serves : Serves v l s ↔ AllPass (serveTests v l s)
   unfolding serveOf
   serve-serves = (
-    λ h. by-tests (firstFailing (serveTests t l s)) refl h,
+    λ h. by-tests (firstFailing (serveTests v l s)) refl h,
     λ p x e. served-so p x
-        (ap (λ o. servedAs t l s o .answer .turned .ending) (sym (all-passes (serveTests t l s) p)) ∙ e),
+        (ap (λ o. servedAs v l s o .answer .turned .ending) (sym (all-passes (serveTests v l s) p)) ∙ e),
   )
     where
-      by-tests : (o : Option ℕ) → firstFailing (serveTests t l s) ≡ o
-          → ((x : ℕ) → ¬ (servedAs t l s o .answer .turned .ending ≡ ending.Refused x))
-          → AllPass (serveTests t l s)
+      by-tests : (o : Option ℕ) → firstFailing (serveTests v l s) ≡ o
+          → ((x : ℕ) → ¬ (servedAs v l s o .answer .turned .ending ≡ ending.Refused x))
+          → AllPass (serveTests v l s)
       by-tests (some y) is h = absurd (h y refl)
-      by-tests none is h = passes-all (serveTests t l s) is
+      by-tests none is h = passes-all (serveTests v l s) is
 
-  serve-numbered : refusalOf (serveOf t l s .answer .turned .ending) ≡ numberOf (firstFailing (serveTests t l s))
+  serve-numbered : refusalOf (serveOf v l s .answer .turned .ending) ≡ numberOf (firstFailing (serveTests v l s))
   unfolding serveOf
-  serve-numbered = by-tests (firstFailing (serveTests t l s)) refl
+  serve-numbered = by-tests (firstFailing (serveTests v l s)) refl
     where
       no-number : (y : TurnEnding) → ((x : ℕ) → ¬ (y ≡ ending.Refused x)) → refusalOf y ≡ 0
       no-number ending.Done h = refl
@@ -173,20 +173,20 @@ module _ (t : Tables) (l : LentLists) (s : Serving) where
       no-number ending.Full h = refl
       no-number (ending.Refused x) h = absurd (h x refl)
 
-      by-tests : (o : Option ℕ) → firstFailing (serveTests t l s) ≡ o → refusalOf (servedAs t l s o .answer .turned .ending) ≡ numberOf o
+      by-tests : (o : Option ℕ) → firstFailing (serveTests v l s) ≡ o → refusalOf (servedAs v l s o .answer .turned .ending) ≡ numberOf o
       by-tests (some y) is = refl
-      by-tests none is = no-number _ (served-so (passes-all (serveTests t l s) is))
+      by-tests none is = no-number _ (served-so (passes-all (serveTests v l s) is))
 
-  not-served : (x : ℕ) → FirstFails x (serveTests t l s) → serveOf t l s ≡ refusedService l s x
+  not-served : (x : ℕ) → FirstFails x (serveTests v l s) → serveOf v l s ≡ refusedService l s x
   unfolding serveOf
-  not-served x h = ap (servedAs t l s) (fails-first x (serveTests t l s) h)
+  not-served x h = ap (servedAs v l s) (fails-first x (serveTests v l s) h)
 
   -- the tests of a front entry, or of an empty line
-  numbers-by : (es : List Entry) → map (λ (x : Test). x .0) (frontTests t s es ++ queueTests l) ≡ serveNumbers es
+  numbers-by : (es : List Entry) → map (λ (x : Test). x .0) (frontTests v s es ++ queueTests l) ≡ serveNumbers es
   numbers-by [] = refl
   numbers-by (e ∷ es) = refl
 
-  pub serve-refusals : ServeRefusals t l s
+  pub serve-refusals : ServeRefusals v l s
   serve-refusals =
       record {
         order = numbers-by (lineOf l);

@@ -7,7 +7,7 @@ use mathlib.Core.Option.{Option, none, some}
 use mathlib.Core.List.{List, [], _∷_, _++_}
 use lib.ListN.{length, take}
 use lib.Dec.{eqb}
-use Rattle.tables.specs.Tables.{Tables}
+use Rattle.turns.specs.Surveys.{Survey}
 use Rattle.turns.specs.declared.TurnEnding.{TurnEnding}
 use Rattle.turns.specs.declared.TurnEnding.the-variants as ending
 use Rattle.queues.specs.declared.Entry.{Entry}
@@ -60,10 +60,10 @@ afterService q r ending.Spent = record { line = take (r .answer .waiting) (r .li
 afterService q r ending.Full = record { line = take (r .answer .waiting) (r .line); aside = take (r .answer .resting) (r .aside) }
 afterService q r (ending.Refused x) = q
 
-abbrev pub afterCall : Tables → Queue → LentLists → QueueCall → Queue
-afterCall t q l (join j) = afterQueued q (joinQueueOf t l j) (joinQueueOf t l j .answer)
-afterCall t q l (serve s) = afterService q (serveOf t l s) (serveOf t l s .answer .turned .ending)
-afterCall t q l (topUp owner amount) = afterQueued q (topUpOf l owner amount) (topUpOf l owner amount .answer)
+abbrev pub afterCall : Survey → Queue → LentLists → QueueCall → Queue
+afterCall v q l (join j) = afterQueued q (joinQueueOf v l j) (joinQueueOf v l j .answer)
+afterCall v q l (serve s) = afterService q (serveOf v l s) (serveOf v l s .answer .turned .ending)
+afterCall v q l (topUp owner amount) = afterQueued q (topUpOf l owner amount) (topUpOf l owner amount .answer)
 
 abbrev pub granted : ℕ → ℕ → Queued → Deed
 granted owner amount (Lists n m) = grants owner amount
@@ -75,19 +75,19 @@ tookTurn r ending.Spent = turns (r .answer .owner) ending.Spent (r .answer .turn
 tookTurn r ending.Full = turns (r .answer .owner) ending.Full (r .answer .turned .steps) (r .answer .left)
 tookTurn r (ending.Refused x) = nothing
 
-abbrev pub deedOf : Tables → LentLists → QueueCall → Deed
-deedOf t l (join j) = granted (j .owner) (j .allowance) (joinQueueOf t l j .answer)
-deedOf t l (serve s) = tookTurn (serveOf t l s) (serveOf t l s .answer .turned .ending)
-deedOf t l (topUp owner amount) = granted owner amount (topUpOf l owner amount .answer)
+abbrev pub deedOf : Survey → LentLists → QueueCall → Deed
+deedOf v l (join j) = granted (j .owner) (j .allowance) (joinQueueOf v l j .answer)
+deedOf v l (serve s) = tookTurn (serveOf v l s) (serveOf v l s .answer .turned .ending)
+deedOf v l (topUp owner amount) = granted owner amount (topUpOf l owner amount .answer)
 
 -- ---- a list of calls
-unfoldable pub afterCalls : Tables → Queue → List MadeCall → Queue
-afterCalls t q [] = q
-afterCalls t q (m ∷ ms) = afterCalls t (afterCall t q (lentTo q m) (m .call)) ms
+unfoldable pub afterCalls : Survey → Queue → List MadeCall → Queue
+afterCalls v q [] = q
+afterCalls v q (m ∷ ms) = afterCalls v (afterCall v q (lentTo q m) (m .call)) ms
 
-unfoldable pub deeds : Tables → Queue → List MadeCall → List Deed
-deeds t q [] = []
-deeds t q (m ∷ ms) = deedOf t (lentTo q m) (m .call) ∷ deeds t (afterCall t q (lentTo q m) (m .call)) ms
+unfoldable pub deeds : Survey → Queue → List MadeCall → List Deed
+deeds v q [] = []
+deeds v q (m ∷ ms) = deedOf v (lentTo q m) (m .call) ∷ deeds v (afterCall v q (lentTo q m) (m .call)) ms
 
 -- ---- fairness: turns served, and an owner's place from the front
 abbrev pub turnsOf : Deed → ℕ
@@ -104,11 +104,11 @@ placeInLine owner [] = none
 placeInLine owner (e ∷ es) = cond (eqb (e .owner) owner) (some 0) (elim (placeInLine owner es) [ none ↦ none | some p ↦ some (p + 1) ])
 
 -- an owner at place p of the line: until p turns are served it moves up by one with each, and the turn after them is its own
-pub record Fair (t : Tables) (q : Queue) (owner p : ℕ) : Type 0 where
-  pub moves-up : (ms : List MadeCall) → turnsIn (deeds t q ms) ≤ p
-      → placeInLine owner (afterCalls t q ms .line) ≡ some (p - turnsIn (deeds t q ms))
-  pub next-is-its : (ms : List MadeCall) → turnsIn (deeds t q ms) ≡ p → (m : MadeCall) (o : ℕ) (e : TurnEnding) (n left : ℕ)
-      → deedOf t (lentTo (afterCalls t q ms) m) (m .call) ≡ turns o e n left → o ≡ owner
+pub record Fair (v : Survey) (q : Queue) (owner p : ℕ) : Type 0 where
+  pub moves-up : (ms : List MadeCall) → turnsIn (deeds v q ms) ≤ p
+      → placeInLine owner (afterCalls v q ms .line) ≡ some (p - turnsIn (deeds v q ms))
+  pub next-is-its : (ms : List MadeCall) → turnsIn (deeds v q ms) ≡ p → (m : MadeCall) (o : ℕ) (e : TurnEnding) (n left : ℕ)
+      → deedOf v (lentTo (afterCalls v q ms) m) (m .call) ≡ turns o e n left → o ≡ owner
 
 -- ---- accounts: what was granted to an owner, its steps, and what finishing turns' answers carried
 abbrev pub forOwner : ℕ → ℕ → ℕ → ℕ
@@ -145,7 +145,7 @@ abbrev pub leftTo : ℕ → Queue → ℕ
 leftTo owner q = leftIn owner (q .line) + leftIn owner (q .aside)
 
 -- an owner's steps and what is left make what was left before and the allowances granted
-abbrev pub Accounts : Tables → Queue → List MadeCall → ℕ → Type 0
-Accounts t q ms owner =
-    leftTo owner q + summed (grantedBy owner) (deeds t q ms)
-    ≡ summed (steppedBy owner) (deeds t q ms) + (leftTo owner (afterCalls t q ms) + summed (carriedBy owner) (deeds t q ms))
+abbrev pub Accounts : Survey → Queue → List MadeCall → ℕ → Type 0
+Accounts v q ms owner =
+    leftTo owner q + summed (grantedBy owner) (deeds v q ms)
+    ≡ summed (steppedBy owner) (deeds v q ms) + (leftTo owner (afterCalls v q ms) + summed (carriedBy owner) (deeds v q ms))

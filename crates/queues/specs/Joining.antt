@@ -7,9 +7,10 @@ use lib.ListN.{length}
 use lib.Dec.{eqb}
 use Rattle.words.specs.Sequences.{member}
 use Rattle.words.specs.Tests.{Test, firstFailing}
-use Rattle.tables.specs.Tables.{Tables, tableTests}
+use Rattle.tables.specs.Tables.{tableTests}
 use Rattle.plans.specs.Plans.{planOf, planTests}
-use Rattle.steps.specs.Saved.{shapeRight, placesRight}
+use Rattle.steps.specs.Saved.{shapeRight, surveyRight, placesRight}
+use Rattle.turns.specs.Surveys.{Survey}
 use Rattle.queues.specs.declared.Entry.{Entry}
 use Rattle.queues.specs.declared.Queued.{Queued}
 use Rattle.queues.specs.declared.Queued.the-variants.{Lists, Refused}
@@ -22,19 +23,20 @@ pub record Joining : Type 0 where
   pub plan : List ℕ
   pub state : List ℕ
 
--- 1 to 6, 9 and 10 on the plan and the state that join; then 17 and 18 of both lists with the joining entry
-abbrev pub joinTestsBy : Tables → List ℕ → List ℕ → Bool → Bool → List Test
-joinTestsBy t plan state entries room =
-    tableTests t
+-- 1 to 6, 9, 22 and 10 on the plan and the state that join; then 17 and 18 of both lists with the joining entry
+abbrev pub joinTestsBy : Survey → List ℕ → List ℕ → Bool → Bool → List Test
+joinTestsBy v plan state entries room =
+    tableTests (v .tables)
     ++ (planTests plan
     ++ ((9, shapeRight (planOf plan) state)
-    ∷ (10, placesRight t (planOf plan) state)
+    ∷ (22, surveyRight (v .number) state)
+    ∷ (10, placesRight (v .tables) (planOf plan) state)
     ∷ (17, entries)
     ∷ (18, room)
     ∷ []))
 
-abbrev pub joinTests : Tables → LentLists → Joining → List Test
-joinTests t l j = joinTestsBy t (j .plan) (j .state) (entriesRight l && not (member (j .owner) (owners l))) (spaceRight 1 l)
+abbrev pub joinTests : Survey → LentLists → Joining → List Test
+joinTests v l j = joinTestsBy v (j .plan) (j .state) (entriesRight l && not (member (j .owner) (owners l))) (spaceRight 1 l)
 
 abbrev pub newEntry : Joining → Entry
 newEntry j =
@@ -70,5 +72,5 @@ abbrev pub joinedAs : LentLists → Joining → Option ℕ → QueuedResult
 joinedAs l j (some x) = listsAsWere l x
 joinedAs l j none = admitted l (newEntry j)
 
-unfoldable pub joinQueueOf : Tables → LentLists → Joining → QueuedResult
-joinQueueOf t l j = joinedAs l j (firstFailing (joinTests t l j))
+unfoldable pub joinQueueOf : Survey → LentLists → Joining → QueuedResult
+joinQueueOf v l j = joinedAs l j (firstFailing (joinTests v l j))

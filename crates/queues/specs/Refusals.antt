@@ -5,7 +5,7 @@ use mathlib.Core.Path.{_≡_}
 use mathlib.Core.Logic.{_↔_}
 use mathlib.Core.List.{List, [], _∷_, map}
 use Rattle.words.specs.Tests.{Test, firstFailing, numberOf, AllPass, FirstFails}
-use Rattle.tables.specs.Tables.{Tables}
+use Rattle.turns.specs.Surveys.{Survey}
 use Rattle.turns.specs.declared.TurnEnding.the-variants as ending
 use Rattle.turns.specs.Turns.{refusalOf}
 use Rattle.queues.specs.declared.Entry.{Entry}
@@ -51,8 +51,8 @@ pub record QueuedRefusals (l : LentLists) (numbers : List ℕ) (tests : List Tes
   -- it is served, answering no such number, exactly where every test passes
   pub serves : ((x : ℕ) → ¬ (r .answer ≡ Refused x)) ↔ AllPass tests
 
-abbrev pub JoinRefusals : Tables → LentLists → Joining → Type 0
-JoinRefusals t l j = QueuedRefusals l (1 ∷ 2 ∷ 3 ∷ 4 ∷ 5 ∷ 6 ∷ 9 ∷ 10 ∷ 17 ∷ 18 ∷ []) (joinTests t l j) (joinQueueOf t l j)
+abbrev pub JoinRefusals : Survey → LentLists → Joining → Type 0
+JoinRefusals v l j = QueuedRefusals l (1 ∷ 2 ∷ 3 ∷ 4 ∷ 5 ∷ 6 ∷ 9 ∷ 22 ∷ 10 ∷ 17 ∷ 18 ∷ []) (joinTests v l j) (joinQueueOf v l j)
 
 abbrev pub TopUpRefusals : LentLists → ℕ → ℕ → Type 0
 TopUpRefusals l owner amount = QueuedRefusals l (17 ∷ 18 ∷ []) (topUpTests l owner amount) (topUpOf l owner amount)
@@ -60,8 +60,8 @@ TopUpRefusals l owner amount = QueuedRefusals l (17 ∷ 18 ∷ []) (topUpTests l
 -- ---- serving
 -- the tests of a front entry, and those of an empty line
 abbrev pub serveNumbers : List Entry → List ℕ
-serveNumbers [] = 1 ∷ 2 ∷ 3 ∷ 4 ∷ 8 ∷ 17 ∷ 18 ∷ 19 ∷ []
-serveNumbers (e ∷ es) = 1 ∷ 2 ∷ 3 ∷ 4 ∷ 5 ∷ 6 ∷ 7 ∷ 8 ∷ 9 ∷ 10 ∷ 11 ∷ 17 ∷ 18 ∷ 19 ∷ []
+serveNumbers [] = 1 ∷ 2 ∷ 3 ∷ 4 ∷ 8 ∷ 22 ∷ 17 ∷ 18 ∷ 19 ∷ []
+serveNumbers (e ∷ es) = 1 ∷ 2 ∷ 3 ∷ 4 ∷ 5 ∷ 6 ∷ 7 ∷ 8 ∷ 9 ∷ 22 ∷ 10 ∷ 11 ∷ 17 ∷ 18 ∷ 19 ∷ []
 
 -- both lists and the output stand as they were lent, and every other number of the answer is 0
 pub record NotServed (l : LentLists) (s : Serving) (r : ServeResult) : Type 0 where
@@ -77,17 +77,17 @@ pub record NotServed (l : LentLists) (s : Serving) (r : ServeResult) : Type 0 wh
   pub resting : r .answer .resting ≡ 0
 
 -- a serve that is not refused
-abbrev pub Serves : Tables → LentLists → Serving → Type 0
-Serves t l s = (x : ℕ) → ¬ (serveOf t l s .answer .turned .ending ≡ ending.Refused x)
+abbrev pub Serves : Survey → LentLists → Serving → Type 0
+Serves v l s = (x : ℕ) → ¬ (serveOf v l s .answer .turned .ending ≡ ending.Refused x)
 
-pub record ServeRefusals (t : Tables) (l : LentLists) (s : Serving) : Type 0 where
+pub record ServeRefusals (v : Survey) (l : LentLists) (s : Serving) : Type 0 where
   -- the table's numbers, in the table's order
-  pub order : map (λ (x : Test). x .0) (serveTests t l s) ≡ serveNumbers (lineOf l)
+  pub order : map (λ (x : Test). x .0) (serveTests v l s) ≡ serveNumbers (lineOf l)
   -- its answer has the number of the first test that fails, 0 where all pass
-  pub number : refusalOf (serveOf t l s .answer .turned .ending) ≡ numberOf (firstFailing (serveTests t l s))
+  pub number : refusalOf (serveOf v l s .answer .turned .ending) ≡ numberOf (firstFailing (serveTests v l s))
   -- it is refused with x exactly where x is the number of the first test that fails
-  pub refused : (x : ℕ) → (serveOf t l s .answer .turned .ending ≡ ending.Refused x) ↔ FirstFails x (serveTests t l s)
+  pub refused : (x : ℕ) → (serveOf v l s .answer .turned .ending ≡ ending.Refused x) ↔ FirstFails x (serveTests v l s)
   -- a refusal changes no entry and no word
-  pub unchanged : (x : ℕ) → serveOf t l s .answer .turned .ending ≡ ending.Refused x → NotServed l s (serveOf t l s)
+  pub unchanged : (x : ℕ) → serveOf v l s .answer .turned .ending ≡ ending.Refused x → NotServed l s (serveOf v l s)
   -- it is served, answering no such number, exactly where every test passes
-  pub serves : Serves t l s ↔ AllPass (serveTests t l s)
+  pub serves : Serves v l s ↔ AllPass (serveTests v l s)

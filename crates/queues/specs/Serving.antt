@@ -6,7 +6,9 @@ use mathlib.Core.List.{List, [], _∷_, _++_}
 use lib.ListN.{length}
 use lib.Dec.{leb, eqb}
 use Rattle.words.specs.Tests.{Test, firstFailing}
-use Rattle.tables.specs.Tables.{Tables, tableTests}
+use Rattle.tables.specs.Tables.{tableTests}
+use Rattle.steps.specs.Saved.{numberRight}
+use Rattle.turns.specs.Surveys.{Survey}
 use Rattle.turns.specs.declared.TurnEnding.{TurnEnding}
 use Rattle.turns.specs.declared.TurnEnding.the-variants as ending
 use Rattle.turns.specs.Turns.{TurnInput, TurnResult, turnTests, turnOf, mostSteps}
@@ -20,10 +22,10 @@ pub record Serving : Type 0 where
   pub output : List ℕ
 
 -- a turn of an entry
-abbrev pub entryTurn : Tables → Serving → Entry → ℕ → TurnInput
-entryTurn t s e quantum =
+abbrev pub entryTurn : Survey → Serving → Entry → ℕ → TurnInput
+entryTurn v s e quantum =
     record {
-      tables = t;
+      survey = v;
       plan = entryPlan e;
       state = e .state;
       given = e .saved;
@@ -36,10 +38,13 @@ entryTurn t s e quantum =
 abbrev pub quantumTests : ℕ → List Test
 quantumTests quantum = (8, leb 1 quantum && leb quantum mostSteps) ∷ []
 
--- 1 to 11 on the front entry alone, with the quantum of the call; with no front entry, the tables and the quantum
-abbrev pub frontTests : Tables → Serving → List Entry → List Test
-frontTests t s [] = tableTests t ++ quantumTests (s .quantum)
-frontTests t s (e ∷ es) = turnTests (entryTurn t s e (s .quantum))
+abbrev pub numberTests : ℕ → List Test
+numberTests survey = (22, numberRight survey) ∷ []
+
+-- 1 to 11 and 22 on the front entry alone, with the quantum of the call; with no front entry, the tables, the quantum and the survey's number
+abbrev pub frontTests : Survey → Serving → List Entry → List Test
+frontTests v s [] = tableTests (v .tables) ++ (quantumTests (s .quantum) ++ numberTests (v .number))
+frontTests v s (e ∷ es) = turnTests (entryTurn v s e (s .quantum))
 
 abbrev pub isEmpty : List Entry → Bool
 isEmpty [] = true
@@ -52,8 +57,8 @@ queueTestsBy entries room front = (17, entries) ∷ (18, room) ∷ (19, front) �
 abbrev pub queueTests : LentLists → List Test
 queueTests l = queueTestsBy (entriesRight l) (spaceRight 0 l) (not (isEmpty (lineOf l)))
 
-abbrev pub serveTests : Tables → LentLists → Serving → List Test
-serveTests t l s = frontTests t s (lineOf l) ++ queueTests l
+abbrev pub serveTests : Survey → LentLists → Serving → List Test
+serveTests v l s = frontTests v s (lineOf l) ++ queueTests l
 
 -- ---- what serving leaves
 pub record ServeResult : Type 0 where
@@ -121,16 +126,16 @@ turnedTo l s e es r ending.Full = goesBack l e es r
 turnedTo l s e es r (ending.Refused x) = refusedService l s x
 
 -- for at most the call's quantum, and at most the steps left
-abbrev pub frontTurn : Tables → Serving → Entry → TurnResult
-frontTurn t s e = turnOf (entryTurn t s e (min (s .quantum) (e .allowance)))
+abbrev pub frontTurn : Survey → Serving → Entry → TurnResult
+frontTurn v s e = turnOf (entryTurn v s e (min (s .quantum) (e .allowance)))
 
-abbrev pub frontServed : Tables → LentLists → Serving → List Entry → ServeResult
-frontServed t l s [] = refusedService l s 19
-frontServed t l s (e ∷ es) = turnedTo l s e es (frontTurn t s e) (frontTurn t s e .answer .ending)
+abbrev pub frontServed : Survey → LentLists → Serving → List Entry → ServeResult
+frontServed v l s [] = refusedService l s 19
+frontServed v l s (e ∷ es) = turnedTo l s e es (frontTurn v s e) (frontTurn v s e .answer .ending)
 
-abbrev pub servedAs : Tables → LentLists → Serving → Option ℕ → ServeResult
-servedAs t l s (some x) = refusedService l s x
-servedAs t l s none = frontServed t l s (lineOf l)
+abbrev pub servedAs : Survey → LentLists → Serving → Option ℕ → ServeResult
+servedAs v l s (some x) = refusedService l s x
+servedAs v l s none = frontServed v l s (lineOf l)
 
-unfoldable pub serveOf : Tables → LentLists → Serving → ServeResult
-serveOf t l s = servedAs t l s (firstFailing (serveTests t l s))
+unfoldable pub serveOf : Survey → LentLists → Serving → ServeResult
+serveOf v l s = servedAs v l s (firstFailing (serveTests v l s))

@@ -9,7 +9,7 @@ use uploads::Made;
 use views::Viewed;
 use words::Written;
 ghost use mathlib.Core.Path.{_≡_};
-ghost use Rattle.tables.specs.Tables.{tablesOf};
+ghost use Rattle.turns.specs.Surveys.{surveyOf};
 ghost use Rattle.turns.specs.Opening.{openOf};
 ghost use Rattle.turns.specs.Turns.{turnOf, turnInput};
 ghost use Rattle.merges.specs.Merging.{mergeInput, mergeOf};
@@ -246,15 +246,16 @@ pub extern "C" fn sotjarn_open(
     rows: &[u32],
     pos: &[u32],
     osp: &[u32],
+    survey: u32,
     plan: &[u32],
     state: &mut [u32],
 ) -> WrittenNumbers
-    ensures answer { λ r. ⌜ r ≡ writtenNumbers (openOf (tablesOf (now (rows .entry)) (now (pos .entry)) (now (osp .entry))) (now (plan .entry))
+    ensures answer { λ r. ⌜ r ≡ writtenNumbers (openOf (surveyOf (now (rows .entry)) (now (pos .entry)) (now (osp .entry)) survey) (now (plan .entry))
         (now (state .entry)) .answer) ⌝ }
     ensures state { λ _. ⌜ now (state .exit)
-        ≡ openOf (tablesOf (now (rows .entry)) (now (pos .entry)) (now (osp .entry))) (now (plan .entry)) (now (state .entry)) .state ⌝ }
+        ≡ openOf (surveyOf (now (rows .entry)) (now (pos .entry)) (now (osp .entry)) survey) (now (plan .entry)) (now (state .entry)) .state ⌝ }
 {
-    written_numbers(turn_calls::open(rows, pos, osp, plan, state))
+    written_numbers(turn_calls::open(rows, pos, osp, survey, plan, state))
 }
 
 // Runs one turn of a query, or refuses.
@@ -263,6 +264,7 @@ pub extern "C" fn sotjarn_turn(
     rows: &[u32],
     pos: &[u32],
     osp: &[u32],
+    survey: u32,
     plan: &[u32],
     state: &mut [u32],
     given: usize,
@@ -270,19 +272,20 @@ pub extern "C" fn sotjarn_turn(
     threshold: &[u32],
     output: &mut [u32],
 ) -> TurnedNumbers
-    ensures answer { λ r. ⌜ r ≡ turnedNumbers (turnOf (turnInput (now (rows .entry)) (now (pos .entry)) (now (osp .entry)) (now (plan .entry))
+    ensures answer { λ r. ⌜ r ≡ turnedNumbers (turnOf (turnInput (now (rows .entry)) (now (pos .entry)) (now (osp .entry)) survey (now (plan .entry))
         (now (state .entry)) given quantum (now (threshold .entry)) (now (output .entry))) .answer) ⌝ }
     ensures state { λ _. ⌜ now (state .exit)
-        ≡ turnOf (turnInput (now (rows .entry)) (now (pos .entry)) (now (osp .entry)) (now (plan .entry)) (now (state .entry)) given quantum
+        ≡ turnOf (turnInput (now (rows .entry)) (now (pos .entry)) (now (osp .entry)) survey (now (plan .entry)) (now (state .entry)) given quantum
         (now (threshold .entry)) (now (output .entry))) .state ⌝ }
     ensures output { λ _. ⌜ now (output .exit)
-        ≡ turnOf (turnInput (now (rows .entry)) (now (pos .entry)) (now (osp .entry)) (now (plan .entry)) (now (state .entry)) given quantum
+        ≡ turnOf (turnInput (now (rows .entry)) (now (pos .entry)) (now (osp .entry)) survey (now (plan .entry)) (now (state .entry)) given quantum
         (now (threshold .entry)) (now (output .entry))) .output ⌝ }
 {
     turned_numbers(turn_calls::turn(
         rows,
         pos,
         osp,
+        survey,
         plan,
         state,
         given,
@@ -343,6 +346,7 @@ pub extern "C" fn sotjarn_join(
     rows: &[u32],
     pos: &[u32],
     osp: &[u32],
+    survey: u32,
     line: &mut [Entry],
     given: usize,
     aside: &mut [Entry],
@@ -352,13 +356,13 @@ pub extern "C" fn sotjarn_join(
     plan: &[u32],
     state: &[u32],
 ) -> QueuedNumbers
-    ensures { λ r. ⌜ (r ≡ queuedNumbers (joinQueueOf (tablesOf (now (rows .entry)) (now (pos .entry)) (now (osp .entry)))
+    ensures { λ r. ⌜ (r ≡ queuedNumbers (joinQueueOf (surveyOf (now (rows .entry)) (now (pos .entry)) (now (osp .entry)) survey)
         (lentAs (now (line .entry)) given (now (aside .entry)) kept)
         (record { owner = owner; allowance = allowance; plan = now (plan .entry); state = now (state .entry) }) .answer))
-        × ((now (line .exit) ≡ joinQueueOf (tablesOf (now (rows .entry)) (now (pos .entry)) (now (osp .entry)))
+        × ((now (line .exit) ≡ joinQueueOf (surveyOf (now (rows .entry)) (now (pos .entry)) (now (osp .entry)) survey)
         (lentAs (now (line .entry)) given (now (aside .entry)) kept)
         (record { owner = owner; allowance = allowance; plan = now (plan .entry); state = now (state .entry) }) .line)
-        × (now (aside .exit) ≡ joinQueueOf (tablesOf (now (rows .entry)) (now (pos .entry)) (now (osp .entry)))
+        × (now (aside .exit) ≡ joinQueueOf (surveyOf (now (rows .entry)) (now (pos .entry)) (now (osp .entry)) survey)
         (lentAs (now (line .entry)) given (now (aside .entry)) kept)
         (record { owner = owner; allowance = allowance; plan = now (plan .entry); state = now (state .entry) }) .aside)) ⌝ }
 {
@@ -366,6 +370,7 @@ pub extern "C" fn sotjarn_join(
         rows,
         pos,
         osp,
+        survey,
         line,
         given,
         aside,
@@ -383,6 +388,7 @@ pub extern "C" fn sotjarn_serve(
     rows: &[u32],
     pos: &[u32],
     osp: &[u32],
+    survey: u32,
     line: &mut [Entry],
     given: usize,
     aside: &mut [Entry],
@@ -391,16 +397,16 @@ pub extern "C" fn sotjarn_serve(
     threshold: &[u32],
     output: &mut [u32],
 ) -> ServiceNumbers
-    ensures { λ r. ⌜ (r ≡ serviceNumbers (serveOf (tablesOf (now (rows .entry)) (now (pos .entry)) (now (osp .entry)))
+    ensures { λ r. ⌜ (r ≡ serviceNumbers (serveOf (surveyOf (now (rows .entry)) (now (pos .entry)) (now (osp .entry)) survey)
         (lentAs (now (line .entry)) given (now (aside .entry)) kept)
         (record { quantum = quantum; threshold = now (threshold .entry); output = now (output .entry) }) .answer))
-        × ((now (line .exit) ≡ serveOf (tablesOf (now (rows .entry)) (now (pos .entry)) (now (osp .entry)))
+        × ((now (line .exit) ≡ serveOf (surveyOf (now (rows .entry)) (now (pos .entry)) (now (osp .entry)) survey)
         (lentAs (now (line .entry)) given (now (aside .entry)) kept)
         (record { quantum = quantum; threshold = now (threshold .entry); output = now (output .entry) }) .line)
-        × ((now (aside .exit) ≡ serveOf (tablesOf (now (rows .entry)) (now (pos .entry)) (now (osp .entry)))
+        × ((now (aside .exit) ≡ serveOf (surveyOf (now (rows .entry)) (now (pos .entry)) (now (osp .entry)) survey)
         (lentAs (now (line .entry)) given (now (aside .entry)) kept)
         (record { quantum = quantum; threshold = now (threshold .entry); output = now (output .entry) }) .aside)
-        × (now (output .exit) ≡ serveOf (tablesOf (now (rows .entry)) (now (pos .entry)) (now (osp .entry)))
+        × (now (output .exit) ≡ serveOf (surveyOf (now (rows .entry)) (now (pos .entry)) (now (osp .entry)) survey)
         (lentAs (now (line .entry)) given (now (aside .entry)) kept)
         (record { quantum = quantum; threshold = now (threshold .entry); output = now (output .entry) }) .output))) ⌝ }
 {
@@ -408,6 +414,7 @@ pub extern "C" fn sotjarn_serve(
         rows,
         pos,
         osp,
+        survey,
         line,
         given,
         aside,

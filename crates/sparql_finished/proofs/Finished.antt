@@ -11,6 +11,7 @@ use Rattle.plans.specs.Plans.{planOf}
 use Rattle.steps.specs.Steps.{after}
 use Rattle.lists.specs.Gathering.{gathered}
 use Rattle.lists.specs.Closing.{closed, listAt}
+use Rattle.turns.specs.Surveys.{Survey}
 use Rattle.turns.specs.Opening.{openOf, Opens}
 use Rattle.turns.specs.Turns.{isOver}
 use Rattle.cuts.specs.Histories.{Event, Phone, servedIn, stepsIn, doneIn, history, fresh}
@@ -50,15 +51,15 @@ run-answers t plan a steps ends fits list l =
     }
 
 -- for every opening that is served and every list of events, refused ones included, under demand 3's premises
-pub finished : (t : Tables) (plan state : List ℕ) → Opens t plan state → (es : List Event)
-    → Premises t plan (fresh (openOf t plan state)) es
-    → doneIn (servedIn (history t plan (fresh (openOf t plan state)) es)) ≡ true
-    → history t plan (fresh (openOf t plan state)) es .waiting ≡ []
-    → FinishedBy t plan (deliveredIn t plan (fresh (openOf t plan state)) es) (history t plan (fresh (openOf t plan state)) es)
-finished t plan state o es p done taken =
-    let h = history t plan (fresh (openOf t plan state)) es in
-    let f = any-cut t plan state o es p .finished done taken in
+pub finished : (v : Survey) (plan state : List ℕ) → Opens v plan state → (es : List Event)
+    → Premises v plan (fresh (openOf v plan state)) es
+    → doneIn (servedIn (history v plan (fresh (openOf v plan state)) es)) ≡ true
+    → history v plan (fresh (openOf v plan state)) es .waiting ≡ []
+    → FinishedBy (v .tables) plan (deliveredIn v plan (fresh (openOf v plan state)) es) (history v plan (fresh (openOf v plan state)) es)
+finished v plan state o es p done taken =
+    let h = history v plan (fresh (openOf v plan state)) es in
+    let f = any-cut v plan state o es p .finished done taken in
     let all-taken : servedIn h ≡ h .taken = ap (λ l. h .taken ++ l) taken ∙ append-nil (h .taken) in
-    let rows = rows-are-uncut t plan state o es p ∙ ap (λ l. after t (planOf plan) (stepsIn l) .delivered) all-taken in
-    let k = run-answers t plan (opening-accepts t plan state o) (stepsIn (h .taken)) (f .0) (kept-fits t plan state o es p) (h .kept) (f .1) in
-    record { delivered = subst (λ bs. ToList (solutionsOf t (planOf plan)) (map mappingOf bs)) (sym rows) (k .run); kept = k }
+    let rows = rows-are-uncut v plan state o es p ∙ ap (λ l. after (v .tables) (planOf plan) (stepsIn l) .delivered) all-taken in
+    let k = run-answers (v .tables) plan (opening-accepts v plan state o) (stepsIn (h .taken)) (f .0) (kept-fits v plan state o es p) (h .kept) (f .1) in
+    record { delivered = subst (λ bs. ToList (solutionsOf (v .tables) (planOf plan)) (map mappingOf bs)) (sym rows) (k .run); kept = k }

@@ -1,11 +1,14 @@
-// The shape of a state's words: test 9, which needs the plan alone.
+// The shape of a state's words: test 9, which needs the plan alone; and the number of its survey: test 22.
 use plans::PATTERN_WIDTH;
+use words::NUMBERS;
 use words::StateWord;
 ghost use mathlib.Core.Path.{_≡_};
-ghost use mathlib.Core.Bool.{true};
+ghost use mathlib.Core.Bool.{true, _&&_};
+ghost use lib.Dec.{eqb};
+ghost use Rattle.words.specs.Words.{low};
 ghost use Rattle.words.specs.Sequences.{all};
 ghost use Rattle.plans.specs.Plans.{readPlan, hasForm, planOf};
-ghost use Rattle.steps.specs.Saved.{isPlace, depthRight, positionRight, shapeRight};
+ghost use Rattle.steps.specs.Saved.{isPlace, depthRight, positionRight, shapeBehind, shapeRight, numberRight};
 
 // Whether each word is a place.
 fn all_places(state: &[u32]) -> bool
@@ -31,7 +34,7 @@ fn depth_right(terms: &[u32], depth: u32) -> bool
     (words::wide(depth) - 1) * PATTERN_WIDTH < terms.len()
 }
 
-// Whether a state's first word names a branch of the plan and a depth of that branch.
+// Whether the word behind a survey's names a branch of the plan and a depth of that branch.
 fn position_right(plan: &[u32], word: u32) -> bool
     requires { ⌜ hasForm (readPlan (now plan)) ≡ true ⌝ }
     ensures { λ r. ⌜ r ≡ positionRight (planOf (now (plan .entry))) word ⌝ }
@@ -47,10 +50,10 @@ fn position_right(plan: &[u32], word: u32) -> bool
     depth_right(plans::terms(plans::branch_part(plan, branch)), w.depth())
 }
 
-// Whether a state's words are a position in the plan and a place for each level to its depth. (9)
-pub fn has_form(plan: &[u32], state: &[u32]) -> bool
+// Whether the words behind a survey's are a position in the plan and a place for each level to its depth.
+fn has_shape(plan: &[u32], state: &[u32]) -> bool
     requires { ⌜ hasForm (readPlan (now plan)) ≡ true ⌝ }
-    ensures { λ r. ⌜ r ≡ shapeRight (planOf (now (plan .entry))) (now (state .entry)) ⌝ }
+    ensures { λ r. ⌜ r ≡ shapeBehind (planOf (now (plan .entry))) (now (state .entry)) ⌝ }
 {
     if state.len() == 0 {
         return false;
@@ -63,4 +66,35 @@ pub fn has_form(plan: &[u32], state: &[u32]) -> bool
         return false;
     }
     all_places(&state[1..])
+}
+
+// Whether a state's words are a survey's, whatever its number, and the shape behind it. (9)
+pub fn has_form(plan: &[u32], state: &[u32]) -> bool
+    requires { ⌜ hasForm (readPlan (now plan)) ≡ true ⌝ }
+    ensures { λ r. ⌜ r ≡ shapeRight (planOf (now (plan .entry))) (now (state .entry)) ⌝ }
+{
+    if state.len() == 0 {
+        return false;
+    }
+    if StateWord(state[0]).kind() != StateWord::SURVEY {
+        return false;
+    }
+    has_shape(plan, &state[1..])
+}
+
+// Whether a survey's number has 28 bits.
+pub fn number_right(survey: u32) -> bool
+    ensures { λ r. ⌜ r ≡ numberRight survey ⌝ }
+{
+    survey < NUMBERS
+}
+
+// Whether a survey's number has 28 bits and is that of a state's first word. (22)
+pub fn of_survey(survey: u32, word: u32) -> bool
+    ensures { λ r. ⌜ r ≡ (numberRight survey && eqb (low word) survey) ⌝ }
+{
+    if !number_right(survey) {
+        return false;
+    }
+    StateWord(word).number() == survey
 }

@@ -3,16 +3,16 @@
 use Prim.Native.Nat.{ℕ, _+_, _-_, _≤_, _<_}
 use native.Mathlib.Omega.{arith}
 use native.Mathlib.Decide.{decLt}
-use mathlib.Core.Path.{_≡_, sym, _∙_, ap, subst}
+use mathlib.Core.Path.{_≡_, refl, sym, _∙_, ap, subst}
 use mathlib.Core.Bool.{Bool, true, false}
-use mathlib.Core.List.{List}
+use mathlib.Core.List.{List, [], _∷_}
 use lib.Dec.{eqb, ltb, leb}
 use lib.ListN.{length, getD, drop, length-drop, drop-of-length-le}
 use borrow.Author.Tests.{eqb-true, ltb-true, leb-true}
 use Rattle.words.specs.Words.{kind, positionKind, branchOf, depthOf}
 use Rattle.words.specs.Bindings.{Bindings}
 use Rattle.words.specs.Tests.{firstFailing}
-use Rattle.words.proofs.Booleans.{and-left, and-right}
+use Rattle.words.proofs.Booleans.{absurd-true, and-left, and-right}
 use Rattle.tables.specs.declared.Place.{Place}
 use Rattle.tables.specs.Tables.{Tables}
 use Rattle.tables.specs.Ranges.{rangeEnd}
@@ -22,29 +22,43 @@ use Rattle.plans.specs.Reading.{Gives}
 use Rattle.steps.specs.declared.Fields.{Fields}
 use Rattle.steps.specs.Levels.{hasLevel, fieldsFixed, levelPrefix, bindings, under, Inside}
 use Rattle.steps.specs.Steps.{State, stateRight}
-use Rattle.steps.specs.Saved.{positionRight, shapeRight, stateIn, placesRight}
+use Rattle.steps.specs.Saved.{behindSurvey, positionRight, shapeBehind, shapeRight, surveyRight, positionIn}
 use Rattle.step_cursors.specs.declared.Cursor.{Cursor}
 use Rattle.step_cursors.specs.Held.{upperOf, stateOf, currentBranch, BeginsAt, Held, EndsAbove, EndsHeld}
 use Rattle.step_cursors.proofs.Agreement.{agrees-refl}
 use Rattle.step_cursors.proofs.Cursors.{upper-length, bound-length, level-inside, level-few}
-use Rattle.state_saving.specs.Loading.{Whole, stateRefusal}
+use Rattle.state_saving.specs.Loading.{Whole, placesBehind, placesRefusal, stateRefusal}
 
 -- ---- the number of the first test that fails
 module _ (t : Tables) (q : Plan) (ws : List ℕ) where
-  pub refused-shape : shapeRight q ws ≡ false → stateRefusal t q ws ≡ 9
+  refused-places : placesBehind t q ws ≡ false → placesRefusal t q ws ≡ 10
+  unfolding firstFailing
+  refused-places h = rw h
+
+  refused-none : placesBehind t q ws ≡ true → placesRefusal t q ws ≡ 0
+  unfolding firstFailing
+  refused-none h = rw h
+
+module _ (t : Tables) (survey : ℕ) (q : Plan) (ws : List ℕ) where
+  pub refused-shape : shapeRight q ws ≡ false → stateRefusal t survey q ws ≡ 9
   unfolding firstFailing
   refused-shape h = rw h
 
   module _ (shape : shapeRight q ws ≡ true) where
-    refused-places : placesRight t q ws ≡ false → stateRefusal t q ws ≡ 10
+    pub refused-survey : surveyRight survey ws ≡ false → stateRefusal t survey q ws ≡ 22
     unfolding firstFailing
-    refused-places h = rw (shape, h)
+    refused-survey h = rw (shape, h)
 
-    refused-none : placesRight t q ws ≡ true → stateRefusal t q ws ≡ 0
+    pub refused-behind : surveyRight survey ws ≡ true → stateRefusal t survey q ws ≡ placesRefusal t q (behindSurvey ws)
     unfolding firstFailing
-    refused-none h = rw (shape, h)
+    refused-behind h = rw (shape, h)
 
--- ---- words that pass test 9
+-- words that pass test 9 are some
+pub some-word : (q : Plan) (ws : List ℕ) → shapeRight q ws ≡ true → 1 ≤ length ws
+some-word q [] e = absurd-true e refl
+some-word q (w ∷ ws) e = omega arith
+
+-- ---- words behind the survey's that pass test 9
 -- the branch and the level are in the plan, and there is a place for each level to the last
 pub record Placed (q : Plan) (ws : List ℕ) : Type 0 where
   pub branch : branchOf (getD ws 0 0) < length (q .branches)
@@ -52,8 +66,8 @@ pub record Placed (q : Plan) (ws : List ℕ) : Type 0 where
   pub deep : 1 ≤ depthOf (getD ws 0 0)
   pub long : length ws ≡ 1 + depthOf (getD ws 0 0)
 
-pub placed : (q : Plan) (ws : List ℕ) → shapeRight q ws ≡ true → Placed q ws
-unfolding shapeRight
+pub placed : (q : Plan) (ws : List ℕ) → shapeBehind q ws ≡ true → Placed q ws
+unfolding shapeBehind
 placed q ws e =
     let w = getD ws 0 0 in
     let f = and-right (eqb (kind w) positionKind) _ (and-left (positionRight q w) _ e) in
@@ -96,7 +110,7 @@ withEnds c f end ends =
       fields = f;
     }
 
-module _ (plan ws : List ℕ) (planned : hasForm (readPlan plan) ≡ true) (shape : shapeRight (planOf plan) ws ≡ true) where
+module _ (plan ws : List ℕ) (planned : hasForm (readPlan plan) ≡ true) (shape : shapeBehind (planOf plan) ws ≡ true) where
   abbrev q : Plan
   q = planOf plan
 
@@ -106,10 +120,10 @@ module _ (plan ws : List ℕ) (planned : hasForm (readPlan plan) ≡ true) (shap
       let f = level-few plan planned (branchOf (getD ws 0 0)) (depthOf (getD ws 0 0) - 1) (p .branch) (p .level) in
       record { deep = p .deep; whole = p .long; few = omega arith }
 
-  module _ (c : Cursor) (e : stateOf c ≡ stateIn ws) (d : c .level + 1 ≡ depthOf (getD ws 0 0)) (terms : List ℕ)
+  module _ (c : Cursor) (e : stateOf c ≡ positionIn ws) (d : c .level + 1 ≡ depthOf (getD ws 0 0)) (terms : List ℕ)
       (et : terms ≡ branchAt q (branchOf (getD ws 0 0)) .terms) where
     branch-is : c .branch ≡ branchOf (getD ws 0 0)
-    unfolding stateIn
+    unfolding positionIn
     branch-is = ap (λ (s : State). s .branch) e
 
     terms-are : terms ≡ currentBranch plan c .terms
@@ -139,17 +153,17 @@ module _ (plan ws : List ℕ) (planned : hasForm (readPlan plan) ≡ true) (shap
         rw (← terms-are) (record { room = room; last = last ∙ ap (rangeEnd t) x; above = above })
 
     module _ (t : Tables) (r : Bool) (er : r ≡ stateRight t terms (stateOf c)) where
-      places-are : placesRight t q ws ≡ r
+      places-are : placesBehind t q ws ≡ r
       places-are =
           ap (λ (s : State). stateRight t (branchAt q (s .branch) .terms) s) (sym e)
           ∙ ap (λ (us : List ℕ). stateRight t us (stateOf c)) (sym terms-are)
           ∙ sym er
 
-      pub loads-not : r ≡ false → stateRefusal t q ws ≡ 10
-      loads-not h = refused-places t q ws shape (places-are ∙ h)
+      pub loads-not : r ≡ false → placesRefusal t q ws ≡ 10
+      loads-not h = refused-places t q ws (places-are ∙ h)
 
-      pub loads : r ≡ true → stateRefusal t q ws ≡ 0
-      loads h = refused-none t q ws shape (places-are ∙ h)
+      pub loads : r ≡ true → placesRefusal t q ws ≡ 0
+      loads h = refused-none t q ws (places-are ∙ h)
 
       pub loads-held : r ≡ true → BeginsAt plan (branchOf (getD ws 0 0)) (c .at) → length (c .upper) ≡ mostPatterns
           → (b : Bindings) → b ≡ bindings t terms (upperOf (c .upper) (c .level))

@@ -13,7 +13,7 @@ use Rattle.tables.specs.declared.Place.{Place}
 use Rattle.tables.specs.declared.Prefix.{Prefix}
 use Rattle.tables.specs.Tables.{Tables}
 use Rattle.tables.specs.Ranges.{rangeStart, rangeEnd}
-use Rattle.steps.specs.Saved.{upperIn, stateIn}
+use Rattle.steps.specs.Saved.{upperIn, positionIn}
 use Rattle.step_cursors.specs.declared.Cursor.{Cursor}
 use Rattle.step_cursors.specs.Held.{upperOf, stateOf}
 use Rattle.step_cursors.proofs.Cursors.{upper-next, place-set, upper-set}
@@ -38,8 +38,8 @@ module _ (ws : List ℕ) where
 
   -- the cursor whose places are those of the words
   pub cursor-state : (c : Cursor) → c .branch ≡ branchOf (getD ws 0 0) → c .level + 1 ≡ depthOf (getD ws 0 0)
-      → upperOf (c .upper) (c .level) ≡ upperIn ws (c .level) → c .place .0 ≡ low (getD ws (c .level + 1) 0) → stateOf c ≡ stateIn ws
-  unfolding stateIn
+      → upperOf (c .upper) (c .level) ≡ upperIn ws (c .level) → c .place .0 ≡ low (getD ws (c .level + 1) 0) → stateOf c ≡ positionIn ws
+  unfolding positionIn
   cursor-state c b d u p =
       let above : c .level ≡ depthOf (getD ws 0 0) - 1 = omega arith in
       λ i. record { branch = b i; upper = (u ∙ ap (upperIn ws) above) i; place = (p ∙ ap (λ n. low (getD ws n 0)) d) i }

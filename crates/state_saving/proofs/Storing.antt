@@ -1,13 +1,14 @@
 -- The words of a cursor's state, written one after the other, the outermost place first; what a run holds can be saved.
-use Prim.Native.Nat.{ℕ, zero, suc, _+_, _<_}
+use Prim.Native.Nat.{ℕ, zero, suc, _+_, _-_, _≤_, _<_}
 use native.Mathlib.Omega.{arith}
 use native.Mathlib.Numerals.{add-one}
 use mathlib.Core.Path.{_≡_, refl, sym, _∙_, ap, ap₂}
 use mathlib.Core.Bool.{Bool, true, false}
-use mathlib.Core.List.{List, [], _∷_, _++_}
+use mathlib.Core.List.{List, [], _∷_, _++_, append-nil}
 use lib.Dec.{eqb}
-use lib.ListN.{length, getD, set, length-append}
-use lib.Seq.{drop-cons, drop-set-lt, getD-set-same}
+use lib.ListN.{length, getD, set, take, length-append, drop-of-length-le}
+use lib.Seq.{drop-cons, drop-set-lt, getD-set-same, take-all}
+use borrow.Rule.Slice.PartMut.{midOf, putMid}
 use borrow.Author.Tests.{ltb-true, eqb-true, eqb-false}
 use Rattle.words.specs.Words.{lowNumbers, positionWord, placeWord}
 use Rattle.words.specs.Bindings.{Bindings}
@@ -58,18 +59,18 @@ above-write w places level state buffer h e =
     ∙ over-next ws buffer a (omega arith)
     ∙ ap (λ (vs : List ℕ). over vs buffer) (sym (above-next w places level))
 
--- the upper places are written: with the last they are the words of the state
+-- the upper places are written: with the last they are the words of its position
 module _ (c : Cursor) (w : ℕ) (position : w ≡ positionWord (c .branch) (c .level + 1)) where
   abbrev last : ℕ
   last = placeWord (c .place .0)
 
-  above-all : wordsAbove w (c .upper) (c .level) ++ (last ∷ []) ≡ stateWords (stateOf c)
+  above-all : wordsAbove w (c .upper) (c .level) ++ (last ∷ []) ≡ positionWords (stateOf c)
   unfolding positionWords
   above-all = rw (position, places-length (c .upper) (c .level), add-one)
 
   pub saved : (level : ℕ) (state buffer : List ℕ) → c .level + 1 < length buffer → level ≡ c .level
       → state ≡ over (wordsAbove (getD (set buffer 0 w) 0 0) (c .upper) level) (set buffer 0 w)
-      → (c .level + 2 ≡ length (stateWords (stateOf c))) × (set state (c .level + 1) last ≡ over (stateWords (stateOf c)) buffer)
+      → (c .level + 2 ≡ length (positionWords (stateOf c))) × (set state (c .level + 1) last ≡ over (positionWords (stateOf c)) buffer)
   saved level state buffer h l e =
       let ws = wordsAbove w (c .upper) (c .level) in
       let n = above-length w (c .upper) (c .level) in
@@ -83,6 +84,18 @@ module _ (c : Cursor) (w : ℕ) (position : w ≡ positionWord (c .branch) (c .l
             ∙ over-next ws buffer last (omega arith)
             ∙ ap (λ (vs : List ℕ). over vs buffer) above-all,
       )
+
+-- the survey's word is written before them
+first-of : (w x : ℕ) (ws behind buffer : List ℕ) (k : ℕ) → length buffer ≤ k → behind ≡ over ws (take k buffer)
+    → set (putMid 1 k (x ∷ buffer) behind) 0 w ≡ over (w ∷ ws) (x ∷ buffer)
+first-of w x ws behind buffer k h e =
+    ap (λ (l : List ℕ). w ∷ l)
+    (ap (λ (l : List ℕ). behind ++ l) (drop-of-length-le buffer {i = k} h) ∙ append-nil behind ∙ e ∙ ap (over ws) (take-all k buffer h))
+
+pub survey-first : (w : ℕ) (ws behind buffer : List ℕ) → 0 < length buffer → behind ≡ over ws (midOf 1 (length buffer - 1) buffer)
+    → set (putMid 1 (length buffer - 1) buffer behind) 0 w ≡ over (w ∷ ws) buffer
+survey-first w ws behind [] h e = absurd (omega arith)
+survey-first w ws behind (x ∷ buffer) h e = first-of w x ws behind buffer (length (x ∷ buffer) - 1) (omega arith) e
 
 -- ---- what a run holds can be saved
 places-fit : (ps : List Place) (level : ℕ) → all fitsLow (upperOf ps level) ≡ true → (i : ℕ) → i < level → placeAt ps i < lowNumbers

@@ -11,8 +11,9 @@ use Rattle.tables.specs.declared.Prefix.{Prefix}
 use Rattle.tables.specs.Tables.{Tables}
 use Rattle.tables.specs.Ranges.{rangeStart, rangeEnd}
 use Rattle.plans.specs.Branches.{mostPatterns}
-use Rattle.plans.specs.Plans.{Plan, mostBranches}
-use Rattle.steps.specs.Saved.{leastStateWords, shapeRight, placesRight}
+use Rattle.plans.specs.Plans.{Plan, mostBranches, branchAt}
+use Rattle.steps.specs.Steps.{stateRight}
+use Rattle.steps.specs.Saved.{mostPositionWords, shapeRight, surveyRight, placesRight, positionIn}
 use Rattle.step_cursors.specs.declared.Cursor.{Cursor}
 use Rattle.step_cursors.specs.Carried.{placeAt}
 
@@ -23,19 +24,26 @@ pub record Storable (c : Cursor) : Type 0 where
   pub place : c .place .0 < lowNumbers
   pub upper : (level : ℕ) → level < c .level → placeAt (c .upper) level < lowNumbers
 
--- a first word, and as many words more as the depth that it names, from 1 to 8
+-- behind the survey's word: a first word, and as many words more as the depth that it names, from 1 to 8
 pub record Whole (ws : List ℕ) : Type 0 where
   pub deep : 1 ≤ depthOf (getD ws 0 0)
   pub whole : length ws ≡ 1 + depthOf (getD ws 0 0)
-  pub few : length ws ≤ leastStateWords
+  pub few : length ws ≤ mostPositionWords
 
 -- a place is from a range's first place up to and including its end
 abbrev pub upToEnd : Tables → Prefix → ℕ → Bool
 upToEnd t x place = leb (rangeStart t x) place && leb place (rangeEnd t x)
 
--- tests 9 and 10 of a state's words, and the number of the first that fails, 0 where both pass
-abbrev pub stateTests : Tables → Plan → List ℕ → List Test
-stateTests t q ws = (9, shapeRight q ws) ∷ (10, placesRight t q ws) ∷ []
+-- test 10 of the words behind the survey's, and its number, 0 where it passes
+abbrev pub placesBehind : Tables → Plan → List ℕ → Bool
+placesBehind t q ws = stateRight t (branchAt q (positionIn ws .branch) .terms) (positionIn ws)
 
-abbrev pub stateRefusal : Tables → Plan → List ℕ → ℕ
-stateRefusal t q ws = numberOf (firstFailing (stateTests t q ws))
+abbrev pub placesRefusal : Tables → Plan → List ℕ → ℕ
+placesRefusal t q ws = numberOf (firstFailing ((10, placesBehind t q ws) ∷ []))
+
+-- tests 9, 22 and 10 of a state's words, and the number of the first that fails, 0 where all pass
+abbrev pub stateTests : Tables → ℕ → Plan → List ℕ → List Test
+stateTests t survey q ws = (9, shapeRight q ws) ∷ (22, surveyRight survey ws) ∷ (10, placesRight t q ws) ∷ []
+
+abbrev pub stateRefusal : Tables → ℕ → Plan → List ℕ → ℕ
+stateRefusal t survey q ws = numberOf (firstFailing (stateTests t survey q ws))

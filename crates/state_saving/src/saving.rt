@@ -2,17 +2,18 @@
 use step_cursors::Cursor;
 use words::StateWord;
 ghost use mathlib.Core.Path.{_≡_};
-ghost use Prim.Native.Nat.{_≤_};
+ghost use Prim.Native.Nat.{_≤_, _<_};
 ghost use lib.ListN.{length};
 ghost use Rattle.words.specs.Sequences.{over};
-ghost use Rattle.steps.specs.Saved.{stateWords, leastStateWords};
+ghost use Rattle.words.specs.Words.{lowNumbers};
+ghost use Rattle.steps.specs.Saved.{positionWords, mostPositionWords, stateWords, leastStateWords};
 ghost use Rattle.step_cursors.specs.Held.{stateOf};
 ghost use Rattle.state_saving.specs.Loading.{Storable};
 
-// Writes the words of the state that a cursor stands for, and answers how many.
-pub fn save(c: Cursor, state: &mut [u32]) -> usize
-    requires { ⌜ Storable c × (leastStateWords ≤ length (now state)) ⌝ }
-    ensures { λ r. ⌜ (r ≡ length (stateWords (stateOf c))) × (now (state .exit) ≡ over (stateWords (stateOf c)) (now (state .entry))) ⌝ }
+// Writes the words behind the survey's of the state that a cursor stands for, and answers how many.
+fn save_behind(c: Cursor, state: &mut [u32]) -> usize
+    requires { ⌜ Storable c × (mostPositionWords ≤ length (now state)) ⌝ }
+    ensures { λ r. ⌜ (r ≡ length (positionWords (stateOf c))) × (now (state .exit) ≡ over (positionWords (stateOf c)) (now (state .entry))) ⌝ }
 {
     let level = c.level;
     let upper = c.upper;
@@ -26,4 +27,15 @@ pub fn save(c: Cursor, state: &mut [u32]) -> usize
     }
     state[level + 1] = StateWord::place(last.0).0;
     level + 2
+}
+
+// Writes the words of the state that a cursor stands for, under a survey's number, and answers how many.
+pub fn save(survey: u32, c: Cursor, state: &mut [u32]) -> usize
+    requires { ⌜ Storable c × (survey < lowNumbers) × (leastStateWords ≤ length (now state)) ⌝ }
+    ensures { λ r. ⌜ (r ≡ length (stateWords survey (stateOf c)))
+        × (now (state .exit) ≡ over (stateWords survey (stateOf c)) (now (state .entry))) ⌝ }
+{
+    let behind = save_behind(c, &mut state[1..]);
+    state[0] = StateWord::survey(survey).0;
+    behind + 1
 }

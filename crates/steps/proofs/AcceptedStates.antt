@@ -1,5 +1,5 @@
--- Tests 9 and 10, over raw words: they accept exactly the words of the states that the uncut run passes through.
-use Prim.Native.Nat.{ℕ, suc, _*_, _≤_}
+-- Tests 9, 22 and 10, over raw words: they accept exactly the words, under the survey's number, of the states that the uncut run passes through.
+use Prim.Native.Nat.{ℕ, suc, _*_, _≤_, _<_}
 use native.Mathlib.Omega.{arith}
 use mathlib.Core.Path.{_≡_, refl, sym}
 use mathlib.Core.Logic.{_↔_}
@@ -16,15 +16,15 @@ use Rattle.tables.specs.Tables.{Tables, rowCount, mostRows, tableTests}
 use Rattle.tables.proofs.Ranges.{end-le-count}
 use Rattle.tables.proofs.RightTables.{right}
 use Rattle.plans.specs.Branches.{patternWidth, mostPatterns}
-use Rattle.plans.specs.Plans.{Plan, readPlan, variablesRight}
+use Rattle.plans.specs.Plans.{Plan, readPlan}
 use Rattle.plans.proofs.Bounds.{PlanForm, plan-form}
 use Rattle.steps.specs.Levels.{under}
 use Rattle.steps.specs.Steps.{State, after, upperRight}
-use Rattle.steps.specs.Saved.{stateWords, leastStateWords, shapeRight, stateIn, placesRight}
+use Rattle.steps.specs.Saved.{stateWords, leastStateWords, shapeRight, surveyRight, stateIn, placesRight}
 use Rattle.steps.proofs.Rules.{termsOf}
 use Rattle.steps.proofs.Right.{Right, inner-of, right-after, right-accepted, accepted-right}
 use Rattle.steps.proofs.Reached.{reached}
-use Rattle.steps.proofs.SavedWords.{fitsLow, Fits, words-length, state-back, words-shape, shape-of}
+use Rattle.steps.proofs.SavedWords.{fitsLow, Fits, position-length, position-back, words-shape, words-survey, shape-of, survey-right, words-under}
 
 -- ---- right states are small
 module _ (t : Tables) (q : Plan) (form : PlanForm q) (s : State) (r : Right t q s) where
@@ -35,9 +35,9 @@ module _ (t : Tables) (q : Plan) (form : PlanForm q) (s : State) (r : Right t q 
       let l = ltb-true (length (s .upper) * patternWidth) (length (termsOf q s)) (r .level) in
       omega (arith, b .width, b .most)
 
-  -- a saved state has at most 9 words
-  pub words-most : length (stateWords s) ≤ leastStateWords
-  words-most = omega (arith, words-length s, depth-most)
+  -- a saved state has at most 10 words
+  pub words-most : (survey : ℕ) → length (stateWords survey s) ≤ leastStateWords
+  words-most survey = omega (arith, position-length s, depth-most)
 
 upper-fits : (t : Tables) (terms upper : List ℕ) → rowCount t ≤ mostRows → upperRight t terms upper ≡ true
     → all fitsLow upper ≡ true
@@ -64,43 +64,45 @@ module _ (t : Tables) (plan : List ℕ) (q : Plan) (tables : firstFailing (table
   fits : (s : State) → Right t q s → Fits s
   fits s r = right-fits t q (right t tables .sized .few) (plan-form plan q read) s r
 
-  -- a right state is saved and loaded again, in at most 9 words, which pass tests 9 and 10
-  pub right-loads : (s : State) → Right t q s → stateIn (stateWords s) ≡ s
-  right-loads s r = state-back s (fits s r)
-
-  pub saved-most : (s : State) → Right t q s → length (stateWords s) ≤ leastStateWords
-  saved-most s r = words-most t q (plan-form plan q read) s r
-
-  pub saved-shape : (s : State) → Right t q s → shapeRight q (stateWords s) ≡ true
-  saved-shape s r = words-shape q s (fits s r) (r .branch) (r .level)
-
-  pub saved-places : (s : State) → Right t q s → placesRight t q (stateWords s) ≡ true
-  saved-places s r = rw (right-loads s r) (right-accepted t q s r)
-
   -- each state of the uncut run is right
   pub right-state : (n : ℕ) (s : State) → after t q n .state ≡ some s → Right t q s
   right-state n s e = right-after t q (plan-form plan q read) n s e
 
-  pub loads-back : (n : ℕ) (s : State) → after t q n .state ≡ some s → stateIn (stateWords s) ≡ s
-  loads-back n s e = right-loads s (right-state n s e)
+  module _ (survey : ℕ) where
+    -- a right state is saved and loaded again, in at most 10 words
+    pub right-loads : (s : State) → Right t q s → stateIn (stateWords survey s) ≡ s
+    right-loads s r = position-back s (fits s r)
 
-  -- words that pass are those of a state of the run
-  accepted-passed : (ws : List ℕ) → shapeRight q ws ≡ true → placesRight t q ws ≡ true
-      → (n : ℕ) × (s : State) × (after t q n .state ≡ some s) × (ws ≡ stateWords s)
-  accepted-passed ws e f =
-      let x = shape-of q ws e in
-      let p = reached t q (stateIn ws) (accepted-right t q (stateIn ws) (x .branch) (x .level) f) in
-      (p .0, stateIn ws, p .1, sym (x .words))
+    pub saved-most : (s : State) → Right t q s → length (stateWords survey s) ≤ leastStateWords
+    saved-most s r = words-most t q (plan-form plan q read) s r survey
 
--- a saved state is accepted exactly when the uncut run passes through it
-pub accepted-iff : (t : Tables) (plan : List ℕ) (q : Plan) → firstFailing (tableTests t) ≡ none → readPlan plan ≡ some q
-    → variablesRight q ≡ true → (ws : List ℕ)
-    → ((shapeRight q ws ≡ true) × (placesRight t q ws ≡ true))
-    ↔ ((n : ℕ) × (s : State) × (after t q n .state ≡ some s) × (ws ≡ stateWords s))
-accepted-iff t plan q tables read variables ws = (λ x. accepted-passed t plan q tables read ws (x .0) (x .1), λ y. back y)
-  where
-    back : ((n : ℕ) × (s : State) × (after t q n .state ≡ some s) × (ws ≡ stateWords s))
-        → (shapeRight q ws ≡ true) × (placesRight t q ws ≡ true)
-    back y =
-        let r = right-state t plan q tables read (y .0) (y .1) (y .2) in
-        rw (y .3) (saved-shape t plan q tables read (y .1) r, saved-places t plan q tables read (y .1) r)
+    pub loads-back : (n : ℕ) (s : State) → after t q n .state ≡ some s → stateIn (stateWords survey s) ≡ s
+    loads-back n s e = right-loads s (right-state n s e)
+
+    -- which pass tests 9 and 10
+    pub saved-shape : survey < lowNumbers → (s : State) → Right t q s → shapeRight q (stateWords survey s) ≡ true
+    saved-shape h s r = words-shape survey h q s (fits s r) (r .branch) (r .level)
+
+    pub saved-places : (s : State) → Right t q s → placesRight t q (stateWords survey s) ≡ true
+    saved-places s r = rw (position-back s (fits s r)) (right-accepted t q s r)
+
+    -- the words, under the survey's number of 28 bits, of a state that the uncut run passes through
+    abbrev pub RunPasses : List ℕ → Type 0
+    RunPasses ws = (survey < lowNumbers) × ((n : ℕ) × (s : State) × (after t q n .state ≡ some s) × (ws ≡ stateWords survey s))
+
+    -- words that pass are those of a state of the run
+    accepted-passed : (ws : List ℕ) → shapeRight q ws ≡ true → surveyRight survey ws ≡ true → placesRight t q ws ≡ true → RunPasses ws
+    accepted-passed ws e g f =
+        let x = shape-of q ws e in
+        let p = reached t q (stateIn ws) (accepted-right t q (stateIn ws) (x .branch) (x .level) f) in
+        (survey-right survey ws g .few, (p .0, stateIn ws, p .1, sym (words-under survey q ws e g)))
+
+    -- a saved state is accepted exactly when the uncut run over this survey passes through it
+    pub accepted-iff : (ws : List ℕ)
+        → ((shapeRight q ws ≡ true) × (surveyRight survey ws ≡ true) × (placesRight t q ws ≡ true)) ↔ RunPasses ws
+    accepted-iff ws = (λ x. accepted-passed ws (x .0) (x .1) (x .2), λ y. back y)
+      where
+        back : RunPasses ws → (shapeRight q ws ≡ true) × (surveyRight survey ws ≡ true) × (placesRight t q ws ≡ true)
+        back y =
+            let r = right-state (y .1 .0) (y .1 .1) (y .1 .2) in
+            rw (y .1 .3) (saved-shape (y .0) (y .1 .1) r, words-survey survey (y .0) (y .1 .1), saved-places (y .1 .1) r)

@@ -1,4 +1,4 @@
--- A state's words read back as the state, and words of the right shape are those of the state that they stand for.
+-- A state's words read back as the state, and words of the right shape are those of the state that they stand for: behind the survey's word, and with it.
 use Prim.Native.Nat.{ℕ, zero, suc, _+_, _-_, _*_, _≤_, _<_}
 use native.Mathlib.Omega.{arith}
 use native.Mathlib.Numerals.{add-one}
@@ -9,14 +9,15 @@ use lib.Dec.{ltb, leb, eqb}
 use lib.ListN.{length, take, getD, length-append}
 use lib.Seq.{getD-at, take-suc, take-all}
 use borrow.Author.Tests.{ltb-true, leb-true, eqb-true, lt-ltb, le-leb, eq-eqb}
-use Rattle.words.specs.Words.{kind, low, lowNumbers, depths, positionKind, placeKind, positionWord, placeWord, branchOf, depthOf}
+use Rattle.words.specs.Words.{kind, low, lowNumbers, depths, surveyKind, positionKind, placeKind, surveyWord, positionWord, placeWord, branchOf, depthOf}
 use Rattle.words.specs.Sequences.{all}
 use Rattle.words.proofs.Booleans.{absurd-true, and-left, and-right, and-both}
 use Rattle.words.proofs.Elements.{all-at, all-append, all-tail, all-head}
 use Rattle.plans.specs.Plans.{Plan, branchAt}
 use Rattle.steps.specs.Levels.{hasLevel}
 use Rattle.steps.specs.Steps.{State}
-use Rattle.steps.specs.Saved.{upperWords, positionWords, stateWords, isPlace, positionRight, shapeRight, upperIn, stateIn}
+use Rattle.steps.specs.Saved.{upperWords, positionWords, stateWords, behindSurvey, isSurvey, isPlace, positionRight, shapeBehind, shapeRight}
+use Rattle.steps.specs.Saved.{numberRight, surveyRight, upperIn, positionIn, stateIn}
 
 -- a number that a word's low bits hold
 abbrev pub fitsLow : ℕ → Bool
@@ -55,9 +56,9 @@ unfolding upperWords
 upper-length [] = refl
 upper-length (p ∷ upper) = omega (arith, length-append (upperWords upper) (placeWord p ∷ []), upper-length upper)
 
-pub words-length : (s : State) → length (stateWords s) ≡ suc (suc (length (s .upper)))
+pub position-length : (s : State) → length (positionWords s) ≡ suc (suc (length (s .upper)))
 unfolding positionWords
-words-length s =
+position-length s =
     omega (arith, length-append (upperWords (s .upper)) (placeWord (s .place) ∷ []), upper-length (s .upper))
 
 -- the place word behind some upper places
@@ -73,11 +74,11 @@ upper-back w (p ∷ upper) rest e =
     (ap₂ _∷_ (ap low (word-behind w upper (placeWord p) rest) ∙ low-place p f) (upper-back w upper (placeWord p ∷ rest) (all-tail fitsLow p upper e)))
 
 -- what reads back is the state
-pub state-back : (s : State) → Fits s → stateIn (stateWords s) ≡ s
-unfolding stateIn positionWords
-state-back s f =
+pub position-back : (s : State) → Fits s → positionIn (positionWords s) ≡ s
+unfolding positionIn positionWords
+position-back s f =
     let w = positionWord (s .branch) (suc (length (s .upper))) in
-    let ws = stateWords s in
+    let ws = positionWords s in
     let d = depth-position (s .branch) (suc (length (s .upper))) (f .position) (f .depth) in
     let above : depthOf w - 1 ≡ length (s .upper) = omega arith in
     let last : depthOf w ≡ length (s .upper) + 1 = omega arith in
@@ -95,10 +96,10 @@ places-right (p ∷ upper) e =
     (and-both (isPlace (placeWord p)) true (is-place p (ltb-true p lowNumbers (all-head fitsLow p upper e))) refl)
 
 -- a state in the plan has words of the right shape
-pub words-shape : (q : Plan) (s : State) → Fits s → s .branch < length (q .branches)
-    → hasLevel (branchAt q (s .branch) .terms) (length (s .upper)) ≡ true → shapeRight q (stateWords s) ≡ true
-unfolding shapeRight positionWords all
-words-shape q s f b l =
+pub position-shape : (q : Plan) (s : State) → Fits s → s .branch < length (q .branches)
+    → hasLevel (branchAt q (s .branch) .terms) (length (s .upper)) ≡ true → shapeBehind q (positionWords s) ≡ true
+unfolding shapeBehind positionWords all
+position-shape q s f b l =
     let w = positionWord (s .branch) (suc (length (s .upper))) in
     let d = depth-position (s .branch) (suc (length (s .upper))) (f .position) (f .depth) in
     let c = branch-position (s .branch) (suc (length (s .upper))) (f .position) (f .depth) in
@@ -111,8 +112,8 @@ words-shape q s f b l =
     (and-both (eqb (kind w) positionKind) _ (eq-eqb (kind w) positionKind k)
     (and-both (ltb (branchOf w) (length (q .branches))) _ (lt-ltb (branchOf w) (length (q .branches)) (omega arith))
     (and-both (leb 1 (depthOf w)) _ (le-leb 1 (depthOf w) (omega arith)) level)))
-    (and-both (eqb (length (stateWords s)) (1 + depthOf w)) _
-    (eq-eqb (length (stateWords s)) (1 + depthOf w) (omega (arith, words-length s)))
+    (and-both (eqb (length (positionWords s)) (1 + depthOf w)) _
+    (eq-eqb (length (positionWords s)) (1 + depthOf w) (omega (arith, position-length s)))
     (all-append isPlace (upperWords (s .upper)) (placeWord (s .place) ∷ []) (places-right (s .upper) (f .upper))
     (and-both (isPlace (placeWord (s .place))) true (is-place (s .place) (f .place)) refl)))
 
@@ -131,16 +132,16 @@ upper-words w ps (suc n) h e =
     let x = place-low (getD ps n 0) k in
     rw (add-one n, upper-words w ps n (omega arith) e, x, take-suc ps n 0 (omega arith))
 
--- what test 9 says of words
-pub record Shape (q : Plan) (ws : List ℕ) : Type 0 where
-  pub branch : stateIn ws .branch < length (q .branches)
-  pub level : hasLevel (branchAt q (stateIn ws .branch) .terms) (length (stateIn ws .upper)) ≡ true
-  pub words : stateWords (stateIn ws) ≡ ws
+-- what test 9 says of words behind the survey's
+pub record Behind (q : Plan) (ws : List ℕ) : Type 0 where
+  pub branch : positionIn ws .branch < length (q .branches)
+  pub level : hasLevel (branchAt q (positionIn ws .branch) .terms) (length (positionIn ws .upper)) ≡ true
+  pub words : positionWords (positionIn ws) ≡ ws
 
-shape-in : (q : Plan) (w : ℕ) (ps : List ℕ) → positionRight q w ≡ true → length ps ≡ depthOf w → all isPlace ps ≡ true
-    → Shape q (w ∷ ps)
-unfolding stateIn positionWords
-shape-in q w ps e l a =
+behind-in : (q : Plan) (w : ℕ) (ps : List ℕ) → positionRight q w ≡ true → length ps ≡ depthOf w → all isPlace ps ≡ true
+    → Behind q (w ∷ ps)
+unfolding positionIn positionWords
+behind-in q w ps e l a =
     let d = depthOf w in
     let k = eqb-true (kind w) positionKind (and-left (eqb (kind w) positionKind) _ e) in
     let f = and-right (eqb (kind w) positionKind) _ e in
@@ -160,10 +161,60 @@ shape-in q w ps e l a =
           ∙ sym (take-suc ps (d - 1) 0 (omega arith)) ∙ take-all (suc (d - 1)) ps (omega arith));
     }
 
-pub shape-of : (q : Plan) (ws : List ℕ) → shapeRight q ws ≡ true → Shape q ws
-unfolding shapeRight
-shape-of q [] e = absurd-true refl (sym e)
-shape-of q (w ∷ ps) e =
+behind-of : (q : Plan) (ws : List ℕ) → shapeBehind q ws ≡ true → Behind q ws
+unfolding shapeBehind
+behind-of q [] e = absurd-true refl (sym e)
+behind-of q (w ∷ ps) e =
     let f = and-right (positionRight q w) _ e in
     let l = eqb-true (length (w ∷ ps)) (1 + depthOf w) (and-left (eqb (length (w ∷ ps)) (1 + depthOf w)) _ f) in
-    shape-in q w ps (and-left (positionRight q w) _ e) (omega arith) (and-right (eqb (length (w ∷ ps)) (1 + depthOf w)) _ f)
+    behind-in q w ps (and-left (positionRight q w) _ e) (omega arith) (and-right (eqb (length (w ∷ ps)) (1 + depthOf w)) _ f)
+
+-- ---- with the survey's word
+pub survey-kind : (survey : ℕ) → survey < lowNumbers → isSurvey (surveyWord survey) ≡ true
+survey-kind survey h = eq-eqb (kind (surveyWord survey)) surveyKind (omega arith)
+
+survey-low : (survey : ℕ) → survey < lowNumbers → low (surveyWord survey) ≡ survey
+survey-low survey h = omega arith
+
+survey-of : (w : ℕ) → kind w ≡ surveyKind → surveyWord (low w) ≡ w
+survey-of w e = omega arith
+
+-- a state in the plan has words that pass tests 9 and 22
+pub words-shape : (survey : ℕ) → survey < lowNumbers → (q : Plan) (s : State) → Fits s → s .branch < length (q .branches)
+    → hasLevel (branchAt q (s .branch) .terms) (length (s .upper)) ≡ true → shapeRight q (stateWords survey s) ≡ true
+words-shape survey h q s f b l =
+    and-both (isSurvey (surveyWord survey)) (shapeBehind q (positionWords s)) (survey-kind survey h) (position-shape q s f b l)
+
+pub words-survey : (survey : ℕ) → survey < lowNumbers → (s : State) → surveyRight survey (stateWords survey s) ≡ true
+words-survey survey h s =
+    and-both (numberRight survey) _ (lt-ltb survey lowNumbers h) (eq-eqb (low (surveyWord survey)) survey (survey-low survey h))
+
+-- what test 9 says of words
+pub record Shape (q : Plan) (ws : List ℕ) : Type 0 where
+  pub branch : stateIn ws .branch < length (q .branches)
+  pub level : hasLevel (branchAt q (stateIn ws .branch) .terms) (length (stateIn ws .upper)) ≡ true
+  pub words : stateWords (low (getD ws 0 0)) (stateIn ws) ≡ ws
+
+pub shape-of : (q : Plan) (ws : List ℕ) → shapeRight q ws ≡ true → Shape q ws
+shape-of q [] e = absurd-true refl (sym e)
+shape-of q (w ∷ ws) e =
+    let b = behind-of q ws (and-right (isSurvey w) (shapeBehind q ws) e) in
+    let k = eqb-true (kind w) surveyKind (and-left (isSurvey w) (shapeBehind q ws) e) in
+    record { branch = b .branch; level = b .level; words = ap₂ _∷_ (survey-of w k) (b .words) }
+
+-- and test 22 after it
+pub record OfSurvey (survey : ℕ) (ws : List ℕ) : Type 0 where
+  pub few : survey < lowNumbers
+  pub same : low (getD ws 0 0) ≡ survey
+
+pub survey-right : (survey : ℕ) (ws : List ℕ) → surveyRight survey ws ≡ true → OfSurvey survey ws
+survey-right survey ws e =
+    record {
+      few = ltb-true survey lowNumbers (and-left (numberRight survey) _ e);
+      same = eqb-true (low (getD ws 0 0)) survey (and-right (numberRight survey) _ e);
+    }
+
+pub words-under : (survey : ℕ) (q : Plan) (ws : List ℕ) → shapeRight q ws ≡ true → surveyRight survey ws ≡ true
+    → stateWords survey (stateIn ws) ≡ ws
+words-under survey q ws e f =
+    ap (λ n. stateWords n (stateIn ws)) (sym (survey-right survey ws f .same)) ∙ shape-of q ws e .words

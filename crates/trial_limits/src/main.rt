@@ -7,6 +7,7 @@ use plan::Draft;
 use turn_calls::STATE_WORDS;
 use turns::TurnEnding;
 use turns::Turned;
+use wood::MOST_SURVEY;
 use words::Written;
 
 fn say(text: &[u8]) {
@@ -51,20 +52,27 @@ fn say_turned(what: &[u8], answer: Turned) {
     say(b"\n");
 }
 
-// Opening over no rows, with a plan and a state buffer.
-fn opened(d: Draft, state: &mut [u32]) -> Written {
+// Opening over no rows, under a number, with a plan and a state buffer.
+fn opened(survey: u32, d: Draft, state: &mut [u32]) -> Written {
     let all = d.words;
     let words: &[u32] = &all;
     let used = d.used;
     if used <= words.len() {
-        return turn_calls::open(&words[..0], &words[..0], &words[..0], &words[..used], state);
+        return turn_calls::open(
+            &words[..0],
+            &words[..0],
+            &words[..0],
+            survey,
+            &words[..used],
+            state,
+        );
     }
     Written::Words(0)
 }
 
 fn try_plan(what: &[u8], d: Draft) {
     let mut state = [0u32; STATE_WORDS];
-    say_written(what, opened(d, &mut state));
+    say_written(what, opened(MOST_SURVEY, d, &mut state));
 }
 
 fn plans() {
@@ -79,19 +87,30 @@ fn plans() {
 fn states() {
     let mut enough = [0u32; STATE_WORDS];
     say_written(
-        b"9 words of state",
-        opened(plan::with_tree(0, 0, 1), &mut enough),
+        b"10 words of state",
+        opened(MOST_SURVEY, plan::with_tree(0, 0, 1), &mut enough),
     );
-    let mut few = [0u32; 8];
+    let mut few = [0u32; 9];
     say_written(
-        b"8 words of state",
-        opened(plan::with_tree(0, 0, 1), &mut few),
+        b"9 words of state",
+        opened(MOST_SURVEY, plan::with_tree(0, 0, 1), &mut few),
     );
+}
+
+fn try_survey(what: &[u8], survey: u32) {
+    let mut state = [0u32; STATE_WORDS];
+    say_written(what, opened(survey, plan::with_tree(0, 0, 1), &mut state));
+}
+
+fn surveys() {
+    try_survey(b"survey 268435455", MOST_SURVEY);
+    try_survey(b"survey 268435456", MOST_SURVEY + 1);
 }
 
 fn main() {
     plans();
     states();
+    surveys();
     wood::quanta();
     wood::sizes();
 }

@@ -11,6 +11,9 @@ use words::Term;
 
 pub const MOST_ROWS: u32 = 65536;
 
+// The most that a survey's number may be: every call is tried with it.
+pub const MOST_SURVEY: u32 = 268435455;
+
 // One row more than there may be, and the words of so many.
 const ROWS: usize = 65537;
 
@@ -35,14 +38,15 @@ fn turned(rows: &[u32], list: &[u32], quantum: u32) -> Turned {
     let p = total();
     let mut state = [0u32; STATE_WORDS];
     let mut output = [0u32; 8];
-    turn_calls::open(rows, list, list, &p, &mut state);
+    turn_calls::open(rows, list, list, MOST_SURVEY, &p, &mut state);
     turn_calls::turn(
         rows,
         list,
         list,
+        MOST_SURVEY,
         &p,
         &mut state,
-        2,
+        3,
         quantum,
         &rows[..0],
         &mut output,

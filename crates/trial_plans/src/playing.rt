@@ -15,6 +15,9 @@ pub const CUT_WORDS: usize = 2;
 // The words of the output, and of the list that is kept.
 pub const MOST_OUTPUT: usize = 1024;
 
+// The number that every wood stands under.
+pub const SURVEY: u32 = 0;
+
 pub const MOST_TURNS: u64 = 18446744073709551615;
 
 // Opens a plan and runs it in turns of a quantum, over an output of so many words; prints the rows, joined, or the merged list.
@@ -37,6 +40,7 @@ fn play_cut(
         rows,
         pos,
         osp,
+        SURVEY,
         plan,
         quantum,
         MOST_TURNS,

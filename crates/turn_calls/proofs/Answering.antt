@@ -40,15 +40,15 @@ module _ (i : TurnInput) where
 
   -- by the steps of some progress
   by-steps : (p : Progress) → turnOf i ≡ finished i p → (r : Ran) (after : List ℕ) → Runs (givenPlan i .ending) (i .threshold) p (i .output) after r
-      → Answers i (answerOf r) (over (savedWords (leftAt (r .ending) (r .next))) (i .state)) after
+      → Answers i (answerOf (i .survey .number) r) (over (savedWords (i .survey .number) (leftAt (r .ending) (r .next))) (i .state)) after
   by-steps p e r after k =
-      let w = ap savedWords (sym (k .left)) in
+      let w = ap (savedWords (i .survey .number)) (sym (k .left)) in
       let a = same-answer (r .steps) (stepsOf p) (r .ending) (endingOf p) _ _ (r .used) _ (k .steps) (k .ending) (ap length w) (k .listed .0) in
-      same-result (answerOf r) _ _ _ after _ a (ap (λ ws. over ws (i .state)) w) (k .listed .1) ∙ sym (e ∙ by-parts i p)
+      same-result (answerOf (i .survey .number) r) _ _ _ after _ a (ap (λ ws. over ws (i .state)) w) (k .listed .1) ∙ sym (e ∙ by-parts i p)
 
   -- those of a turn start at the given state
   abbrev runFor : State → Progress
-  runFor s = progress (i .tables) (givenPlan i) (fitsIn (givenPlan i .ending) (i .threshold) (length (i .output))) (i .quantum) s
+  runFor s = progress (i .survey .tables) (givenPlan i) (fitsIn (givenPlan i .ending) (i .threshold) (length (i .output))) (i .quantum) s
 
   served-by : firstFailing (turnTests i) ≡ none → turnOf i ≡ finished i (served i)
   unfolding turnOf
@@ -56,7 +56,7 @@ module _ (i : TurnInput) where
 
   pub serves : firstFailing (turnTests i) ≡ none → (s : State) → s ≡ stateIn (givenState i) → (r : Ran) (after : List ℕ)
       → Runs (givenPlan i .ending) (i .threshold) (runFor s) (i .output) after r
-      → Answers i (answerOf r) (over (savedWords (leftAt (r .ending) (r .next))) (i .state)) after
+      → Answers i (answerOf (i .survey .number) r) (over (savedWords (i .survey .number) (leftAt (r .ending) (r .next))) (i .state)) after
   serves e s h r after u =
       by-steps (served i) (served-by e) r after
       (subst (λ (x : State). Runs (givenPlan i .ending) (i .threshold) (runFor x) (i .output) after r) h u)

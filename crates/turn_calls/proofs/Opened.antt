@@ -1,65 +1,86 @@
 -- What opening answers, by the tests made so far: a refusal by the number of the first that fails, else the start state.
 use Prim.Native.Nat.{ℕ, _≤_, _<_}
-use mathlib.Core.Path.{_≡_, sym, _∙_, ap, subst⁻¹}
-use mathlib.Core.Option.{none, some}
+use mathlib.Core.Path.{_≡_, refl, sym, _∙_, ap, subst⁻¹}
+use mathlib.Core.Bool.{Bool, true, false}
+use mathlib.Core.Option.{none}
 use mathlib.Core.List.{List, [], _∷_}
 use lib.Dec.{leb}
 use lib.ListN.{length}
-use borrow.Author.Tests.{le-leb, lt-leb}
+use borrow.Author.Tests.{ltb-true, leb-true}
 use Rattle.words.specs.declared.Written.{Written}
 use Rattle.words.specs.declared.Written.the-variants.{Words, Refused}
-use Rattle.words.specs.Sequences.{over}
+use Rattle.words.specs.Words.{lowNumbers}
+use Rattle.words.specs.Sequences.{all, over}
 use Rattle.words.specs.Tests.{Test, firstFailing, numberOf}
-use Rattle.tables.specs.Tables.{Tables}
+use Rattle.words.proofs.Testing.{passes-all, testNumbered, test-passed}
 use Rattle.plans.specs.Plans.{planOf}
-use Rattle.steps.specs.Steps.{startOf}
+use Rattle.steps.specs.Steps.{State, startOf}
 use Rattle.step_cursors.specs.declared.Cursor.{Cursor}
 use Rattle.step_cursors.specs.Held.{stateOf}
-use Rattle.steps.specs.Saved.{stateWords, leastStateWords}
-use Rattle.turns.specs.Opening.{Opened, openTests, openedWith, openedAs, openOf}
+use Rattle.steps.specs.Saved.{stateWords, leastStateWords, numberRight}
+use Rattle.turns.specs.Surveys.{Survey}
+use Rattle.turns.specs.Opening.{Opened, ownOpenTests, openTests, startWords, openedWith, openedAs, openOf}
 use Rattle.turns.specs.Refusals.{OpenAnswers}
 use Rattle.turns.proofs.Refusals.{open-refusals}
-use Rattle.words.proofs.Numbering.{front-fails, rest-decides}
+use Rattle.words.proofs.Numbering.{one-fails, none-fails, front-fails, rest-decides}
+use Rattle.turn_tests.specs.Testing.{startNumber}
 use Rattle.turn_tests.proofs.Numbering.{earlyTests, early-pass}
 
-module _ (t : Tables) (plan state : List ℕ) where
-  abbrev roomTest : List Test
-  roomTest = (7, leb leastStateWords (length state)) ∷ []
+module _ (v : Survey) (plan state : List ℕ) where
+  abbrev early : List Test
+  early = earlyTests (v .tables) plan
 
   abbrev refusedBy : ℕ → Type 0
-  refusedBy n = openOf t plan state ≡ record { answer = Refused n; state = state }
+  refusedBy n = openOf v plan state ≡ record { answer = Refused n; state = state }
 
-  pub open-refused : (n : ℕ) → n ≡ numberOf (firstFailing (earlyTests t plan)) → (n ≡ 0 → ⊥) → refusedBy n
+  pub open-refused : (n : ℕ) → n ≡ numberOf (firstFailing early) → (n ≡ 0 → ⊥) → refusedBy n
   unfolding openOf
-  open-refused n e h = ap (openedAs t plan state) (front-fails (earlyTests t plan) roomTest n e h)
+  open-refused n e h = ap (openedAs v plan state) (front-fails early (ownOpenTests v state) n e h)
 
-  module _ (z : numberOf (firstFailing (earlyTests t plan)) ≡ 0) where
-    room-decides : firstFailing (openTests t plan state) ≡ firstFailing roomTest
-    room-decides = rest-decides (earlyTests t plan) roomTest (early-pass t plan z)
+  -- tests 7 and 22, by the number of the first that fails
+  own-number : (room number : Bool) → startNumber room number ≡ numberOf (firstFailing ((7, room) ∷ (22, number) ∷ []))
+  unfolding firstFailing
+  own-number true true = refl
+  own-number true false = refl
+  own-number false number = refl
 
-    pub open-short : length state < leastStateWords → refusedBy 7
-    unfolding openOf firstFailing
-    open-short h =
-        let e : firstFailing roomTest ≡ some 7 = rw (lt-leb leastStateWords (length state) h) in
-        ap (openedAs t plan state) (room-decides ∙ e)
+  module _ (z : numberOf (firstFailing early) ≡ 0) (n : ℕ) (e : n ≡ startNumber (leb leastStateWords (length state)) (numberRight (v .number))) where
+    own-decides : firstFailing (openTests v plan state) ≡ firstFailing (ownOpenTests v state)
+    own-decides = rest-decides early (ownOpenTests v state) (early-pass (v .tables) plan z)
 
-    pub open-served : leastStateWords ≤ length state
-        → openOf t plan state ≡ openedWith (stateWords (startOf t (planOf plan) 0)) state
-    unfolding openOf firstFailing
-    open-served h =
-        let e : firstFailing roomTest ≡ none = rw (le-leb leastStateWords (length state) h) in
-        ap (openedAs t plan state) (room-decides ∙ e)
+    own-is : n ≡ numberOf (firstFailing (ownOpenTests v state))
+    own-is = e ∙ own-number (leb leastStateWords (length state)) (numberRight (v .number))
+
+    pub own-refused : (n ≡ 0 → ⊥) → refusedBy n
+    unfolding openOf
+    own-refused h = ap (openedAs v plan state) (own-decides ∙ one-fails (firstFailing (ownOpenTests v state)) n own-is h)
+
+    module _ (y : n ≡ 0) where
+      own-pass : firstFailing (ownOpenTests v state) ≡ none
+      unfolding all
+      own-pass = none-fails (ownOpenTests v state) refl (sym own-is ∙ y)
+
+      pub open-served : openOf v plan state ≡ openedWith (startWords v plan) state
+      unfolding openOf
+      open-served = ap (openedAs v plan state) (own-decides ∙ own-pass)
+
+      -- what saving asks for
+      pub open-room : (v .number < lowNumbers) × (leastStateWords ≤ length state)
+      open-room =
+          let s : (k : ℕ) → testNumbered k (ownOpenTests v state) ≡ true = λ k.
+          test-passed k (ownOpenTests v state) (passes-all (ownOpenTests v state) own-pass) in
+          (ltb-true (v .number) lowNumbers (s 22), leb-true leastStateWords (length state) (s 7))
 
   -- what is written is the start state's words
-  pub opened-words : (c : Cursor) → stateOf c ≡ startOf t (planOf plan) 0
-      → openOf t plan state ≡ openedWith (stateWords (startOf t (planOf plan) 0)) state → (n : ℕ) (after : List ℕ)
-      → (n ≡ length (stateWords (stateOf c))) × (after ≡ over (stateWords (stateOf c)) state)
-      → record { answer = Words n; state = after } ≡ openOf t plan state
+  pub opened-words : (c : Cursor) → stateOf c ≡ startOf (v .tables) (planOf plan) 0
+      → openOf v plan state ≡ openedWith (startWords v plan) state → (n : ℕ) (after : List ℕ)
+      → (n ≡ length (stateWords (v .number) (stateOf c))) × (after ≡ over (stateWords (v .number) (stateOf c)) state)
+      → record { answer = Words n; state = after } ≡ openOf v plan state
   opened-words c e r n after w =
-      let x : openOf t plan state ≡ openedWith (stateWords (stateOf c)) state = rw e r in
+      let x = r ∙ ap (λ (s : State). openedWith (stateWords (v .number) s) state) (sym e) in
       rw (w .0, w .1) (sym x)
 
   -- what equals the definition's result has its number and its words
-  pub open-told : {r : Written} {after : List ℕ} → record { answer = r; state = after } ≡ openOf t plan state
-      → (record { answer = r; state = after } ≡ openOf t plan state) × OpenAnswers t plan state r
-  open-told e = (e, subst⁻¹ (OpenAnswers t plan state) (ap (λ (o : Opened). o .answer) e) (open-refusals t plan state .number))
+  pub open-told : {r : Written} {after : List ℕ} → record { answer = r; state = after } ≡ openOf v plan state
+      → (record { answer = r; state = after } ≡ openOf v plan state) × OpenAnswers v plan state r
+  open-told e = (e, subst⁻¹ (OpenAnswers v plan state) (ap (λ (o : Opened). o .answer) e) (open-refusals v plan state .number))

@@ -1,29 +1,37 @@
 // Opening a query: the words of its start state.
-use steps::STATE_WORDS;
 use turn_tests::ACCEPTED;
-use turn_tests::ROOM;
 use turn_tests::check;
+use turn_tests::start;
 use words::Term;
 use words::Written;
 ghost use mathlib.Core.Path.{_≡_};
-ghost use Rattle.tables.specs.Tables.{tablesOf};
+ghost use Rattle.turns.specs.Surveys.{surveyOf};
 ghost use Rattle.turns.specs.Opening.{openOf};
 ghost use Rattle.turns.specs.Refusals.{OpenAnswers};
 
 // Writes the start state of a query to the state buffer, or refuses by the number of the first test that fails.
-pub fn open(rows: &[u32], pos: &[u32], osp: &[u32], plan: &[u32], state: &mut [u32]) -> Written
+pub fn open(
+    rows: &[u32],
+    pos: &[u32],
+    osp: &[u32],
+    survey: u32,
+    plan: &[u32],
+    state: &mut [u32],
+) -> Written
     ensures { λ r. ⌜ record { answer = r; state = now (state .exit) }
-        ≡ openOf (tablesOf (now (rows .entry)) (now (pos .entry)) (now (osp .entry))) (now (plan .entry)) (now (state .entry)) ⌝ }
-    ensures number { λ r. ⌜ OpenAnswers (tablesOf (now (rows .entry)) (now (pos .entry)) (now (osp .entry))) (now (plan .entry)) (now (state .entry)) r ⌝ }
+        ≡ openOf (surveyOf (now (rows .entry)) (now (pos .entry)) (now (osp .entry)) survey) (now (plan .entry)) (now (state .entry)) ⌝ }
+    ensures number { λ r. ⌜ OpenAnswers (surveyOf (now (rows .entry)) (now (pos .entry)) (now (osp .entry)) survey)
+        (now (plan .entry)) (now (state .entry)) r ⌝ }
 {
     let number = check(rows, pos, osp, plan);
     if number != ACCEPTED {
         return Written::Refused(number);
     }
-    if state.len() < STATE_WORDS {
-        return Written::Refused(ROOM);
+    let own = start(survey, state);
+    if own != ACCEPTED {
+        return Written::Refused(own);
     }
     let mut bound = [Term::UNBOUND; 16];
-    let start = step_moves::start_branch(rows, pos, osp, plan, 0, &mut bound);
-    Written::Words(state_saving::save(start, state))
+    let from = step_moves::start_branch(rows, pos, osp, plan, 0, &mut bound);
+    Written::Words(state_saving::save(survey, from, state))
 }

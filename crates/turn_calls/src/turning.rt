@@ -8,8 +8,9 @@ use turns::TurnEnding;
 use turns::Turned;
 use words::Term;
 ghost use mathlib.Core.Path.{_≡_};
-ghost use Prim.Native.Nat.{_≤_};
+ghost use Prim.Native.Nat.{_≤_, _<_};
 ghost use lib.ListN.{length};
+ghost use Rattle.words.specs.Words.{lowNumbers};
 ghost use Rattle.words.specs.Sequences.{over};
 ghost use Rattle.steps.specs.Saved.{savedWords, leastStateWords};
 ghost use Rattle.state_saving.specs.Loading.{Storable};
@@ -18,28 +19,30 @@ ghost use Rattle.turns.specs.Turns.{turnOf, turnInput};
 ghost use Rattle.turns.specs.Refusals.{TurnAnswers};
 ghost use Rattle.turn_runs.specs.Running.{leftAt, answerOf};
 
-// Writes the state that a turn's steps leave, and answers its words: none when done.
-fn save_left(ending: TurnEnding, next: Cursor, state: &mut [u32]) -> usize
-    requires { ⌜ (leastStateWords ≤ length (now state)) × ((ending ≡ TurnEnding.Done → ⊥) → Storable next) ⌝ }
-    ensures { λ r. ⌜ (r ≡ length (savedWords (leftAt ending next)))
-        × (now (state .exit) ≡ over (savedWords (leftAt ending next)) (now (state .entry))) ⌝ }
+// Writes the state that a turn's steps leave, under the survey's number, and answers its words: none when done.
+fn save_left(survey: u32, ending: TurnEnding, next: Cursor, state: &mut [u32]) -> usize
+    requires { ⌜ (survey < lowNumbers) × (leastStateWords ≤ length (now state)) × ((ending ≡ TurnEnding.Done → ⊥) → Storable next) ⌝ }
+    ensures { λ r. ⌜ (r ≡ length (savedWords survey (leftAt ending next)))
+        × (now (state .exit) ≡ over (savedWords survey (leftAt ending next)) (now (state .entry))) ⌝ }
 {
     match ending {
         TurnEnding::Done => 0,
-        TurnEnding::Spent => state_saving::save(next, state),
-        TurnEnding::Full => state_saving::save(next, state),
+        TurnEnding::Spent => state_saving::save(survey, next, state),
+        TurnEnding::Full => state_saving::save(survey, next, state),
         TurnEnding::Refused(_) => 0,
     }
 }
 
 // The answer of a turn whose steps are made.
-fn finish(ran: Ran, state: &mut [u32]) -> Turned
-    requires { ⌜ (leastStateWords ≤ length (now state)) × ((ran .ending ≡ TurnEnding.Done → ⊥) → Storable (ran .next)) ⌝ }
-    ensures { λ r. ⌜ (r ≡ answerOf ran) × (now (state .exit) ≡ over (savedWords (leftAt (ran .ending) (ran .next))) (now (state .entry))) ⌝ }
+fn finish(survey: u32, ran: Ran, state: &mut [u32]) -> Turned
+    requires { ⌜ (survey < lowNumbers) × (leastStateWords ≤ length (now state))
+        × ((ran .ending ≡ TurnEnding.Done → ⊥) → Storable (ran .next)) ⌝ }
+    ensures { λ r. ⌜ (r ≡ answerOf survey ran)
+        × (now (state .exit) ≡ over (savedWords survey (leftAt (ran .ending) (ran .next))) (now (state .entry))) ⌝ }
 {
     let ending = ran.ending;
     let next = ran.next;
-    let saved = save_left(ending, next, state);
+    let saved = save_left(survey, ending, next, state);
     Turned {
         steps: ran.steps,
         ending: ending,
@@ -53,6 +56,7 @@ pub fn turn(
     rows: &[u32],
     pos: &[u32],
     osp: &[u32],
+    survey: u32,
     plan: &[u32],
     state: &mut [u32],
     given: usize,
@@ -61,10 +65,10 @@ pub fn turn(
     output: &mut [u32],
 ) -> Turned
     ensures { λ r. ⌜ record { answer = r; state = now (state .exit); output = now (output .exit) }
-        ≡ turnOf (turnInput (now (rows .entry)) (now (pos .entry)) (now (osp .entry)) (now (plan .entry)) (now (state .entry)) given quantum
+        ≡ turnOf (turnInput (now (rows .entry)) (now (pos .entry)) (now (osp .entry)) survey (now (plan .entry)) (now (state .entry)) given quantum
         (now (threshold .entry)) (now (output .entry))) ⌝ }
     ensures number { λ r. ⌜ TurnAnswers
-        (turnInput (now (rows .entry)) (now (pos .entry)) (now (osp .entry)) (now (plan .entry)) (now (state .entry)) given quantum
+        (turnInput (now (rows .entry)) (now (pos .entry)) (now (osp .entry)) survey (now (plan .entry)) (now (state .entry)) given quantum
         (now (threshold .entry)) (now (output .entry))) r ⌝ }
 {
     let mut bound = [Term::UNBOUND; 16];
@@ -72,6 +76,7 @@ pub fn turn(
         rows,
         pos,
         osp,
+        survey,
         plan,
         state,
         given,
@@ -91,6 +96,7 @@ pub fn turn(
     }
     let from = loaded.from;
     finish(
+        survey,
         run(
             rows,
             pos,

@@ -1,5 +1,5 @@
 -- The tests of a turn as a number, in the groups in which they are made; and what a turn has that passes them all.
-use Prim.Native.Nat.{ℕ, _≤_}
+use Prim.Native.Nat.{ℕ, _≤_, _<_}
 use native.Mathlib.Omega.{arith}
 use mathlib.Core.Path.{_≡_, refl, sym, _∙_, ap}
 use mathlib.Core.Bool.{Bool, true, false, _&&_}
@@ -8,6 +8,7 @@ use mathlib.Core.List.{List, [], _∷_, _++_}
 use lib.Dec.{leb, ltb}
 use lib.ListN.{length}
 use borrow.Author.Tests.{ltb-true, leb-true}
+use Rattle.words.specs.Words.{lowNumbers}
 use Rattle.words.specs.Sequences.{all}
 use Rattle.words.specs.Tests.{Test, firstFailing, numberOf}
 use Rattle.words.proofs.Booleans.{and-left, and-right}
@@ -19,7 +20,7 @@ use Rattle.tables.proofs.RightTables.{right}
 use Rattle.plans.specs.Endings.{Ending}
 use Rattle.plans.specs.Plans.{readPlan, hasForm, variablesRight, planTests}
 use Rattle.plan_tests.proofs.Checked as checked
-use Rattle.steps.specs.Saved.{leastStateWords, shapeRight, placesRight}
+use Rattle.steps.specs.Saved.{leastStateWords, shapeRight, numberRight, surveyRight, placesRight}
 use Rattle.lists.specs.Gathering.{leastOutput, thresholdRight}
 use Rattle.turns.specs.Turns.{TurnInput, mostSteps, givenState, givenPlan, ownTests, turnTests}
 use Rattle.turn_tests.specs.Testing.{sizeNumber, lateNumber}
@@ -27,12 +28,13 @@ use Rattle.turn_tests.specs.Testing.{sizeNumber, lateNumber}
 -- ---- the tests of a turn
 -- what a turn has that passes all of its tests
 pub record AcceptedTurn (i : TurnInput) : Type 0 where
-  pub right : Right (i .tables)
+  pub right : Right (i .survey .tables)
   pub planned : hasForm (readPlan (i .plan)) ≡ true
   pub variables : variablesRight (givenPlan i) ≡ true
   pub state-room : leastStateWords ≤ length (i .state)
   pub room : leastOutput (givenPlan i .ending) ≤ length (i .output)
   pub few : i .quantum ≤ mostSteps
+  pub number : i .survey .number < lowNumbers
   pub sent : thresholdRight (givenPlan i .ending) (i .threshold) ≡ true
 
 module _ (i : TurnInput) where
@@ -45,17 +47,18 @@ module _ (i : TurnInput) where
 
   pub accepted : firstFailing (turnTests i) ≡ none → AcceptedTurn i
   accepted e =
-      let t = both-pass (tableTests (i .tables)) (planTests (i .plan) ++ ownTests i) e in
+      let t = both-pass (tableTests (i .survey .tables)) (planTests (i .plan) ++ ownTests i) e in
       let p = both-pass (planTests (i .plan)) (ownTests i) (t .1) in
       let q = checked.accepted (i .plan) (p .0) in
       let s : (n : ℕ) → testNumbered n (ownTests i) ≡ true = λ n. test-passed n (ownTests i) (passes-all (ownTests i) (p .1)) in
       record {
-        right = right (i .tables) (t .0);
+        right = right (i .survey .tables) (t .0);
         planned = q .0;
         variables = q .1;
         state-room = leb-true leastStateWords (length (i .state)) (and-left (leb leastStateWords (length (i .state))) _ (s 7));
         room = leb-true (leastOutput (givenPlan i .ending)) (length (i .output)) (and-right (leb leastStateWords (length (i .state))) _ (s 7));
         few = leb-true (i .quantum) mostSteps (and-right (leb 1 (i .quantum)) _ (s 8));
+        number = ltb-true (i .survey .number) lowNumbers (and-left (numberRight (i .survey .number)) _ (s 22));
         sent = s 11;
       }
 
@@ -90,13 +93,14 @@ size-number true true = refl
 size-number true false = refl
 size-number false quantum = refl
 
-late-number : (shape places threshold : Bool)
-    → lateNumber shape places threshold ≡ numberOf (firstFailing ((9, shape) ∷ (10, places) ∷ (11, threshold) ∷ []))
+late-number : (shape survey places threshold : Bool)
+    → lateNumber shape survey places threshold ≡ numberOf (firstFailing ((9, shape) ∷ (22, survey) ∷ (10, places) ∷ (11, threshold) ∷ []))
 unfolding firstFailing
-late-number true true true = refl
-late-number true true false = refl
-late-number true false threshold = refl
-late-number false places threshold = refl
+late-number true true true true = refl
+late-number true true true false = refl
+late-number true true false threshold = refl
+late-number true false places threshold = refl
+late-number false survey places threshold = refl
 
 module _ (i : TurnInput) where
   abbrev roomRight : Ending → Bool
@@ -114,19 +118,20 @@ module _ (i : TurnInput) where
   abbrev lateTests : List Test
   lateTests =
       (9, shapeGiven)
-      ∷ (10, placesRight (i .tables) (givenPlan i) (givenState i))
+      ∷ (22, surveyRight (i .survey .number) (givenState i))
+      ∷ (10, placesRight (i .survey .tables) (givenPlan i) (givenState i))
       ∷ (11, thresholdRight (givenPlan i .ending) (i .threshold))
       ∷ []
 
-  pub early-fails : (n : ℕ) → n ≡ numberOf (firstFailing (earlyTests (i .tables) (i .plan))) → (n ≡ 0 → ⊥)
+  pub early-fails : (n : ℕ) → n ≡ numberOf (firstFailing (earlyTests (i .survey .tables) (i .plan))) → (n ≡ 0 → ⊥)
       → n ≡ numberOf (firstFailing (turnTests i))
-  early-fails n e h = front-decides (earlyTests (i .tables) (i .plan)) (ownTests i) n e h
+  early-fails n e h = front-decides (earlyTests (i .survey .tables) (i .plan)) (ownTests i) n e h
 
   -- where those pass, by the ending as it was read
-  module _ (z : numberOf (firstFailing (earlyTests (i .tables) (i .plan))) ≡ 0) (e : Ending) (es : e ≡ givenPlan i .ending) (n : ℕ)
+  module _ (z : numberOf (firstFailing (earlyTests (i .survey .tables) (i .plan))) ≡ 0) (e : Ending) (es : e ≡ givenPlan i .ending) (n : ℕ)
       (en : n ≡ sizeNumber (roomRight e) quantumRight) where
     state-decides : firstFailing (turnTests i) ≡ firstFailing (ownTests i)
-    state-decides = rest-decides (earlyTests (i .tables) (i .plan)) (ownTests i) (early-pass (i .tables) (i .plan) z)
+    state-decides = rest-decides (earlyTests (i .survey .tables) (i .plan)) (ownTests i) (early-pass (i .survey .tables) (i .plan) z)
 
     size-is : n ≡ numberOf (firstFailing sizeTests)
     size-is = rw es at en ∙ size-number (roomRight (givenPlan i .ending)) quantumRight
@@ -135,10 +140,12 @@ module _ (i : TurnInput) where
     size-fails h = front-decides sizeTests lateTests n size-is h ∙ sym (ap numberOf state-decides)
 
     pub late-decides : n ≡ 0 → (r : ℕ)
-        → r ≡ lateNumber shapeGiven (placesRight (i .tables) (givenPlan i) (givenState i)) (thresholdRight (givenPlan i .ending) (i .threshold))
+        → r ≡ lateNumber shapeGiven (surveyRight (i .survey .number) (givenState i)) (placesRight (i .survey .tables) (givenPlan i) (givenState i))
+        (thresholdRight (givenPlan i .ending) (i .threshold))
         → r ≡ numberOf (firstFailing (turnTests i))
     unfolding all
     late-decides h r er =
         er
-        ∙ late-number shapeGiven (placesRight (i .tables) (givenPlan i) (givenState i)) (thresholdRight (givenPlan i .ending) (i .threshold))
+        ∙ late-number shapeGiven (surveyRight (i .survey .number) (givenState i)) (placesRight (i .survey .tables) (givenPlan i) (givenState i))
+        (thresholdRight (givenPlan i .ending) (i .threshold))
         ∙ sym (ap numberOf (state-decides ∙ rest-decides sizeTests lateTests (none-fails sizeTests refl (sym size-is ∙ h))))

@@ -2,6 +2,6 @@
 mod testing;
 
 pub use testing::ACCEPTED;
-pub use testing::ROOM;
 pub use testing::check;
 pub use testing::prepare;
+pub use testing::start;

@@ -1,6 +1,7 @@
 // The tests of opening and of a turn, in their order.
 use list_endings::least_output;
 use list_endings::threshold_right;
+use state_forms::number_right;
 use state_loading::Loaded;
 use state_loading::refused;
 use steps::STATE_WORDS;
@@ -14,16 +15,16 @@ ghost use Rattle.tables.specs.Tables.{tablesOf, tableTests};
 ghost use Rattle.tables.specs.Right.{Right};
 ghost use Rattle.plans.specs.Endings.{endingForm, endingAt};
 ghost use Rattle.plans.specs.Plans.{readPlan, hasForm, planOf, planTests};
-ghost use Rattle.steps.specs.Saved.{stateIn, leastStateWords, shapeRight, placesRight};
+ghost use Rattle.steps.specs.Saved.{stateIn, leastStateWords, shapeRight, numberRight, surveyRight, placesRight};
 ghost use Rattle.step_cursors.specs.Held.{stateOf, currentBranch, Held, EndsHeld};
 ghost use Rattle.lists.specs.Gathering.{leastOutput, thresholdRight};
 ghost use Rattle.turns.specs.Turns.{mostSteps, turnTests, turnInput};
-ghost use Rattle.turn_tests.specs.Testing.{sizeNumber, lateNumber};
+ghost use Rattle.turn_tests.specs.Testing.{sizeNumber, lateNumber, startNumber};
 
 // The most steps of a turn.
 pub const MOST_STEPS: u32 = 1000000;
 
-// The tests of room, quantum, state and threshold, by their numbers; and that all pass.
+// The tests of room, quantum, state, threshold and survey, by their numbers; and that all pass.
 pub const ROOM: u32 = 7;
 
 pub const QUANTUM: u32 = 8;
@@ -31,6 +32,8 @@ pub const QUANTUM: u32 = 8;
 pub const STATE: u32 = 9;
 
 pub const THRESHOLD: u32 = 11;
+
+pub const SURVEY: u32 = 22;
 
 pub const ACCEPTED: u32 = 0;
 
@@ -68,11 +71,25 @@ fn sizes(ending: &[u32], state: &[u32], quantum: u32, output: &[u32]) -> u32
     ACCEPTED
 }
 
-// Tests 9 to 11: the cursor of the state, or the number of the first test that fails.
+// Tests 7 and 22 of an opening: 0, or the number of the first that its buffer and its survey's number fail.
+pub fn start(survey: u32, state: &[u32]) -> u32
+    ensures { λ r. ⌜ r ≡ startNumber (leb leastStateWords (length (now (state .entry)))) (numberRight survey) ⌝ }
+{
+    if STATE_WORDS > state.len() {
+        return ROOM;
+    }
+    if !number_right(survey) {
+        return SURVEY;
+    }
+    ACCEPTED
+}
+
+// Tests 9, 22, 10 and 11: the cursor of the state, or the number of the first test that fails.
 fn load(
     rows: &[u32],
     pos: &[u32],
     osp: &[u32],
+    survey: u32,
     plan: &[u32],
     state: &[u32],
     given: usize,
@@ -83,6 +100,7 @@ fn load(
     requires { ⌜ hasForm (readPlan (now plan)) ≡ true ⌝ }
     ensures { λ r. ⌜ r .refused ≡ lateNumber
         (leb given (length (now (state .entry))) && shapeRight (planOf (now (plan .entry))) (take given (now (state .entry))))
+        (surveyRight survey (take given (now (state .entry))))
         (placesRight (tablesOf (now (rows .entry)) (now (pos .entry)) (now (osp .entry))) (planOf (now (plan .entry))) (take given (now (state .entry))))
         (thresholdRight (planOf (now (plan .entry)) .ending) (now (threshold .entry))) ⌝ }
     ensures { λ r. ⌜ (r .refused ≡ 0 → (stateOf (r .from) ≡ stateIn (take given (now (state .entry))))
@@ -93,7 +111,7 @@ fn load(
     if given > state.len() {
         return refused(STATE);
     }
-    let loaded = state_loading::load(rows, pos, osp, plan, &state[..given], bound);
+    let loaded = state_loading::load(rows, pos, osp, survey, plan, &state[..given], bound);
     if loaded.refused != ACCEPTED {
         return loaded;
     }
@@ -108,6 +126,7 @@ pub fn prepare(
     rows: &[u32],
     pos: &[u32],
     osp: &[u32],
+    survey: u32,
     plan: &[u32],
     state: &[u32],
     given: usize,
@@ -117,7 +136,7 @@ pub fn prepare(
     bound: &mut [u32; 16],
 ) -> Loaded
     ensures { λ r. ⌜ r .refused
-        ≡ numberOf (firstFailing (turnTests (turnInput (now (rows .entry)) (now (pos .entry)) (now (osp .entry)) (now (plan .entry))
+        ≡ numberOf (firstFailing (turnTests (turnInput (now (rows .entry)) (now (pos .entry)) (now (osp .entry)) survey (now (plan .entry))
         (now (state .entry)) given quantum (now (threshold .entry)) (now (output .entry))))) ⌝ }
     ensures { λ r. ⌜ (r .refused ≡ 0 → (stateOf (r .from) ≡ stateIn (take given (now (state .entry))))
         × Held (tablesOf (now (rows .entry)) (now (pos .entry)) (now (osp .entry))) (now (plan .entry)) (r .from) (now (bound .exit))) ⌝ }
@@ -132,5 +151,5 @@ pub fn prepare(
     if size != ACCEPTED {
         return refused(size);
     }
-    load(rows, pos, osp, plan, state, given, threshold, bound)
+    load(rows, pos, osp, survey, plan, state, given, threshold, bound)
 }

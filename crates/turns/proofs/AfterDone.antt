@@ -19,7 +19,6 @@ use Rattle.turns.proofs.Endings.{endings}
 
 -- no words have the shape of no state
 pub no-shape : (q : Plan) → shapeRight q [] ≡ false
-unfolding shapeRight
 no-shape q = refl
 
 fails-right : (a b : Bool) → b ≡ false → a && b ≡ false

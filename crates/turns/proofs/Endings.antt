@@ -56,7 +56,7 @@ module _ (i : TurnInput) (serve : Served i) where
   abbrev rowsList : List Bindings → List ℕ
   rowsList bs = gathered (givenPlan i .ending) (i .threshold) bs
 
-  ended-as : (p : Progress) → AfterAttempts (i .tables) (givenPlan i) (roomFor i) (stateIn (givenState i)) (i .quantum) p
+  ended-as : (p : Progress) → AfterAttempts (i .survey .tables) (givenPlan i) (roomFor i) (stateIn (givenState i)) (i .quantum) p
       → turnOf i .answer .steps ≡ stepsOf p → turnOf i .answer .ending ≡ endingOf p
       → turnRun i ≡ record { state = leftOf p; delivered = rowsOf p } → Ended i
   ended-as (going n u bs) h s e r =
@@ -67,7 +67,7 @@ module _ (i : TurnInput) (serve : Served i) where
       (record {
         over = z;
         within = omega (arith, h .how .1);
-        no-state = follows i serve .state .counted ∙ ap (λ o. length (savedWords o)) z;
+        no-state = follows i serve .state .counted ∙ ap (λ o. length (savedWords (i .survey .number) o)) z;
       })
   ended-as (stopped Full n o bs) h s e r =
       let b = h .how .1 in
@@ -94,11 +94,11 @@ module _ (i : TurnInput) (serve : Served i) where
   ended = ended-as (served i) (served-attempts i) (served-steps i serve) (served-ending i serve) (served-run i serve)
 
   -- where a step was taken the run went on, and what it delivered had space
-  went-on : (n : ℕ) → GoesOn (i .tables) (givenPlan i) (roomFor i) (givenRun i n) → (¬ (givenRun i n .state ≡ none)) × (¬ NoSpace i n)
+  went-on : (n : ℕ) → GoesOn (i .survey .tables) (givenPlan i) (roomFor i) (givenRun i n) → (¬ (givenRun i n .state ≡ none)) × (¬ NoSpace i n)
   went-on n g = (
     λ z. none-some (sym z ∙ g .here),
     λ s. let same : s .state ≡ g .state = some-injective (sym (s .here) ∙ g .here) in
-        let fits = g .fitting (s .row) (s .next) (ap (step (i .tables) (givenPlan i)) (sym same) ∙ s .would-deliver) in
+        let fits = g .fitting (s .row) (s .next) (ap (step (i .survey .tables) (givenPlan i)) (sym same) ∙ s .would-deliver) in
         let short = has-room i (givenRun i n .delivered ++ (s .row ∷ [])) .0 fits in
         let long = no-space-longer (givenPlan i .ending) (i .threshold) (length (i .output)) (givenRun i n .delivered) (s .row) (s .no-space) in
         omega arith,
@@ -109,15 +109,16 @@ module _ (i : TurnInput) (serve : Served i) where
 
   words-none : (turnOf i .answer .saved ≡ 0) ↔ (turnRun i .state ≡ none)
   unfolding positionWords
-  words-none = (λ z. go (turnRun i .state) refl z, λ e. counted ∙ ap (λ o. length (savedWords o)) e)
+  words-none = (λ z. go (turnRun i .state) refl z, λ e. counted ∙ ap (λ o. length (savedWords (i .survey .number) o)) e)
     where
-      counted : turnOf i .answer .saved ≡ length (savedWords (turnRun i .state))
+      counted : turnOf i .answer .saved ≡ length (savedWords (i .survey .number) (turnRun i .state))
       counted = follows i serve .state .counted
 
       go : (o : Option State) → turnRun i .state ≡ o → turnOf i .answer .saved ≡ 0 → turnRun i .state ≡ none
       go none e z = e
       go (some s) e z =
-          let c : turnOf i .answer .saved ≡ length (savedWords (some s)) = counted ∙ ap (λ o. length (savedWords o)) e in
+          let c : turnOf i .answer .saved ≡ length (savedWords (i .survey .number) (some s)) =
+          counted ∙ ap (λ o. length (savedWords (i .survey .number) o)) e in
           absurd (omega arith)
 
   pub endings : Endings i

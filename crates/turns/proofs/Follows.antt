@@ -9,15 +9,14 @@ use Rattle.words.specs.Answers.{wordsIn}
 use Rattle.words.specs.Sequences.{iterate}
 use Rattle.words.specs.Buffers.{Overwritten}
 use Rattle.words.proofs.Buffers.{overwritten}
-use Rattle.tables.specs.Tables.{Tables}
-use Rattle.plans.specs.Plans.{planOf}
-use Rattle.steps.specs.Steps.{Run, startOf, after}
-use Rattle.steps.specs.Saved.{positionWords, upperWords, leastStateWords, stateWords, savedWords}
+use Rattle.steps.specs.Steps.{Run, after}
+use Rattle.steps.specs.Saved.{positionWords, upperWords, leastStateWords, savedWords}
 use Rattle.lists.specs.Gathering.{gathered}
 use Rattle.lists.specs.Closing.{listAt}
 use Rattle.lists.proofs.OneRow.{gathered-nil}
 use Rattle.lists.proofs.Closing.{at-room}
-use Rattle.turns.specs.Opening.{Opened, openOf, Opens}
+use Rattle.turns.specs.Surveys.{Survey}
+use Rattle.turns.specs.Opening.{Opened, startWords, openOf, Opens}
 use Rattle.turns.specs.Turns.{Progress, going, stopped, endingOf, stepsOf, leftOf, rowsOf, TurnInput, TurnResult, resultOf, givenPlan}
 use Rattle.turns.specs.Turns.{isOver, turnList, finished, served, turnOf}
 use Rattle.turns.specs.Refusals.{Served}
@@ -28,14 +27,15 @@ use Rattle.turns.proofs.Limits.{turn-limits}
 
 -- the result of some progress, by its parts
 pub by-parts : (i : TurnInput) (p : Progress)
-    → finished i p ≡ resultOf i (endingOf p) (stepsOf p) (savedWords (leftOf p)) (turnList i (endingOf p) (rowsOf p))
+    → finished i p ≡ resultOf i (endingOf p) (stepsOf p) (savedWords (i .survey .number) (leftOf p)) (turnList i (endingOf p) (rowsOf p))
 by-parts i (going n s bs) = refl
 by-parts i (stopped e n s bs) = refl
 
 module _ (i : TurnInput) (serve : Served i) where
   -- the parts of a served turn's result
   pub served-parts : turnOf i
-      ≡ resultOf i (endingOf (served i)) (stepsOf (served i)) (savedWords (leftOf (served i))) (turnList i (endingOf (served i)) (rowsOf (served i)))
+      ≡ resultOf i (endingOf (served i)) (stepsOf (served i)) (savedWords (i .survey .number) (leftOf (served i)))
+      (turnList i (endingOf (served i)) (rowsOf (served i)))
   served-parts = turned-so i serve ∙ by-parts i (served i)
 
   pub served-steps : turnOf i .answer .steps ≡ stepsOf (served i)
@@ -50,12 +50,12 @@ module _ (i : TurnInput) (serve : Served i) where
 
   -- the result in terms of that run: its list is closed where the run is over
   served-result : turnOf i
-      ≡ resultOf i (endingOf (served i)) (stepsOf (served i)) (savedWords (turnRun i .state)) (listOf i (turnRun i))
+      ≡ resultOf i (endingOf (served i)) (stepsOf (served i)) (savedWords (i .survey .number) (turnRun i .state)) (listOf i (turnRun i))
   served-result =
       served-parts
-      ∙ ap (λ d. resultOf i (endingOf (served i)) (stepsOf (served i)) (savedWords (leftOf (served i)))
+      ∙ ap (λ d. resultOf i (endingOf (served i)) (stepsOf (served i)) (savedWords (i .survey .number) (leftOf (served i)))
       (listAt (givenPlan i .ending) (i .threshold) d (rowsOf (served i)))) (done-over i)
-      ∙ ap (λ (u : Run). resultOf i (endingOf (served i)) (stepsOf (served i)) (savedWords (u .state)) (listOf i u))
+      ∙ ap (λ (u : Run). resultOf i (endingOf (served i)) (stepsOf (served i)) (savedWords (i .survey .number) (u .state)) (listOf i u))
       (sym served-run)
 
   -- no rows have room, and so have the rows of each step that was taken
@@ -75,8 +75,8 @@ module _ (i : TurnInput) (serve : Served i) where
   pub follows : Follows i
   follows =
       record {
-        state = subst⁻¹ (λ (r : TurnResult). Overwritten (savedWords (turnRun i .state)) (i .state) (r .state) (r .answer .saved))
-            served-result (overwritten (savedWords (turnRun i .state)) (i .state));
+        state = subst⁻¹ (λ (r : TurnResult). Overwritten (savedWords (i .survey .number) (turnRun i .state)) (i .state) (r .state) (r .answer .saved))
+            served-result (overwritten (savedWords (i .survey .number) (turnRun i .state)) (i .state));
         output = subst⁻¹ (λ (r : TurnResult). Overwritten (listOf i (turnRun i)) (i .output) (r .output) (r .answer .listed))
             served-result (overwritten (listOf i (turnRun i)) (i .output));
         room = subst⁻¹ (λ (r : TurnResult). r .answer .listed ≤ length (i .output)) served-result list-fits;
@@ -84,15 +84,15 @@ module _ (i : TurnInput) (serve : Served i) where
 
 -- ---- opening
 -- test 7
-open-room : (t : Tables) (plan state : List ℕ) → Opens t plan state → leastStateWords ≤ length state
-open-room t plan state h = leb-true leastStateWords (length state) (open-passed t plan state 7 h)
+open-room : (v : Survey) (plan state : List ℕ) → Opens v plan state → leastStateWords ≤ length state
+open-room v plan state h = leb-true leastStateWords (length state) (open-passed v plan state 7 h)
 
-pub starts-run : (t : Tables) (plan state : List ℕ) → Opens t plan state → StartsRun t plan state
+pub starts-run : (v : Survey) (plan state : List ℕ) → Opens v plan state → StartsRun v plan state
 unfolding after iterate positionWords upperWords
-starts-run t plan state h =
+starts-run v plan state h =
     record {
-      buffer = subst⁻¹ (λ (r : Opened). Overwritten (stateWords (startOf t (planOf plan) 0)) state (r .state) (wordsIn (r .answer)))
-          (opened-so t plan state h) (overwritten (stateWords (startOf t (planOf plan) 0)) state);
-      room = subst⁻¹ (λ (r : Opened). wordsIn (r .answer) ≤ length state) (opened-so t plan state h)
-          (let l = open-room t plan state h in omega arith);
+      buffer = subst⁻¹ (λ (r : Opened). Overwritten (startWords v plan) state (r .state) (wordsIn (r .answer)))
+          (opened-so v plan state h) (overwritten (startWords v plan) state);
+      room = subst⁻¹ (λ (r : Opened). wordsIn (r .answer) ≤ length state) (opened-so v plan state h)
+          (let l = open-room v plan state h in omega arith);
     }

@@ -17,7 +17,7 @@ use Rattle.steps.specs.Saved.{leastStateWords, shapeRight, stateIn, stateWords,
 use Rattle.steps.proofs.Runs.{after-state, after-rows}
 use Rattle.steps.proofs.Right.{Right, accepted-right, RightOrDone, right-from}
 use Rattle.steps.proofs.Reached.{reached}
-use Rattle.steps.proofs.SavedWords.{shape-of}
+use Rattle.steps.proofs.SavedWords.{shape-of, words-under}
 use Rattle.steps.proofs.AcceptedStates.{words-most}
 use Rattle.turns.specs.Turns.{TurnInput, givenState, givenPlan, turnOf}
 use Rattle.turns.specs.Refusals.{Served}
@@ -38,35 +38,37 @@ module _ (i : TurnInput) (serve : Served i) where
       (turn-passed i 9 serve)
 
   -- tests 9 and 10
-  pub given-right : Right (i .tables) (givenPlan i) (stateIn (givenState i))
+  pub given-right : Right (i .survey .tables) (givenPlan i) (stateIn (givenState i))
   given-right =
       let x = shape-of (givenPlan i) (givenState i) shape in
-      accepted-right (i .tables) (givenPlan i) (stateIn (givenState i)) (x .branch) (x .level)
+      accepted-right (i .survey .tables) (givenPlan i) (stateIn (givenState i)) (x .branch) (x .level)
       (turn-passed i 10 serve)
 
   pub on-the-run : OnTheRun i
   on-the-run =
-      let m = reached (i .tables) (givenPlan i) (stateIn (givenState i)) given-right in
+      let m = reached (i .survey .tables) (givenPlan i) (stateIn (givenState i)) given-right in
       let n = turnOf i .answer .steps in
       record {
         before = m .0;
         given = m .1;
-        words = sym (shape-of (givenPlan i) (givenState i) shape .words);
-        state = after-state (i .tables) (givenPlan i) (m .0) n (stateIn (givenState i)) (m .1);
-        rows = after-rows (i .tables) (givenPlan i) (m .0) n (stateIn (givenState i)) (m .1);
+        words = sym (words-under (i .survey .number) (givenPlan i) (givenState i) shape (turn-passed i 22 serve));
+        state = after-state (i .survey .tables) (givenPlan i) (m .0) n (stateIn (givenState i)) (m .1);
+        rows = after-rows (i .survey .tables) (givenPlan i) (m .0) n (stateIn (givenState i)) (m .1);
       }
 
   -- a state of the run has at most the words that test 7 asks a buffer for
-  saved-most : (o : Option State) → RightOrDone (i .tables) (givenPlan i) o → length (savedWords o) ≤ leastStateWords
+  saved-most : (o : Option State) → RightOrDone (i .survey .tables) (givenPlan i) o → length (savedWords (i .survey .number) o) ≤ leastStateWords
   saved-most none r = omega arith
-  saved-most (some s) r = words-most (i .tables) (givenPlan i) given-form s r
+  saved-most (some s) r = words-most (i .survey .tables) (givenPlan i) given-form s r (i .survey .number)
 
   pub keeps-lengths : KeepsLengths i
   keeps-lengths =
       let f = follows i serve in
       let m = saved-most (turnRun i .state)
-      (right-from (i .tables) (givenPlan i) given-form (stateIn (givenState i)) (turnOf i .answer .steps) given-right) in
+      (right-from (i .survey .tables) (givenPlan i) given-form (stateIn (givenState i)) (turnOf i .answer .steps) given-right) in
       record {
-        state = ap length (f .state .whole) ∙ length-over (savedWords (turnRun i .state)) (i .state) (omega (arith, turn-limits i serve .state-room));
+        state =
+            ap length (f .state .whole)
+            ∙ length-over (savedWords (i .survey .number) (turnRun i .state)) (i .state) (omega (arith, turn-limits i serve .state-room));
         output = ap length (f .output .whole) ∙ length-over (listOf i (turnRun i)) (i .output) (omega (arith, f .room, f .output .counted));
       }

@@ -13,56 +13,54 @@ use Rattle.words.specs.Answers.{wordsIn}
 use Rattle.words.specs.Tests.{firstFailing, numberOf, AllPass, FirstFails}
 use Rattle.words.proofs.Testing.{fails-first, all-passes, testNumbered, test-passed}
 use Rattle.words.proofs.Refusing.{refused-by, served-when, answers-by}
-use Rattle.tables.specs.Tables.{Tables}
-use Rattle.plans.specs.Plans.{planOf}
-use Rattle.steps.specs.Steps.{startOf}
-use Rattle.steps.specs.Saved.{stateWords, savedWords}
+use Rattle.steps.specs.Saved.{savedWords}
 use Rattle.turns.specs.declared.Turned.{Turned}
 use Rattle.turns.specs.declared.TurnEnding.the-variants.{Done, Spent, Full, Refused}
-use Rattle.turns.specs.Opening.{Opened, openTests, openedWith, openedAs, openOf, Opens}
+use Rattle.turns.specs.Surveys.{Survey}
+use Rattle.turns.specs.Opening.{Opened, startWords, openTests, openedWith, openedAs, openOf, Opens}
 use Rattle.turns.specs.Turns.{Progress, going, stopped, refusalOf, valuesOf, TurnInput, TurnResult, resultOf, givenPlan, turnTests, finished, served}
 use Rattle.turns.specs.Turns.{turnedAs, turnOf}
 use Rattle.turns.specs.Refusals.{OpenAnswers, OpenRefusals, TurnAnswers, Served, TurnRefusals}
 use Rattle.turns.proofs.Stepping.{How, roomFor, served-attempts}
 
 -- ---- opening
-module _ (t : Tables) (plan state : List ℕ) where
-  not-opened : (x : ℕ) → FirstFails x (openTests t plan state)
-      → openOf t plan state ≡ record { answer = written.Refused x; state = state }
+module _ (v : Survey) (plan state : List ℕ) where
+  not-opened : (x : ℕ) → FirstFails x (openTests v plan state)
+      → openOf v plan state ≡ record { answer = written.Refused x; state = state }
   unfolding openOf
-  not-opened x h = ap (openedAs t plan state) (fails-first x (openTests t plan state) h)
+  not-opened x h = ap (openedAs v plan state) (fails-first x (openTests v plan state) h)
 
-  serves-open : (x : ℕ) → ¬ (openedAs t plan state none .answer ≡ written.Refused x)
+  serves-open : (x : ℕ) → ¬ (openedAs v plan state none .answer ≡ written.Refused x)
   serves-open x e = let z : _≡_ {A = ℕ} 0 1 = cc in omega arith
 
-  open-refused : (x : ℕ) → (openOf t plan state .answer ≡ written.Refused x) ↔ FirstFails x (openTests t plan state)
+  open-refused : (x : ℕ) → (openOf v plan state .answer ≡ written.Refused x) ↔ FirstFails x (openTests v plan state)
   unfolding openOf
   open-refused x =
-      refused-by written.Refused (λ o. openedAs t plan state o .answer) (λ x y e. cc) (λ x. refl) serves-open
-      (openTests t plan state) x
+      refused-by written.Refused (λ o. openedAs v plan state o .answer) (λ x y e. cc) (λ x. refl) serves-open
+      (openTests v plan state) x
 
-  open-serves : Opens t plan state ↔ AllPass (openTests t plan state)
+  open-serves : Opens v plan state ↔ AllPass (openTests v plan state)
   unfolding openOf
   open-serves =
-      served-when written.Refused (λ o. openedAs t plan state o .answer) (λ x y e. cc) (λ x. refl) serves-open
-      (openTests t plan state)
+      served-when written.Refused (λ o. openedAs v plan state o .answer) (λ x y e. cc) (λ x. refl) serves-open
+      (openTests v plan state)
 
   -- its number and its words
-  open-answers : OpenAnswers t plan state (openOf t plan state .answer)
+  open-answers : OpenAnswers v plan state (openOf v plan state .answer)
   unfolding openOf
   open-answers =
-      answers-by (openTests t plan state) (stateWords (startOf t (planOf plan) 0)) (λ o. openedAs t plan state o .answer) (λ x. refl) refl
+      answers-by (openTests v plan state) (startWords v plan) (λ o. openedAs v plan state o .answer) (λ x. refl) refl
 
   -- a test that a served opening passed, by its number
-  pub open-passed : (n : ℕ) → Opens t plan state → testNumbered n (openTests t plan state) ≡ true
-  open-passed n h = test-passed n (openTests t plan state) (open-serves .0 h)
+  pub open-passed : (n : ℕ) → Opens v plan state → testNumbered n (openTests v plan state) ≡ true
+  open-passed n h = test-passed n (openTests v plan state) (open-serves .0 h)
 
   -- an opening that is served writes the start state
-  pub opened-so : Opens t plan state → openOf t plan state ≡ openedWith (stateWords (startOf t (planOf plan) 0)) state
+  pub opened-so : Opens v plan state → openOf v plan state ≡ openedWith (startWords v plan) state
   unfolding openOf
-  opened-so h = ap (openedAs t plan state) (all-passes (openTests t plan state) (open-serves .0 h))
+  opened-so h = ap (openedAs v plan state) (all-passes (openTests v plan state) (open-serves .0 h))
 
-  pub open-refusals : OpenRefusals t plan state
+  pub open-refusals : OpenRefusals v plan state
   open-refusals =
       record {
         order = refl;
@@ -76,7 +74,7 @@ module _ (t : Tables) (plan state : List ℕ) where
 -- ---- a turn
 module _ (i : TurnInput) where
   -- the steps of a turn never end in a refusal
-  never-refused : (p : Progress) → How (i .tables) (givenPlan i) (roomFor i) (i .quantum) p → (x : ℕ)
+  never-refused : (p : Progress) → How (i .survey .tables) (givenPlan i) (roomFor i) (i .quantum) p → (x : ℕ)
       → ¬ (finished i p .answer .ending ≡ Refused x)
   never-refused (going n s bs) h x e = let z : _≡_ {A = ℕ} 0 1 = cc in omega arith
   never-refused (stopped Done n s bs) h x e = let z : _≡_ {A = ℕ} 0 1 = cc in omega arith
@@ -103,10 +101,10 @@ module _ (i : TurnInput) where
   abbrev AsEnded : Turned → Type 0
   AsEnded a = valuesOf a ≡ record { steps = a .steps; saved = a .saved; listed = a .listed }
 
-  steps-answer : (p : Progress) → How (i .tables) (givenPlan i) (roomFor i) (i .quantum) p
+  steps-answer : (p : Progress) → How (i .survey .tables) (givenPlan i) (roomFor i) (i .quantum) p
       → (refusalOf (finished i p .answer .ending) ≡ 0) × AsEnded (finished i p .answer)
   steps-answer (going n s bs) h = (refl, refl)
-  steps-answer (stopped Done n s bs) h = (refl, let e = ap (λ o. length (savedWords o)) (h .0) in rw e)
+  steps-answer (stopped Done n s bs) h = (refl, let e = ap (λ o. length (savedWords (i .survey .number) o)) (h .0) in rw e)
   steps-answer (stopped Full n s bs) h = (refl, refl)
   steps-answer (stopped Spent n s bs) h = absurd h
   steps-answer (stopped (Refused y) n s bs) h = absurd h

@@ -17,7 +17,7 @@ pub record NoSpace (i : TurnInput) (n : ℕ) : Type 0 where
   pub row : Bindings
   pub next : State
   pub here : givenRun i n .state ≡ some state
-  pub would-deliver : step (i .tables) (givenPlan i) state ≡ delivers row next
+  pub would-deliver : step (i .survey .tables) (givenPlan i) state ≡ delivers row next
   pub no-space : NoSpaceFor (givenPlan i .ending) (length (i .output)) (givenRun i n .delivered) row
 
 -- done, after at most the quantum, with no state words

@@ -5,17 +5,17 @@ use mathlib.Core.List.{List}
 use lib.ListN.{length}
 use Rattle.words.specs.Answers.{wordsIn}
 use Rattle.words.specs.Buffers.{Overwritten}
-use Rattle.tables.specs.Tables.{Tables}
 use Rattle.plans.specs.Plans.{planOf}
 use Rattle.steps.specs.Steps.{Run, runFrom, after}
 use Rattle.steps.specs.Saved.{savedWords, stateIn}
 use Rattle.lists.specs.Closing.{listAt}
+use Rattle.turns.specs.Surveys.{Survey}
 use Rattle.turns.specs.Opening.{openOf}
 use Rattle.turns.specs.Turns.{TurnInput, givenState, givenPlan, isOver, turnOf}
 
 -- the run from the state that a turn was given
 abbrev pub givenRun : TurnInput → ℕ → Run
-givenRun i n = runFrom (i .tables) (givenPlan i) (stateIn (givenState i)) n
+givenRun i n = runFrom (i .survey .tables) (givenPlan i) (stateIn (givenState i)) n
 
 -- that run after the steps that the turn answers
 abbrev pub turnRun : TurnInput → Run
@@ -27,7 +27,7 @@ listOf i r = listAt (givenPlan i .ending) (i .threshold) (isOver (r .state)) (r 
 
 pub record Follows (i : TurnInput) : Type 0 where
   -- the state buffer: the words of the state that many steps on, none at the run's end, over what it held
-  pub state : Overwritten (savedWords (turnRun i .state)) (i .state) (turnOf i .state) (turnOf i .answer .saved)
+  pub state : Overwritten (savedWords (i .survey .number) (turnRun i .state)) (i .state) (turnOf i .state) (turnOf i .answer .saved)
   -- the output: the list of the rows of those steps, closed at the run's end, over what it held
   pub output : Overwritten (listOf i (turnRun i)) (i .output) (turnOf i .output) (turnOf i .answer .listed)
   -- which has room for it
@@ -35,7 +35,7 @@ pub record Follows (i : TurnInput) : Type 0 where
 
 -- ---- opening
 -- the words that a served opening writes: the uncut run's state after no step
-pub record StartsRun (t : Tables) (plan state : List ℕ) : Type 0 where
-  pub buffer : Overwritten (savedWords (after t (planOf plan) 0 .state)) state
-      (openOf t plan state .state) (wordsIn (openOf t plan state .answer))
-  pub room : wordsIn (openOf t plan state .answer) ≤ length state
+pub record StartsRun (v : Survey) (plan state : List ℕ) : Type 0 where
+  pub buffer : Overwritten (savedWords (v .number) (after (v .tables) (planOf plan) 0 .state)) state
+      (openOf v plan state .state) (wordsIn (openOf v plan state .answer))
+  pub room : wordsIn (openOf v plan state .answer) ≤ length state

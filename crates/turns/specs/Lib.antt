@@ -1,4 +1,5 @@
 pub mod Bounded
+pub mod Surveys
 pub mod Opening
 pub mod Turns
 pub mod Refusals

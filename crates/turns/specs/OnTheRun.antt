@@ -17,13 +17,13 @@ pub record Progresses (i : TurnInput) : Type 0 where
 pub record OnTheRun (i : TurnInput) : Type 0 where
   -- the steps of the uncut run before the turn
   pub before : ℕ
-  -- it was given the words of the run's state there
-  pub given : after (i .tables) (givenPlan i) before .state ≡ some (stateIn (givenState i))
-  pub words : givenState i ≡ stateWords (stateIn (givenState i))
+  -- it was given the words of the run's state there, under its survey's number
+  pub given : after (i .survey .tables) (givenPlan i) before .state ≡ some (stateIn (givenState i))
+  pub words : givenState i ≡ stateWords (i .survey .number) (stateIn (givenState i))
   -- and leaves the run's state after its own steps, and the rows delivered by then
-  pub state : after (i .tables) (givenPlan i) (before + turnOf i .answer .steps) .state ≡ turnRun i .state
-  pub rows : after (i .tables) (givenPlan i) (before + turnOf i .answer .steps) .delivered
-      ≡ after (i .tables) (givenPlan i) before .delivered ++ turnRun i .delivered
+  pub state : after (i .survey .tables) (givenPlan i) (before + turnOf i .answer .steps) .state ≡ turnRun i .state
+  pub rows : after (i .survey .tables) (givenPlan i) (before + turnOf i .answer .steps) .delivered
+      ≡ after (i .survey .tables) (givenPlan i) before .delivered ++ turnRun i .delivered
 
 pub record KeepsLengths (i : TurnInput) : Type 0 where
   pub state : length (turnOf i .state) ≡ length (i .state)

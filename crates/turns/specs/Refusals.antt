@@ -8,36 +8,33 @@ use Rattle.words.specs.declared.Written.{Written}
 use Rattle.words.specs.declared.Written.the-variants as written
 use Rattle.words.specs.Answers.{wordsIn, AnswersBy}
 use Rattle.words.specs.Tests.{Test, firstFailing, numberOf, AllPass, FirstFails}
-use Rattle.tables.specs.Tables.{Tables}
-use Rattle.plans.specs.Plans.{planOf}
-use Rattle.steps.specs.Steps.{startOf}
-use Rattle.steps.specs.Saved.{stateWords}
 use Rattle.turns.specs.declared.Turned.{Turned}
 use Rattle.turns.specs.declared.TurnEnding.the-variants.{Refused}
-use Rattle.turns.specs.Opening.{openTests, openOf, Opens}
+use Rattle.turns.specs.Surveys.{Survey}
+use Rattle.turns.specs.Opening.{openTests, startWords, openOf, Opens}
 use Rattle.turns.specs.Turns.{refusalOf, valuesOf, TurnInput, turnTests, turnOf}
 
 -- ---- opening
 -- the answer of an opening by the rules' number and words (docs/RULES.md, 10)
-abbrev pub OpenAnswers : Tables → List ℕ → List ℕ → Written → Type 0
-OpenAnswers t plan state w = AnswersBy (openTests t plan state) (stateWords (startOf t (planOf plan) 0)) w
+abbrev pub OpenAnswers : Survey → List ℕ → List ℕ → Written → Type 0
+OpenAnswers v plan state w = AnswersBy (openTests v plan state) (startWords v plan) w
 
 -- a refused opening leaves the state buffer as it was, and has written no words
-pub record NotOpened (t : Tables) (plan state : List ℕ) : Type 0 where
-  pub buffer : openOf t plan state .state ≡ state
-  pub words : wordsIn (openOf t plan state .answer) ≡ 0
+pub record NotOpened (v : Survey) (plan state : List ℕ) : Type 0 where
+  pub buffer : openOf v plan state .state ≡ state
+  pub words : wordsIn (openOf v plan state .answer) ≡ 0
 
-pub record OpenRefusals (t : Tables) (plan state : List ℕ) : Type 0 where
+pub record OpenRefusals (v : Survey) (plan state : List ℕ) : Type 0 where
   -- the table's numbers, in the table's order
-  pub order : map (λ (x : Test). x .0) (openTests t plan state) ≡ 1 ∷ 2 ∷ 3 ∷ 4 ∷ 5 ∷ 6 ∷ 7 ∷ []
+  pub order : map (λ (x : Test). x .0) (openTests v plan state) ≡ 1 ∷ 2 ∷ 3 ∷ 4 ∷ 5 ∷ 6 ∷ 7 ∷ 22 ∷ []
   -- its answer has the number of the first test that fails, 0 where all pass, and the words of the start state where all pass
-  pub number : OpenAnswers t plan state (openOf t plan state .answer)
+  pub number : OpenAnswers v plan state (openOf v plan state .answer)
   -- it is refused with x exactly where x is the number of the first test that fails
-  pub refused : (x : ℕ) → (openOf t plan state .answer ≡ written.Refused x) ↔ FirstFails x (openTests t plan state)
+  pub refused : (x : ℕ) → (openOf v plan state .answer ≡ written.Refused x) ↔ FirstFails x (openTests v plan state)
   -- a refusal changes no buffer
-  pub unchanged : (x : ℕ) → openOf t plan state .answer ≡ written.Refused x → NotOpened t plan state
+  pub unchanged : (x : ℕ) → openOf v plan state .answer ≡ written.Refused x → NotOpened v plan state
   -- it is served, answering no such number, exactly where every test passes
-  pub serves : Opens t plan state ↔ AllPass (openTests t plan state)
+  pub serves : Opens v plan state ↔ AllPass (openTests v plan state)
 
 -- ---- a turn
 -- the answer of a turn by the rules' number and values
@@ -61,7 +58,7 @@ Served i = (x : ℕ) → ¬ (turnOf i .answer .ending ≡ Refused x)
 
 pub record TurnRefusals (i : TurnInput) : Type 0 where
   -- the table's numbers, in the table's order
-  pub order : map (λ (x : Test). x .0) (turnTests i) ≡ 1 ∷ 2 ∷ 3 ∷ 4 ∷ 5 ∷ 6 ∷ 7 ∷ 8 ∷ 9 ∷ 10 ∷ 11 ∷ []
+  pub order : map (λ (x : Test). x .0) (turnTests i) ≡ 1 ∷ 2 ∷ 3 ∷ 4 ∷ 5 ∷ 6 ∷ 7 ∷ 8 ∷ 9 ∷ 22 ∷ 10 ∷ 11 ∷ []
   -- its answer has the number of the first test that fails, 0 where all pass, and the values that its ending has
   pub number : TurnAnswers i (turnOf i .answer)
   -- it is refused with x exactly where x is the number of the first test that fails

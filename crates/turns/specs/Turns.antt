@@ -8,16 +8,17 @@ use lib.Dec.{leb}
 use Rattle.words.specs.Bindings.{Bindings}
 use Rattle.words.specs.Sequences.{over}
 use Rattle.words.specs.Tests.{Test, firstFailing}
-use Rattle.tables.specs.Tables.{Tables, tablesOf, tableTests}
+use Rattle.tables.specs.Tables.{Tables, tableTests}
 use Rattle.plans.specs.Endings.{Ending}
 use Rattle.plans.specs.Plans.{Plan, planOf, planTests}
 use Rattle.steps.specs.Steps.{State, step}
-use Rattle.steps.specs.Saved.{stateIn, savedWords, leastStateWords, shapeRight, placesRight}
+use Rattle.steps.specs.Saved.{stateIn, savedWords, leastStateWords, shapeRight, surveyRight, placesRight}
 use Rattle.lists.specs.Gathering.{gathered, leastOutput, thresholdRight}
 use Rattle.lists.specs.Closing.{listAt}
 use Rattle.turns.specs.declared.TurnEnding.{TurnEnding}
 use Rattle.turns.specs.declared.TurnEnding.the-variants.{Done, Spent, Full, Refused}
 use Rattle.turns.specs.declared.Turned.{Turned}
+use Rattle.turns.specs.Surveys.{Survey, surveyOf}
 use Rattle.turns.specs.Bounded as bounded
 pub use Rattle.turns.specs.Bounded.{going, stopped, endingOf, stepsOf, leftOf, rowsOf, isDone, isOver, tried}
 
@@ -60,7 +61,7 @@ fitsIn e threshold room bs = leb (length (gathered e threshold bs)) room
 
 -- ---- the tests of a turn
 pub record TurnInput : Type 0 where
-  pub tables : Tables
+  pub survey : Survey
   pub plan : List ℕ
   pub state : List ℕ
   pub given : ℕ
@@ -68,11 +69,11 @@ pub record TurnInput : Type 0 where
   pub threshold : List ℕ
   pub output : List ℕ
 
--- what a call lends: the tables as row words and two lists, and the rest as it is
-abbrev pub turnInput : List ℕ → List ℕ → List ℕ → List ℕ → List ℕ → ℕ → ℕ → List ℕ → List ℕ → TurnInput
-turnInput rows pos osp plan state given quantum threshold output =
+-- what a call lends: the tables as row words and two lists, the survey's number, and the rest as it is
+abbrev pub turnInput : List ℕ → List ℕ → List ℕ → ℕ → List ℕ → List ℕ → ℕ → ℕ → List ℕ → List ℕ → TurnInput
+turnInput rows pos osp survey plan state given quantum threshold output =
     record {
-      tables = tablesOf rows pos osp;
+      survey = surveyOf rows pos osp survey;
       plan = plan;
       state = state;
       given = given;
@@ -91,18 +92,19 @@ givenState i = take (i .given) (i .state)
 abbrev pub givenPlan : TurnInput → Plan
 givenPlan i = planOf (i .plan)
 
--- 7: room for the state and the output; 8: the quantum; 9 and 10: the state; 11: the threshold
+-- 7: room for the state and the output; 8: the quantum; 9, 22 and 10: the state, its survey between; 11: the threshold
 abbrev pub ownTests : TurnInput → List Test
 ownTests i =
     (7, leb leastStateWords (length (i .state)) && leb (leastOutput (givenPlan i .ending)) (length (i .output)))
     ∷ (8, leb 1 (i .quantum) && leb (i .quantum) mostSteps)
     ∷ (9, leb (i .given) (length (i .state)) && shapeRight (givenPlan i) (givenState i))
-    ∷ (10, placesRight (i .tables) (givenPlan i) (givenState i))
+    ∷ (22, surveyRight (i .survey .number) (givenState i))
+    ∷ (10, placesRight (i .survey .tables) (givenPlan i) (givenState i))
     ∷ (11, thresholdRight (givenPlan i .ending) (i .threshold))
     ∷ []
 
 abbrev pub turnTests : TurnInput → List Test
-turnTests i = tableTests (i .tables) ++ (planTests (i .plan) ++ ownTests i)
+turnTests i = tableTests (i .survey .tables) ++ (planTests (i .plan) ++ ownTests i)
 
 -- ---- what a turn answers, and what it leaves
 pub record TurnResult : Type 0 where
@@ -125,13 +127,13 @@ turnList i e bs = listAt (givenPlan i .ending) (i .threshold) (isDone e) bs
 
 -- a turn still under way after its quantum is spent
 abbrev pub finished : TurnInput → Progress → TurnResult
-finished i (going n s bs) = resultOf i Spent n (savedWords (some s)) (turnList i Spent bs)
-finished i (stopped e n s bs) = resultOf i e n (savedWords s) (turnList i e bs)
+finished i (going n s bs) = resultOf i Spent n (savedWords (i .survey .number) (some s)) (turnList i Spent bs)
+finished i (stopped e n s bs) = resultOf i e n (savedWords (i .survey .number) s) (turnList i e bs)
 
 -- the steps of a turn that is not refused
 abbrev pub served : TurnInput → Progress
 served i =
-    progress (i .tables) (givenPlan i) (fitsIn (givenPlan i .ending) (i .threshold) (length (i .output))) (i .quantum)
+    progress (i .survey .tables) (givenPlan i) (fitsIn (givenPlan i .ending) (i .threshold) (length (i .output))) (i .quantum)
     (stateIn (givenState i))
 
 -- a refusal answers its number alone, and changes nothing

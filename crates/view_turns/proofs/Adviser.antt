@@ -1,11 +1,12 @@
 -- Non-interference, whole: accepted tables that differ only in rows that are hidden where they stand are the same to an adviser, for every
--- plan, state, quantum, threshold and buffer.
+-- plan, state, quantum, threshold and buffer, under one survey's number.
 use Prim.Native.Nat.{ℕ}
 use mathlib.Core.Path.{_≡_, ap}
 use mathlib.Core.Option.{none}
 use mathlib.Core.List.{List}
 use Rattle.words.specs.Tests.{firstFailing}
 use Rattle.tables.specs.Tables.{Tables, tableTests}
+use Rattle.turns.specs.Surveys.{underNumber}
 use Rattle.turns.specs.Opening.{openOf}
 use Rattle.turns.specs.Turns.{turnOf}
 use Rattle.views.specs.Viewing.{ViewBuffers}
@@ -17,8 +18,8 @@ use Rattle.view_turns.specs.Adviser.{turnOver, SameQueries, SameToAdvise
 same-queries : (v w : Tables) → v ≡ w → SameQueries v w
 same-queries v w e =
     record {
-      opens = λ plan state. ap (λ t. openOf t plan state) e;
-      turns = λ plan state given quantum threshold output. ap (λ t. turnOf (turnOver plan state given quantum threshold output t)) e;
+      opens = λ number plan state. ap (λ t. openOf (underNumber number t) plan state) e;
+      turns = λ number plan state given quantum threshold output. ap (λ t. turnOf (turnOver number plan state given quantum threshold output t)) e;
     }
 
 pub same-to-adviser : (grant : List ℕ) (membership : ℕ) (b : ViewBuffers) (t u : Tables) → firstFailing (tableTests t) ≡ none

@@ -123,6 +123,9 @@ fallingKind = 11
 abbrev pub groupKind : ℕ
 groupKind = 12
 
+abbrev pub surveyKind : ℕ
+surveyKind = 13
+
 abbrev pub positionKind : ℕ
 positionKind = 14
 
@@ -148,7 +151,10 @@ greaterThan = 4
 abbrev pub atLeast : ℕ
 atLeast = 5
 
--- ---- a state's first word: branch × 16 + depth
+-- ---- a state's words: the survey's number; branch × 16 + depth; a place
+abbrev pub surveyWord : ℕ → ℕ
+surveyWord survey = word surveyKind survey
+
 abbrev pub depths : ℕ
 depths = 16
 

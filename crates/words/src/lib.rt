@@ -6,7 +6,7 @@ ghost use lib.Seq.{paste};
 ghost use Rattle.words.specs.Bindings.{valueOf};
 ghost use Rattle.words.specs.Words.{termValues, termKind, termValue, name, number, text, variable, unbound, isVariable, isNumber, isValue};
 ghost use Rattle.words.specs.Words.{keyRank, lastRank, lowNumbers, kind, low, word, headKind, branchKind, trueKind, andKind, orKind, notKind};
-ghost use Rattle.words.specs.Words.{comparisonKind, rowsKind, topKind, risingKind, fallingKind, groupKind, depths, positionWord, placeWord};
+ghost use Rattle.words.specs.Words.{comparisonKind, rowsKind, topKind, risingKind, fallingKind, groupKind, depths, surveyWord, positionWord, placeWord};
 ghost use Rattle.words.specs.Words.{branchOf, depthOf};
 
 // A term: two bits of kind and a value of 30.
@@ -242,12 +242,21 @@ impl PlanWord {
 }
 
 impl StateWord {
+    pub const SURVEY: u32 = 13;
+
     pub const POSITION: u32 = 14;
 
     pub const PLACE: u32 = 15;
 
     // The depths that a position has room for.
     pub const DEPTHS: u32 = 16;
+
+    // The number of a survey.
+    pub fn survey(number: u32) -> Self
+        ensures { λ r. ⌜ r .0 ≡ surveyWord (number % lowNumbers) ⌝ }
+    {
+        StateWord(StateWord::SURVEY * NUMBERS + number % NUMBERS)
+    }
 
     // Branch (from 0) and depth.
     pub fn position(branch: u32, depth: u32) -> Self
@@ -269,7 +278,7 @@ impl StateWord {
         self.0 / NUMBERS
     }
 
-    // The place of a place word.
+    // The number of a survey's word, the place of a place word.
     pub fn number(self) -> u32
         ensures { λ r. ⌜ r ≡ low (self .0) ⌝ }
     {

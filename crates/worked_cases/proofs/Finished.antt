@@ -5,6 +5,7 @@ use Rattle.cuts.specs.Computing as cuts
 use Rattle.cuts.specs.Histories.{fresh}
 use Rattle.lists.specs.Thresholds.{absent, row}
 use Rattle.cuts.specs.Premises.{Premises}
+use Rattle.worked_cases.specs.Calls.{surveyed}
 use Rattle.worked_cases.specs.Wood.{wood, planTop}
 use Rattle.worked_cases.specs.FinishedCut.{openedTop, events, finishedCut, expected}
 use Rattle.worked_cases.proofs.Holds.{computing}
@@ -14,7 +15,7 @@ unfolding computing cuts.computing
 finishes = refl
 
 -- the threshold is the last row of the list of the first turn, which is full with one row
-pub premises-met : Premises wood planTop (fresh openedTop) events
+pub premises-met : Premises (surveyed wood) planTop (fresh openedTop) events
 unfolding computing cuts.computing
 premises-met = (
   λ e. absent,

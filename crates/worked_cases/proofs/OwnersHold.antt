@@ -2,13 +2,14 @@
 use mathlib.Core.Path.{_≡_, refl}
 use Rattle.queues.specs.Calls.{afterCalls, deeds}
 use Rattle.worked_cases.specs.Wood.{wood}
+use Rattle.worked_cases.specs.Calls.{surveyed}
 use Rattle.worked_cases.specs.Owners.{noOne, elevenCalls, elevenDeeds, leftOver}
 use Rattle.worked_cases.proofs.Holds.{computing}
 
-pub deeds-are : deeds wood noOne elevenCalls ≡ elevenDeeds
+pub deeds-are : deeds (surveyed wood) noOne elevenCalls ≡ elevenDeeds
 unfolding computing
 deeds-are = refl
 
-pub left-over : afterCalls wood noOne elevenCalls ≡ leftOver
+pub left-over : afterCalls (surveyed wood) noOne elevenCalls ≡ leftOver
 unfolding computing
 left-over = refl

@@ -11,6 +11,7 @@ use Rattle.tables.specs.Tables.{Tables, mostRows, columnCount, lengthsRight}
 use Rattle.turns.specs.Opening.{openOf}
 use Rattle.uploads.specs.declared.Made.the-variants as made
 use Rattle.uploads.specs.Making.{MadeBuffers, uploadRight, MakeInput, makeOf}
+use Rattle.worked_cases.specs.Calls.{surveyed}
 use Rattle.worked_cases.specs.Sizes.{zeroRows, RowLimit, UploadLimit}
 
 -- test 1 of three lengths
@@ -22,7 +23,7 @@ unfolding lengthsRight
 lengths n = simp (length-replicate)
 
 -- a table whose lengths are wrong is refused by 1
-by-one : (t : Tables) (plan state : List ℕ) → lengthsRight t ≡ false → openOf t plan state ≡ record { answer = Refused 1; state = state }
+by-one : (t : Tables) (plan state : List ℕ) → lengthsRight t ≡ false → openOf (surveyed t) plan state ≡ record { answer = Refused 1; state = state }
 unfolding openOf firstFailing
 by-one t plan state e = rw (e) refl
 

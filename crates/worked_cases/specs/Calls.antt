@@ -12,6 +12,7 @@ use Rattle.plans.specs.Plans.{planOf}
 use Rattle.steps.specs.Steps.{State, after}
 use Rattle.turns.specs.declared.TurnEnding.{TurnEnding}
 use Rattle.turns.specs.declared.TurnEnding.the-variants as ending
+use Rattle.turns.specs.Surveys.{Survey, underNumber}
 use Rattle.turns.specs.Opening.{Opened, openOf}
 use Rattle.turns.specs.Turns.{TurnInput, TurnResult, turnTests, turnOf, resultOf}
 use Rattle.merges.specs.Merging.{MergeInput, MergeResult, mergeOf}
@@ -23,7 +24,7 @@ use Rattle.views.specs.Viewing.{ViewInput, ViewResult, viewCallOf}
 
 -- the five calls; the uncut run after n steps, with its list; and the tests of a turn alone, for a turn too long to compute
 pub data Call : Type 0 where
-  opening : Tables → List ℕ → List ℕ → Call
+  opening : Survey → List ℕ → List ℕ → Call
   turning : TurnInput → Call
   merging : MergeInput → Call
   making : MakeInput → Call
@@ -42,7 +43,7 @@ pub data Result : Type 0 where
   tested : Option ℕ → Result
 
 abbrev pub resultFor : Call → Result
-resultFor (opening t plan state) = opened (openOf t plan state)
+resultFor (opening v plan state) = opened (openOf v plan state)
 resultFor (turning i) = turned (turnOf i)
 resultFor (merging i) = merged (mergeOf i)
 resultFor (making i) = made (makeOf i)
@@ -60,18 +61,21 @@ pub data Hold : List Case → Type 0 where
   all : Hold []
   _&_ : {c : Case} {cs : List Case} → resultFor (c .0) ≡ c .1 → Hold cs → Hold (c ∷ cs)
 
--- ---- short forms. Buffers hold other words before the call: 7 in a state, 9 in an output, 4 in a kept list
+-- ---- short forms. Tables stand under number 7. Buffers hold other words before the call: 7 in a state, 9 in an output, 4 in a kept list
+abbrev pub surveyed : Tables → Survey
+surveyed t = underNumber 7 t
+
 abbrev pub stateBuffer : List ℕ → List ℕ
-stateBuffer ws = over ws (replicate 9 7)
+stateBuffer ws = over ws (replicate 10 7)
 
 abbrev pub keptBuffer : ℕ → List ℕ → List ℕ
 keptBuffer room ws = over ws (replicate room 4)
 
 -- a turn from a state, with a quantum, a threshold and an output of so many words
-abbrev pub turnCall : Tables → List ℕ → List ℕ → ℕ → List ℕ → ℕ → TurnInput
-turnCall t plan state quantum threshold room =
+abbrev pub turnUnder : Survey → List ℕ → List ℕ → ℕ → List ℕ → ℕ → TurnInput
+turnUnder v plan state quantum threshold room =
     record {
-      tables = t;
+      survey = v;
       plan = plan;
       state = stateBuffer state;
       given = length state;
@@ -79,6 +83,9 @@ turnCall t plan state quantum threshold room =
       threshold = threshold;
       output = replicate room 9;
     }
+
+abbrev pub turnCall : Tables → List ℕ → List ℕ → ℕ → List ℕ → ℕ → TurnInput
+turnCall t plan state quantum threshold room = turnUnder (surveyed t) plan state quantum threshold room
 
 abbrev pub mergeCall : List ℕ → List ℕ → ℕ → List ℕ → MergeInput
 mergeCall plan kept room list = record { plan = plan; kept = keptBuffer room kept; given = length kept; list = list }
@@ -89,7 +96,7 @@ turnCase i e steps saved list = (turning i, turned (resultOf i e steps saved lis
 
 -- the cases of refused calls
 abbrev pub notOpened : Tables → List ℕ → List ℕ → ℕ → Case
-notOpened t plan state x = (opening t plan state, opened (record { answer = Refused x; state = state }))
+notOpened t plan state x = (opening (surveyed t) plan state, opened (record { answer = Refused x; state = state }))
 
 abbrev pub notTurned : TurnInput → ℕ → Case
 notTurned i x = turnCase i (ending.Refused x) 0 [] []

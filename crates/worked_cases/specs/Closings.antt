@@ -10,7 +10,7 @@ use Rattle.tables.specs.Tables.{Tables}
 use Rattle.turns.specs.declared.TurnEnding.the-variants.{Done, Spent}
 use Rattle.turns.specs.Opening.{openOf}
 use Rattle.cuts.specs.Histories.{Event, turns, merges, Phone, fresh, history}
-use Rattle.worked_cases.specs.Calls.{merging, merged, running, ran, Case, turnCall, turnCase, mergeCall, keptBuffer}
+use Rattle.worked_cases.specs.Calls.{merging, merged, running, ran, Case, surveyed, turnCall, turnCase, mergeCall, keptBuffer}
 use Rattle.worked_cases.specs.Literals.{stems, atPlace, opensTo, wholeFrom}
 use Rattle.worked_cases.specs.Faults.{nothing}
 
@@ -87,7 +87,8 @@ cutAtNine =
     ∷ []
 
 abbrev pub playedBy : List ℕ → Phone
-playedBy condition = history stems (stemsWith condition oneGroup) (fresh (openOf stems (stemsWith condition oneGroup) (replicate 9 7))) cutAtNine
+playedBy condition =
+    history (surveyed stems) (stemsWith condition oneGroup) (fresh (openOf (surveyed stems) (stemsWith condition oneGroup) (replicate 10 7))) cutAtNine
 
 -- done: two served turns of 9 steps and 1, their lists taken
 abbrev pub doneWith : List ℕ → List ℕ → Phone

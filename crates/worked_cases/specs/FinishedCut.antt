@@ -5,10 +5,11 @@ use lib.ListN.{replicate}
 use Rattle.turns.specs.declared.TurnEnding.the-variants.{Done, Spent}
 use Rattle.turns.specs.Opening.{Opened, openOf}
 use Rattle.cuts.specs.Histories.{Event, turns, merges, Phone, fresh, history}
+use Rattle.worked_cases.specs.Calls.{surveyed}
 use Rattle.worked_cases.specs.Wood.{wood, planTop, stem}
 
 abbrev pub openedTop : Opened
-openedTop = openOf wood planTop (replicate 9 7)
+openedTop = openOf (surveyed wood) planTop (replicate 10 7)
 
 -- 6 steps; a quantum of 0; a merge with no room; a merge; and the rest, with the last row of the full merged list as threshold
 abbrev pub events : List Event
@@ -22,7 +23,7 @@ events =
     ∷ []
 
 abbrev pub finishedCut : Phone
-finishedCut = history wood planTop (fresh openedTop) events
+finishedCut = history (surveyed wood) planTop (fresh openedTop) events
 
 -- all of it: no saved words, two served turns of 6 and 4 steps, both taken, and the best stem
 abbrev pub expected : Phone

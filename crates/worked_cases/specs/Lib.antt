@@ -12,6 +12,7 @@ pub mod States
 pub mod Limits
 pub mod Faults
 pub mod Closings
+pub mod SurveyNumbers
 pub mod Sizes
 pub mod Uploads
 pub mod Owners

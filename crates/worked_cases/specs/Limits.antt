@@ -6,7 +6,7 @@ use mathlib.Core.Option.{Option, none, some}
 use lib.ListN.{replicate}
 use Rattle.words.specs.Sequences.{over}
 use Rattle.turns.specs.declared.TurnEnding.the-variants.{Done, Full}
-use Rattle.worked_cases.specs.Calls.{testing, tested, Case, turnCall, turnCase, notOpened, notTurned}
+use Rattle.worked_cases.specs.Calls.{testing, tested, Case, surveyed, turnCall, turnCase, notOpened, notTurned}
 use Rattle.worked_cases.specs.Literals.{stems, stem1, stem2, stem3, ending0, ending01, allDiameters, atPlace}
 use Rattle.worked_cases.specs.Literals.{opensTo, refuses, wholeFrom}
 
@@ -172,15 +172,15 @@ quantumOf n x = (testing (turnCall stems (allDiameters ending01) (atPlace 0xF000
 
 abbrev pub ofBuffers : List Case
 ofBuffers =
-    -- a state buffer of 9 words
+    -- a state buffer of 10 words
     opensTo stems (allDiameters ending01) (atPlace 0xF0000003)
-    ∷ notOpened stems (allDiameters ending01) (replicate 8 7) 7
+    ∷ notOpened stems (allDiameters ending01) (replicate 9 7) 7
     ∷ notTurned
     (record {
-      tables = stems;
+      survey = surveyed stems;
       plan = allDiameters ending01;
-      state = over (atPlace 0xF0000003) (replicate 8 7);
-      given = 2;
+      state = over (atPlace 0xF0000003) (replicate 9 7);
+      given = 3;
       quantum = 1;
       threshold = [];
       output = replicate 128 9;

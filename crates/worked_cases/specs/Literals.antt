@@ -7,7 +7,7 @@ use Rattle.words.specs.declared.Written.the-variants.{Words}
 use Rattle.words.specs.Sequences.{over}
 use Rattle.tables.specs.Tables.{Tables}
 use Rattle.turns.specs.declared.TurnEnding.the-variants.{Done}
-use Rattle.worked_cases.specs.Calls.{opening, opened, Case, turnCall, turnCase, notOpened}
+use Rattle.worked_cases.specs.Calls.{opening, opened, Case, surveyed, turnCall, turnCase, notOpened}
 
 -- rows 0 to 5: (n1,n10,n100) (n1,n12,i45) (n2,n10,n100) (n2,n12,i310) (n3,n10,n100) (n3,n12,i310); both lists 0 2 4 1 3 5
 abbrev pub stemRows : List ℕ
@@ -48,17 +48,17 @@ abbrev pub allDiameters : List ℕ → List ℕ
 allDiameters ending = diameters (0x30000000 ∷ []) ending
 
 -- ---- cases
--- branch 0, depth 1, and a place's word
+-- survey 7, branch 0, depth 1, and a place's word
 abbrev pub atPlace : ℕ → List ℕ
-atPlace w = 0xE0000001 ∷ w ∷ []
+atPlace w = 0xD0000007 ∷ 0xE0000001 ∷ w ∷ []
 
--- an opening, over a state buffer of nine words, that writes these
+-- an opening, over a state buffer of ten words, that writes these
 abbrev pub opensTo : Tables → List ℕ → List ℕ → Case
-opensTo t plan words = (opening t plan (replicate 9 7), opened (record { answer = Words (length words); state = over words (replicate 9 7) }))
+opensTo t plan words = (opening (surveyed t) plan (replicate 10 7), opened (record { answer = Words (length words); state = over words (replicate 10 7) }))
 
 -- an opening that is refused by a number
 abbrev pub refuses : Tables → List ℕ → ℕ → Case
-refuses t plan x = notOpened t plan (replicate 9 7) x
+refuses t plan x = notOpened t plan (replicate 10 7) x
 
 -- a turn that has all the steps and the room that it needs, from a state to done: its steps and its list
 abbrev pub wholeFrom : Tables → List ℕ → List ℕ → ℕ → List ℕ → Case

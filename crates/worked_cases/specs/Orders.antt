@@ -105,11 +105,11 @@ objectAlone =
 
 abbrev pub fixedEarlier : List Case
 fixedEarlier =
-    leads subjectAndObject 1 (0xE0000002 ∷ 0xF0000000 ∷ 0xF0000000 ∷ [])
-    ∷ leads subjectAndObject 4 (0xE0000002 ∷ 0xF0000001 ∷ 0xF0000001 ∷ [])
-    ∷ leads subjectAndObject 7 (0xE0000002 ∷ 0xF0000002 ∷ 0xF0000002 ∷ [])
-    ∷ turnCase (turnCall stems objectAlone (atPlace 0xF0000003) 1 [] 128) Spent 1 (0xE0000002 ∷ 0xF0000003 ∷ 0xF0000003 ∷ []) []
-    ∷ turnCase (turnCall stems objectAlone (atPlace 0xF0000003) 4 [] 128) Spent 4 (0xE0000002 ∷ 0xF0000004 ∷ 0xF0000004 ∷ []) []
+    leads subjectAndObject 1 (0xD0000007 ∷ 0xE0000002 ∷ 0xF0000000 ∷ 0xF0000000 ∷ [])
+    ∷ leads subjectAndObject 4 (0xD0000007 ∷ 0xE0000002 ∷ 0xF0000001 ∷ 0xF0000001 ∷ [])
+    ∷ leads subjectAndObject 7 (0xD0000007 ∷ 0xE0000002 ∷ 0xF0000002 ∷ 0xF0000002 ∷ [])
+    ∷ turnCase (turnCall stems objectAlone (atPlace 0xF0000003) 1 [] 128) Spent 1 (0xD0000007 ∷ 0xE0000002 ∷ 0xF0000003 ∷ 0xF0000003 ∷ []) []
+    ∷ turnCase (turnCall stems objectAlone (atPlace 0xF0000003) 4 [] 128) Spent 4 (0xD0000007 ∷ 0xE0000002 ∷ 0xF0000004 ∷ 0xF0000004 ∷ []) []
     ∷ []
 
 -- ---- a wood in which every order differs: all eight rows of n1 and n2. SPO: 111 112 121 122 211 212 221 222

@@ -12,7 +12,7 @@ use Rattle.turns.specs.Opening.{openOf}
 use Rattle.turns.specs.Turns.{TurnInput, turnOf, resultOf}
 use Rattle.uploads.specs.declared.Made.the-variants as made
 use Rattle.uploads.specs.Making.{MadeBuffers, uploadRight, makeOf}
-use Rattle.worked_cases.specs.Calls.{turnCall}
+use Rattle.worked_cases.specs.Calls.{surveyed, turnCall}
 use Rattle.worked_cases.specs.Literals.{stems}
 
 -- so many rows, all words 0: for test 1, which looks at lengths alone
@@ -22,7 +22,7 @@ zeroRows n = record { rows = replicate (n * 3) 0; pos = replicate n 0; osp = rep
 -- 65,536 rows pass test 1; with 65,537 an opening is refused by 1, whatever the plan
 pub record RowLimit : Type 0 where
   pub most : lengthsRight (zeroRows 65536) ≡ true
-  pub more : (plan state : List ℕ) → openOf (zeroRows 65537) plan state ≡ record { answer = Refused 1; state = state }
+  pub more : (plan state : List ℕ) → openOf (surveyed (zeroRows 65537)) plan state ≡ record { answer = Refused 1; state = state }
 
 -- 65,536 uploaded rows pass test 15; 65,537 are refused by it, whatever the buffers
 pub record UploadLimit : Type 0 where
@@ -33,7 +33,7 @@ pub record UploadLimit : Type 0 where
 abbrev pub emptyTurn : ℕ → TurnInput
 emptyTurn quantum =
     turnCall stems (0x10000001 ∷ 0x20000001 ∷ 0xC0000000 ∷ 0x0000000B ∷ 0xC0000001 ∷ 0x30000000 ∷ 0x80000001 ∷ 0xC0000000 ∷ [])
-    (0xE0000001 ∷ 0xF0000003 ∷ []) quantum [] 128
+    (0xD0000007 ∷ 0xE0000001 ∷ 0xF0000003 ∷ []) quantum [] 128
 
 -- a quantum of 1,000,000 runs
 abbrev pub StepLimit : Type 0

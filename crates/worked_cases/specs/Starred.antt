@@ -9,7 +9,7 @@ use Rattle.words.specs.Sequences.{over}
 use Rattle.turns.specs.declared.TurnEnding.the-variants.{Done, Spent, Full}
 use Rattle.worked_cases.specs.Wood.{wood, noRows, withOsp, notError, orError, rows01, planWith, planA, planTwice, planTop, planGroup}
 use Rattle.worked_cases.specs.Wood.{always, atLeast1000, topFalling, topDiameters, group1, groups0, stateAt, start, nothing, threeStems, stem}
-use Rattle.worked_cases.specs.Calls.{opening, opened, merging, merged, running, ran, Case, turnCall, turnCase, notTurned}
+use Rattle.worked_cases.specs.Calls.{opening, opened, merging, merged, running, ran, Case, surveyed, turnCall, turnCase, notTurned}
 use Rattle.worked_cases.specs.Calls.{mergeCall, keptBuffer, notMerged}
 
 -- a turn that has all the steps and the room that it needs
@@ -36,8 +36,8 @@ merges plan kept list result = (
 
 abbrev pub starred : List Case
 starred =
-    -- opening writes the start: branch 0, depth 1, its range's first place
-    (opening wood planA (replicate 10 5), opened (record { answer = Words 2; state = over start (replicate 10 5) }))
+    -- opening writes the start: the survey's number, branch 0, depth 1, its range's first place
+    (opening (surveyed wood) planA (replicate 11 5), opened (record { answer = Words 3; state = over start (replicate 11 5) }))
     -- A in full: rows n2 i310 and n3 i310, 10 steps
     ∷ whole planA 10 (stem 2 310 ++ stem 3 310)
     ∷ (running wood planA 10, ran none (stem 2 310 ++ stem 3 310))

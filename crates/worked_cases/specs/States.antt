@@ -17,33 +17,36 @@ twoBranches =
 abbrev pub goes : ℕ → List ℕ → List ℕ → List ℕ → Case
 goes n from to list = turnCase (turnCall stems twoBranches from n [] 128) Spent n to list
 
--- the first word of a state is branch × 16 + depth; a place's word follows for each level
+-- the first word of a state is the survey's, the second branch × 16 + depth; a place's word follows for each level
 abbrev pub throughBranches : List Case
 throughBranches =
-    opensTo stems twoBranches (0xE0000001 ∷ 0xF0000000 ∷ [])
+    opensTo stems twoBranches (0xD0000007 ∷ 0xE0000001 ∷ 0xF0000000 ∷ [])
     -- branch 0 delivers n1, n2 and n3, with ?1 unbound
-    ∷ goes 1 (0xE0000001 ∷ 0xF0000000 ∷ []) (0xE0000001 ∷ 0xF0000001 ∷ []) (0x00000001 ∷ 0xC0000000 ∷ [])
-    ∷ goes 1 (0xE0000001 ∷ 0xF0000001 ∷ []) (0xE0000001 ∷ 0xF0000002 ∷ []) (0x00000002 ∷ 0xC0000000 ∷ [])
-    ∷ goes 1 (0xE0000001 ∷ 0xF0000002 ∷ []) (0xE0000001 ∷ 0xF0000003 ∷ []) (0x00000003 ∷ 0xC0000000 ∷ [])
+    ∷ goes 1 (0xD0000007 ∷ 0xE0000001 ∷ 0xF0000000 ∷ []) (0xD0000007 ∷ 0xE0000001 ∷ 0xF0000001 ∷ []) (0x00000001 ∷ 0xC0000000 ∷ [])
+    ∷ goes 1 (0xD0000007 ∷ 0xE0000001 ∷ 0xF0000001 ∷ []) (0xD0000007 ∷ 0xE0000001 ∷ 0xF0000002 ∷ []) (0x00000002 ∷ 0xC0000000 ∷ [])
+    ∷ goes 1 (0xD0000007 ∷ 0xE0000001 ∷ 0xF0000002 ∷ []) (0xD0000007 ∷ 0xE0000001 ∷ 0xF0000003 ∷ []) (0x00000003 ∷ 0xC0000000 ∷ [])
     -- its end: branch 1 starts
-    ∷ goes 1 (0xE0000001 ∷ 0xF0000003 ∷ []) (0xE0000011 ∷ 0xF0000000 ∷ []) []
+    ∷ goes 1 (0xD0000007 ∷ 0xE0000001 ∷ 0xF0000003 ∷ []) (0xD0000007 ∷ 0xE0000011 ∷ 0xF0000000 ∷ []) []
     -- n1 opens its second level at place 1, fails the condition, and leaves
-    ∷ goes 1 (0xE0000011 ∷ 0xF0000000 ∷ []) (0xE0000012 ∷ 0xF0000000 ∷ 0xF0000001 ∷ []) []
-    ∷ goes 1 (0xE0000012 ∷ 0xF0000000 ∷ 0xF0000001 ∷ []) (0xE0000012 ∷ 0xF0000000 ∷ 0xF0000002 ∷ []) []
-    ∷ goes 1 (0xE0000012 ∷ 0xF0000000 ∷ 0xF0000002 ∷ []) (0xE0000011 ∷ 0xF0000001 ∷ []) []
+    ∷ goes 1 (0xD0000007 ∷ 0xE0000011 ∷ 0xF0000000 ∷ []) (0xD0000007 ∷ 0xE0000012 ∷ 0xF0000000 ∷ 0xF0000001 ∷ []) []
+    ∷ goes 1 (0xD0000007 ∷ 0xE0000012 ∷ 0xF0000000 ∷ 0xF0000001 ∷ []) (0xD0000007 ∷ 0xE0000012 ∷ 0xF0000000 ∷ 0xF0000002 ∷ []) []
+    ∷ goes 1 (0xD0000007 ∷ 0xE0000012 ∷ 0xF0000000 ∷ 0xF0000002 ∷ []) (0xD0000007 ∷ 0xE0000011 ∷ 0xF0000001 ∷ []) []
     -- n2 is delivered
-    ∷ goes 1 (0xE0000011 ∷ 0xF0000001 ∷ []) (0xE0000012 ∷ 0xF0000001 ∷ 0xF0000003 ∷ []) []
-    ∷ goes 1 (0xE0000012 ∷ 0xF0000001 ∷ 0xF0000003 ∷ []) (0xE0000012 ∷ 0xF0000001 ∷ 0xF0000004 ∷ []) (0x00000002 ∷ 0x40000136 ∷ [])
-    ∷ goes 1 (0xE0000012 ∷ 0xF0000001 ∷ 0xF0000004 ∷ []) (0xE0000011 ∷ 0xF0000002 ∷ []) []
+    ∷ goes 1 (0xD0000007 ∷ 0xE0000011 ∷ 0xF0000001 ∷ []) (0xD0000007 ∷ 0xE0000012 ∷ 0xF0000001 ∷ 0xF0000003 ∷ []) []
+    ∷ goes 1 (0xD0000007 ∷ 0xE0000012 ∷ 0xF0000001 ∷ 0xF0000003 ∷ []) (0xD0000007 ∷ 0xE0000012 ∷ 0xF0000001 ∷ 0xF0000004 ∷ [])
+    (0x00000002 ∷ 0x40000136 ∷ [])
+    ∷ goes 1 (0xD0000007 ∷ 0xE0000012 ∷ 0xF0000001 ∷ 0xF0000004 ∷ []) (0xD0000007 ∷ 0xE0000011 ∷ 0xF0000002 ∷ []) []
     -- n3 is delivered
-    ∷ goes 1 (0xE0000011 ∷ 0xF0000002 ∷ []) (0xE0000012 ∷ 0xF0000002 ∷ 0xF0000005 ∷ []) []
-    ∷ goes 1 (0xE0000012 ∷ 0xF0000002 ∷ 0xF0000005 ∷ []) (0xE0000012 ∷ 0xF0000002 ∷ 0xF0000006 ∷ []) (0x00000003 ∷ 0x40000136 ∷ [])
-    ∷ goes 1 (0xE0000012 ∷ 0xF0000002 ∷ 0xF0000006 ∷ []) (0xE0000011 ∷ 0xF0000003 ∷ []) []
-    ∷ turnCase (turnCall stems twoBranches (0xE0000011 ∷ 0xF0000003 ∷ []) 1 [] 128) Done 1 [] []
+    ∷ goes 1 (0xD0000007 ∷ 0xE0000011 ∷ 0xF0000002 ∷ []) (0xD0000007 ∷ 0xE0000012 ∷ 0xF0000002 ∷ 0xF0000005 ∷ []) []
+    ∷ goes 1 (0xD0000007 ∷ 0xE0000012 ∷ 0xF0000002 ∷ 0xF0000005 ∷ []) (0xD0000007 ∷ 0xE0000012 ∷ 0xF0000002 ∷ 0xF0000006 ∷ [])
+    (0x00000003 ∷ 0x40000136 ∷ [])
+    ∷ goes 1 (0xD0000007 ∷ 0xE0000012 ∷ 0xF0000002 ∷ 0xF0000006 ∷ []) (0xD0000007 ∷ 0xE0000011 ∷ 0xF0000003 ∷ []) []
+    ∷ turnCase (turnCall stems twoBranches (0xD0000007 ∷ 0xE0000011 ∷ 0xF0000003 ∷ []) 1 [] 128) Done 1 [] []
     -- several steps at once: into branch 1; to the row of n2, for which an output of three rows has no space
-    ∷ goes 6 (0xE0000001 ∷ 0xF0000000 ∷ []) (0xE0000012 ∷ 0xF0000000 ∷ 0xF0000002 ∷ [])
+    ∷ goes 6 (0xD0000007 ∷ 0xE0000001 ∷ 0xF0000000 ∷ []) (0xD0000007 ∷ 0xE0000012 ∷ 0xF0000000 ∷ 0xF0000002 ∷ [])
     (0x00000001 ∷ 0xC0000000 ∷ 0x00000002 ∷ 0xC0000000 ∷ 0x00000003 ∷ 0xC0000000 ∷ [])
-    ∷ turnCase (turnCall stems twoBranches (0xE0000001 ∷ 0xF0000000 ∷ []) 14 [] 6) Full 8 (0xE0000012 ∷ 0xF0000001 ∷ 0xF0000003 ∷ [])
+    ∷ turnCase (turnCall stems twoBranches (0xD0000007 ∷ 0xE0000001 ∷ 0xF0000000 ∷ []) 14 [] 6) Full 8
+    (0xD0000007 ∷ 0xE0000012 ∷ 0xF0000001 ∷ 0xF0000003 ∷ [])
     (0x00000001 ∷ 0xC0000000 ∷ 0x00000002 ∷ 0xC0000000 ∷ 0x00000003 ∷ 0xC0000000 ∷ [])
     ∷ []
 
@@ -62,21 +65,22 @@ deepPlan =
     ∷ 0x30000000
     ∷ 0x80000001 ∷ 0xC0000000 ∷ []
 
--- nine words: branch 3 at depth 8, n2 at place 1 of POS, and at place 2 of SPO seven times
-abbrev pub nineWords : List ℕ
-nineWords = 0xE0000038 ∷ 0xF0000001 ∷ 0xF0000002 ∷ 0xF0000002 ∷ 0xF0000002 ∷ 0xF0000002 ∷ 0xF0000002 ∷ 0xF0000002 ∷ 0xF0000002 ∷ []
+-- ten words: survey 7, branch 3 at depth 8, n2 at place 1 of POS, and at place 2 of SPO seven times
+abbrev pub tenWords : List ℕ
+tenWords =
+    0xD0000007 ∷ 0xE0000038 ∷ 0xF0000001 ∷ 0xF0000002 ∷ 0xF0000002 ∷ 0xF0000002 ∷ 0xF0000002 ∷ 0xF0000002 ∷ 0xF0000002 ∷ 0xF0000002 ∷ []
 
 abbrev pub deepStates : List Case
 deepStates =
-    opensTo stems deepPlan (0xE0000001 ∷ 0xF0000003 ∷ [])
+    opensTo stems deepPlan (0xD0000007 ∷ 0xE0000001 ∷ 0xF0000003 ∷ [])
     -- an empty branch takes one step
-    ∷ turnCase (turnCall stems deepPlan (0xE0000001 ∷ 0xF0000003 ∷ []) 1 [] 1) Spent 1 (0xE0000011 ∷ 0xF0000003 ∷ []) []
-    ∷ turnCase (turnCall stems deepPlan (0xE0000001 ∷ 0xF0000003 ∷ []) 2 [] 1) Spent 2 (0xE0000021 ∷ 0xF0000003 ∷ []) []
-    ∷ turnCase (turnCall stems deepPlan (0xE0000001 ∷ 0xF0000003 ∷ []) 3 [] 1) Spent 3 (0xE0000031 ∷ 0xF0000000 ∷ []) []
+    ∷ turnCase (turnCall stems deepPlan (0xD0000007 ∷ 0xE0000001 ∷ 0xF0000003 ∷ []) 1 [] 1) Spent 1 (0xD0000007 ∷ 0xE0000011 ∷ 0xF0000003 ∷ []) []
+    ∷ turnCase (turnCall stems deepPlan (0xD0000007 ∷ 0xE0000001 ∷ 0xF0000003 ∷ []) 2 [] 1) Spent 2 (0xD0000007 ∷ 0xE0000021 ∷ 0xF0000003 ∷ []) []
+    ∷ turnCase (turnCall stems deepPlan (0xD0000007 ∷ 0xE0000001 ∷ 0xF0000003 ∷ []) 3 [] 1) Spent 3 (0xD0000007 ∷ 0xE0000031 ∷ 0xF0000000 ∷ []) []
     -- seven levels down, the row n1, seven levels up again; then n2 at depth 8
-    ∷ turnCase (turnCall stems deepPlan (0xE0000031 ∷ 0xF0000000 ∷ []) 22 [] 1) Spent 22 nineWords (0x00000001 ∷ [])
-    ∷ turnCase (turnCall stems deepPlan nineWords 1 [] 1) Spent 1
-    (0xE0000038 ∷ 0xF0000001 ∷ 0xF0000002 ∷ 0xF0000002 ∷ 0xF0000002 ∷ 0xF0000002 ∷ 0xF0000002 ∷ 0xF0000002 ∷ 0xF0000003 ∷ [])
+    ∷ turnCase (turnCall stems deepPlan (0xD0000007 ∷ 0xE0000031 ∷ 0xF0000000 ∷ []) 22 [] 1) Spent 22 tenWords (0x00000001 ∷ [])
+    ∷ turnCase (turnCall stems deepPlan tenWords 1 [] 1) Spent 1
+    (0xD0000007 ∷ 0xE0000038 ∷ 0xF0000001 ∷ 0xF0000002 ∷ 0xF0000002 ∷ 0xF0000002 ∷ 0xF0000002 ∷ 0xF0000002 ∷ 0xF0000002 ∷ 0xF0000003 ∷ [])
     (0x00000002 ∷ [])
     ∷ []
 
@@ -87,25 +91,31 @@ refusedBy x words = notTurned (turnCall stems twoBranches words 5 [] 128) x
 abbrev pub wrongStates : List Case
 wrongStates =
     refusedBy 9 []
+    -- no word behind the survey's; no survey's word, or one of a wrong kind: 14, 12 and 0
+    ∷ refusedBy 9 (0xD0000007 ∷ [])
+    ∷ refusedBy 9 (0xE0000011 ∷ 0xF0000000 ∷ [])
+    ∷ refusedBy 9 (0xE0000007 ∷ 0xE0000011 ∷ 0xF0000000 ∷ [])
+    ∷ refusedBy 9 (0xC0000007 ∷ 0xE0000011 ∷ 0xF0000000 ∷ [])
+    ∷ refusedBy 9 (0x00000007 ∷ 0xE0000011 ∷ 0xF0000000 ∷ [])
     -- a wrong kind: as position 15, 13 and 0, as place 14 and 0
-    ∷ refusedBy 9 (0xF0000011 ∷ 0xF0000000 ∷ [])
-    ∷ refusedBy 9 (0xD0000011 ∷ 0xF0000000 ∷ [])
-    ∷ refusedBy 9 (0x00000011 ∷ 0xF0000000 ∷ [])
-    ∷ refusedBy 9 (0xF0000011 ∷ 0xE0000000 ∷ [])
-    ∷ refusedBy 9 (0xE0000011 ∷ 0xE0000000 ∷ [])
-    ∷ refusedBy 9 (0xE0000011 ∷ 0x00000000 ∷ [])
-    ∷ refusedBy 9 (0xE0000012 ∷ 0xF0000000 ∷ 0xE0000001 ∷ [])
+    ∷ refusedBy 9 (0xD0000007 ∷ 0xF0000011 ∷ 0xF0000000 ∷ [])
+    ∷ refusedBy 9 (0xD0000007 ∷ 0xD0000011 ∷ 0xF0000000 ∷ [])
+    ∷ refusedBy 9 (0xD0000007 ∷ 0x00000011 ∷ 0xF0000000 ∷ [])
+    ∷ refusedBy 9 (0xD0000007 ∷ 0xF0000011 ∷ 0xE0000000 ∷ [])
+    ∷ refusedBy 9 (0xD0000007 ∷ 0xE0000011 ∷ 0xE0000000 ∷ [])
+    ∷ refusedBy 9 (0xD0000007 ∷ 0xE0000011 ∷ 0x00000000 ∷ [])
+    ∷ refusedBy 9 (0xD0000007 ∷ 0xE0000012 ∷ 0xF0000000 ∷ 0xE0000001 ∷ [])
     -- branch 2; depth 0; a depth above the branch's patterns
-    ∷ refusedBy 9 (0xE0000021 ∷ 0xF0000000 ∷ [])
-    ∷ refusedBy 9 (0xE0000010 ∷ [])
-    ∷ refusedBy 9 (0xE0000002 ∷ 0xF0000000 ∷ 0xF0000001 ∷ [])
-    ∷ refusedBy 9 (0xE0000013 ∷ 0xF0000000 ∷ 0xF0000001 ∷ 0xF0000001 ∷ [])
+    ∷ refusedBy 9 (0xD0000007 ∷ 0xE0000021 ∷ 0xF0000000 ∷ [])
+    ∷ refusedBy 9 (0xD0000007 ∷ 0xE0000010 ∷ [])
+    ∷ refusedBy 9 (0xD0000007 ∷ 0xE0000002 ∷ 0xF0000000 ∷ 0xF0000001 ∷ [])
+    ∷ refusedBy 9 (0xD0000007 ∷ 0xE0000013 ∷ 0xF0000000 ∷ 0xF0000001 ∷ 0xF0000001 ∷ [])
     -- a place too few, a place too many
-    ∷ refusedBy 9 (0xE0000012 ∷ 0xF0000000 ∷ [])
-    ∷ refusedBy 9 (0xE0000011 ∷ 0xF0000000 ∷ 0xF0000001 ∷ [])
+    ∷ refusedBy 9 (0xD0000007 ∷ 0xE0000012 ∷ 0xF0000000 ∷ [])
+    ∷ refusedBy 9 (0xD0000007 ∷ 0xE0000011 ∷ 0xF0000000 ∷ 0xF0000001 ∷ [])
     -- the last place past the range's end, and before its start; an upper place at its range's end
-    ∷ refusedBy 10 (0xE0000011 ∷ 0xF0000004 ∷ [])
-    ∷ refusedBy 10 (0xE0000012 ∷ 0xF0000001 ∷ 0xF0000005 ∷ [])
-    ∷ refusedBy 10 (0xE0000012 ∷ 0xF0000001 ∷ 0xF0000002 ∷ [])
-    ∷ refusedBy 10 (0xE0000012 ∷ 0xF0000003 ∷ 0xF0000006 ∷ [])
+    ∷ refusedBy 10 (0xD0000007 ∷ 0xE0000011 ∷ 0xF0000004 ∷ [])
+    ∷ refusedBy 10 (0xD0000007 ∷ 0xE0000012 ∷ 0xF0000001 ∷ 0xF0000005 ∷ [])
+    ∷ refusedBy 10 (0xD0000007 ∷ 0xE0000012 ∷ 0xF0000001 ∷ 0xF0000002 ∷ [])
+    ∷ refusedBy 10 (0xD0000007 ∷ 0xE0000012 ∷ 0xF0000003 ∷ 0xF0000006 ∷ [])
     ∷ []

@@ -2,8 +2,8 @@
 use Prim.Native.Nat.{ℕ}
 use mathlib.Core.List.{List, [], _∷_, _++_, map}
 use lib.ListN.{length}
-use Rattle.words.specs.Words.{name, number, variable, word, positionWord, placeWord, headKind, branchKind, trueKind, orKind, notKind, comparisonKind}
-use Rattle.words.specs.Words.{unbound, equalTo, lessThan, atLeast, rowsKind, topKind, risingKind, fallingKind, groupKind}
+use Rattle.words.specs.Words.{name, number, variable, word, surveyWord, positionWord, placeWord, headKind, branchKind, trueKind, orKind, notKind}
+use Rattle.words.specs.Words.{comparisonKind, unbound, equalTo, lessThan, atLeast, rowsKind, topKind, risingKind, fallingKind, groupKind}
 use Rattle.tables.specs.Tables.{Tables}
 
 -- ---- tables
@@ -99,9 +99,9 @@ abbrev pub planUnbound : List ℕ
 planUnbound = word headKind 2 ∷ (branchA always ++ (branchB ++ topRising 1))
 
 -- ---- states and rows
--- a state of branch 0 at some places
+-- a state of branch 0 at some places, over survey 7
 abbrev pub stateAt : List ℕ → List ℕ
-stateAt places = positionWord 0 (length places) ∷ map placeWord places
+stateAt places = surveyWord 7 ∷ positionWord 0 (length places) ∷ map placeWord places
 
 abbrev pub start : List ℕ
 start = stateAt (0 ∷ [])

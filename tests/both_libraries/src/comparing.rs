@@ -153,14 +153,17 @@ pub fn made_up(to: &mut impl Calls, random: &mut Random, query: &Query) {
         any_words(random, 14)
     };
     let (state, given) = (any_words(random, 12), random.below(12));
+    let survey = random.pick(&[0, 1, 7, MOST_COUNT, MOST_COUNT + 1, u32::MAX]);
     to.open(&Open {
         tables: tables.clone(),
+        survey,
         plan: plan.clone(),
         state: state.clone(),
     });
     let (threshold, output, quantum) = (any_words(random, 4), any_words(random, 70), random.word() % 2_000_000);
     to.turn(&Turn {
         tables,
+        survey,
         plan: plan.clone(),
         state,
         given,
@@ -201,8 +204,9 @@ pub fn viewed(to: &mut impl Calls, random: &mut Random, most: usize) {
     let plan = plans::plan(random, &tables).words();
     let (opened, _) = to.open(&Open {
         tables,
+        survey: woods::survey(random),
         plan,
-        state: random.words(9),
+        state: random.words(10),
     });
     assert!(
         opened.refused == 0 || opened.refused > 4,
@@ -269,14 +273,16 @@ fn largest(to: &mut impl Calls) {
         let words = plans::plan(random, &tables).words();
         let mut call = Open {
             tables,
+            survey: stems,
             plan: words,
-            state: vec![0; 9],
+            state: vec![0; 10],
         };
         let (opened, state) = to.open(&call);
         let (tables, plan) = (call.tables.clone(), call.plan.clone());
         let output = vec![0; 4096];
         to.turn(&Turn {
             tables,
+            survey: stems,
             plan,
             state,
             given: opened.words,

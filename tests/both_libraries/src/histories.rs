@@ -64,6 +64,7 @@ pub fn play(to: &mut impl Calls, random: &mut Random, query: &Query, quantum: us
         let output = calls::output(random, query);
         let call = Turn {
             tables: query.tables.clone(),
+            survey: query.survey,
             plan: query.words.clone(),
             state: state.clone(),
             given,

@@ -60,6 +60,7 @@ pub fn open(library: &Library, call: &Open) -> Made<Written> {
         rows: rows.words(),
         pos: pos.words(),
         osp: osp.words(),
+        survey: call.survey,
         plan: plan.words(),
     };
     let answer = library.open(&lent, state.words_mut());
@@ -75,6 +76,7 @@ pub fn turn(library: &Library, call: &Turn) -> Made<Turned> {
         rows: rows.words(),
         pos: pos.words(),
         osp: osp.words(),
+        survey: call.survey,
         plan: plan.words(),
     };
     let answer = library.turn(
@@ -121,6 +123,7 @@ pub fn view(library: &Library, call: &View) -> Made<Viewed> {
         rows: rows.words(),
         pos: pos.words(),
         osp: osp.words(),
+        survey: 0,
         plan: &[],
     };
     let buffers = [seen.words_mut(), seen_pos.words_mut(), seen_osp.words_mut()];
@@ -220,6 +223,7 @@ pub fn join(library: &Library, call: &Join) -> MadeOfLists<Queued> {
         rows: rows.words(),
         pos: pos.words(),
         osp: osp.words(),
+        survey: call.survey,
         plan: plan.words(),
     };
     let answer = library.join(&lent, lists.lent(&call.lists), call.owner, call.allowance, state.words());
@@ -234,6 +238,7 @@ pub fn serve(library: &Library, call: &Serve) -> MadeOfLists<Service> {
         rows: rows.words(),
         pos: pos.words(),
         osp: osp.words(),
+        survey: call.survey,
         plan: &[],
     };
     let answer = library.serve(

@@ -77,7 +77,7 @@ pub struct Service {
 type Read = *const u32;
 type Write = *mut u32;
 type Entries = *mut Entry;
-type OpenCall = unsafe extern "C" fn(Read, usize, Read, usize, Read, usize, Read, usize, Write, usize) -> Written;
+type OpenCall = unsafe extern "C" fn(Read, usize, Read, usize, Read, usize, u32, Read, usize, Write, usize) -> Written;
 type TurnCall = unsafe extern "C" fn(
     Read,
     usize,
@@ -85,6 +85,7 @@ type TurnCall = unsafe extern "C" fn(
     usize,
     Read,
     usize,
+    u32,
     Read,
     usize,
     Write,
@@ -123,6 +124,7 @@ type JoinCall = unsafe extern "C" fn(
     usize,
     Read,
     usize,
+    u32,
     Entries,
     usize,
     usize,
@@ -143,6 +145,7 @@ type ServeCall = unsafe extern "C" fn(
     usize,
     Read,
     usize,
+    u32,
     Entries,
     usize,
     usize,
@@ -159,7 +162,19 @@ type TopUpCall = unsafe extern "C" fn(Entries, usize, usize, Entries, usize, usi
 
 #[link(name = "sotjarn", kind = "static")]
 extern "C" {
-    fn sotjarn_open(_: Read, _: usize, _: Read, _: usize, _: Read, _: usize, _: Read, _: usize, _: Write, _: usize) -> Written;
+    fn sotjarn_open(
+        _: Read,
+        _: usize,
+        _: Read,
+        _: usize,
+        _: Read,
+        _: usize,
+        _: u32,
+        _: Read,
+        _: usize,
+        _: Write,
+        _: usize,
+    ) -> Written;
     fn sotjarn_turn(
         _: Read,
         _: usize,
@@ -167,6 +182,7 @@ extern "C" {
         _: usize,
         _: Read,
         _: usize,
+        _: u32,
         _: Read,
         _: usize,
         _: Write,
@@ -205,6 +221,7 @@ extern "C" {
         _: usize,
         _: Read,
         _: usize,
+        _: u32,
         _: Entries,
         _: usize,
         _: usize,
@@ -225,6 +242,7 @@ extern "C" {
         _: usize,
         _: Read,
         _: usize,
+        _: u32,
         _: Entries,
         _: usize,
         _: usize,
@@ -270,11 +288,12 @@ pub struct LentLists<'a> {
     pub aside_entries: usize,
 }
 
-/// The tables and the plan of a call.
+/// The tables, the survey's number and the plan of a call.
 pub struct Lent<'a> {
     pub rows: &'a [u32],
     pub pos: &'a [u32],
     pub osp: &'a [u32],
+    pub survey: u32,
     pub plan: &'a [u32],
 }
 
@@ -323,7 +342,9 @@ impl Library {
     }
 
     pub fn open(&self, lent: &Lent, state: &mut [u32]) -> Written {
-        let Lent { rows, pos, osp, plan } = lent;
+        let Lent {
+            rows, pos, osp, plan, ..
+        } = lent;
         // Sound: each address and length is a slice's, and the written buffer is a `&mut` slice.
         unsafe {
             (self.open)(
@@ -333,6 +354,7 @@ impl Library {
                 pos.len(),
                 osp.as_ptr(),
                 osp.len(),
+                lent.survey,
                 plan.as_ptr(),
                 plan.len(),
                 state.as_mut_ptr(),
@@ -350,7 +372,9 @@ impl Library {
         threshold: &[u32],
         output: &mut [u32],
     ) -> Turned {
-        let Lent { rows, pos, osp, plan } = lent;
+        let Lent {
+            rows, pos, osp, plan, ..
+        } = lent;
         // Sound: each address and length is a slice's, and the written buffers are `&mut` slices.
         unsafe {
             (self.turn)(
@@ -360,6 +384,7 @@ impl Library {
                 pos.len(),
                 osp.as_ptr(),
                 osp.len(),
+                lent.survey,
                 plan.as_ptr(),
                 plan.len(),
                 state.as_mut_ptr(),
@@ -412,7 +437,7 @@ impl Library {
         }
     }
 
-    /// The plan of `lent` is none of the call's.
+    /// Number and plan of `lent` are none of the call's.
     pub fn view(&self, lent: &Lent, grant: &[u32], membership: u32, seen: [&mut [u32]; 3]) -> Viewed {
         let Lent { rows, pos, osp, .. } = lent;
         let [view_rows, view_pos, view_osp] = seen;
@@ -440,7 +465,9 @@ impl Library {
 
     /// The plan of the tables joins, from this state.
     pub fn join(&self, lent: &Lent, lists: LentLists, owner: u32, allowance: u64, state: &[u32]) -> Queued {
-        let Lent { rows, pos, osp, plan } = lent;
+        let Lent {
+            rows, pos, osp, plan, ..
+        } = lent;
         // Sound: each address and length is a slice's, and both lists are `&mut` slices of the header's layout.
         unsafe {
             (self.join)(
@@ -450,6 +477,7 @@ impl Library {
                 pos.len(),
                 osp.as_ptr(),
                 osp.len(),
+                lent.survey,
                 lists.line.as_mut_ptr(),
                 lists.line.len(),
                 lists.line_entries,
@@ -466,7 +494,7 @@ impl Library {
         }
     }
 
-    /// The plan of `lent` is none of the call's.
+    /// Number and plan of `lent` are none of the call's.
     pub fn serve(&self, lent: &Lent, lists: LentLists, quantum: u32, threshold: &[u32], output: &mut [u32]) -> Service {
         let Lent { rows, pos, osp, .. } = lent;
         // Sound: each address and length is a slice's; both lists and the output are `&mut` slices.
@@ -478,6 +506,7 @@ impl Library {
                 pos.len(),
                 osp.as_ptr(),
                 osp.len(),
+                lent.survey,
                 lists.line.as_mut_ptr(),
                 lists.line.len(),
                 lists.line_entries,

@@ -47,6 +47,7 @@ fn lent(query: &Query) -> Lent<'_> {
         rows: &query.tables.rows,
         pos: &query.tables.pos,
         osp: &query.tables.osp,
+        survey: query.survey,
         plan: &query.words,
     }
 }
@@ -65,7 +66,7 @@ fn take(library: &Library, query: &Query, kept: &mut Vec<u32>, list: &[u32]) {
 
 /// A query run alone, from its opening to its end: its list, and its steps.
 fn alone(library: &Library, query: &Query) -> (Vec<u32>, u64) {
-    let (lent, mut state, mut output) = (lent(query), vec![0; 9], vec![0; 64 * query.plan.least_output()]);
+    let (lent, mut state, mut output) = (lent(query), vec![0; 10], vec![0; 64 * query.plan.least_output()]);
     let mut given = library.open(&lent, &mut state).words;
     let (mut kept, mut steps) = (Vec::new(), 0);
     loop {
@@ -148,7 +149,7 @@ impl Soak<'_> {
         let some = random.between(1, steps as usize) as u64;
         let allowance = random.pick(&[0, 1, 3, some, some, steps, 1 << 40]);
         let (library, query) = (self.library, &self.queries[at]);
-        let (words, state) = (lent(query), query.run.saved(0));
+        let (words, state) = (lent(query), query.saved(0));
         let lists = LentLists {
             line: &mut self.line,
             line_entries: self.line_entries,

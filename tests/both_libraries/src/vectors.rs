@@ -345,7 +345,7 @@ impl Calls for Vectors {
         self.lend_tables(&call.tables);
         self.lend(Name::Plan, &call.plan);
         self.lend(Name::State, &call.state);
-        self.words.extend([OPEN, refused, words as u32]);
+        self.words.extend([OPEN, call.survey, refused, words as u32]);
         self.written(Name::State, made.at_exit(0), words);
         self.calls += 1;
         (made.answer, made.at_exit(0).to_vec())
@@ -369,8 +369,15 @@ impl Calls for Vectors {
         self.lend(Name::State, &call.state);
         self.lend(Name::Threshold, &call.threshold);
         self.lend(Name::Output, &call.output);
-        self.words
-            .extend([TURN, given_word(call.given), call.quantum, ending, refused, steps]);
+        self.words.extend([
+            TURN,
+            call.survey,
+            given_word(call.given),
+            call.quantum,
+            ending,
+            refused,
+            steps,
+        ]);
         self.words.extend([state_words as u32, list_words as u32]);
         self.written(Name::State, made.at_exit(0), state_words);
         self.written(Name::Output, made.at_exit(1), list_words);
@@ -458,6 +465,7 @@ impl Calls for Vectors {
         let [low, high] = two_words(call.allowance);
         self.words.extend([
             JOIN,
+            call.survey,
             given_word(call.lists.waiting),
             given_word(call.lists.resting),
             call.owner,
@@ -485,6 +493,7 @@ impl Calls for Vectors {
         let [low, high] = two_words(answer.left);
         self.words.extend([
             SERVE,
+            call.survey,
             given_word(call.lists.waiting),
             given_word(call.lists.resting),
             call.quantum,
@@ -609,11 +618,13 @@ fn long(to: &mut Vectors) {
         let (tables, plan) = (to.lend_stems(many), pairs().words());
         let (opened, state) = to.open(&Open {
             tables: tables.clone(),
+            survey: many,
             plan: plan.clone(),
-            state: filled(9),
+            state: filled(10),
         });
         to.turn(&Turn {
             tables,
+            survey: many,
             plan,
             state,
             given: opened.words,

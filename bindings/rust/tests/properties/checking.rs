@@ -132,11 +132,12 @@ pub fn cut(tally: &Tally, random: &mut Random, query: &Query, most_quantum: usiz
     let rows = matches!(query.plan.ending, Ending::Rows(_));
     let best = matches!(query.plan.ending, Ending::Top(..));
     let mut state = check_open(tally, query, &inputs::calls::open(random, query)).expect("the opening is accepted");
-    let (mut given, mut steps, mut held) = (query.run.saved(0).len(), 0, 0);
+    let (mut given, mut steps, mut held) = (query.saved(0).len(), 0, 0);
     let (mut kept, mut threshold) = (random.words(if rows { 0 } else { whole.len() + 2 }), Vec::new());
     loop {
         let call = Turn {
             tables: query.tables.clone(),
+            survey: query.survey,
             plan: query.words.clone(),
             state,
             given,

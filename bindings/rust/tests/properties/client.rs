@@ -6,8 +6,8 @@ use crate::evaluation::plan::{self, Ending};
 use crate::evaluation::words::*;
 use crate::inputs::{calls, damage, plans};
 use sotjarn::{
-    least_output, Branch, Comparison, Condition, Kept, Key, List, Place, Plan, Refusal, State, Tables, Term, TurnEnding, Value,
-    Variable,
+    least_output, Branch, Comparison, Condition, Kept, Key, List, Place, Plan, Refusal, State, Survey, Tables, Term, TurnEnding,
+    Value, Variable,
 };
 
 const COMPARISONS: [Comparison; 6] = [
@@ -107,12 +107,13 @@ fn compare_list(query: &Query, plan: &Plan, words: &[u32]) {
     }
 }
 
-fn tables(query: &Query) -> Tables<'_> {
+fn survey(query: &Query) -> Survey<'_> {
     Tables {
         rows: &query.tables.rows,
         pos: &query.tables.pos,
         osp: &query.tables.osp,
     }
+    .survey(query.survey)
 }
 
 #[test]
@@ -170,9 +171,12 @@ fn the_readers_read_states_and_lists() {
     for_each_seed(3000, |random| {
         let query = plans::short_query(random);
         let number = random.below(query.run.steps());
-        let state = State::read(&query.run.saved(number)).expect("a state of the run");
+        let state = State::read(&query.saved(number)).expect("a state of the run");
         let (branch, places) = query.run.states[number].split_first().expect("a state has its branch");
-        assert_eq!((state.branch, state.depth()), (*branch, places.len()));
+        assert_eq!(
+            (state.survey, state.branch, state.depth()),
+            (query.survey, *branch, places.len())
+        );
         assert_eq!(state.places, places.iter().map(|&place| Place(place)).collect::<Vec<_>>());
 
         let plan = built(&query.plan);
@@ -197,11 +201,11 @@ fn turns_and_kept_lists_add_up_to_the_uncut_run() {
         let query = plans::short_query(random);
         let plan = built(&query.plan);
         let most = query.run.steps().div_ceil(3);
-        let mut made = sotjarn::Query::open(tables(&query), plan.words()).expect("the opening is accepted");
+        let mut made = sotjarn::Query::open(survey(&query), plan.words()).expect("the opening is accepted");
         let (mut kept, mut steps) = (Kept::new(&plan), 0);
         while !made.is_done() {
             // A phone saves the state, and comes in again with it.
-            made = sotjarn::Query::load(tables(&query), plan.words(), made.state());
+            made = sotjarn::Query::load(survey(&query), plan.words(), made.state());
             let mut turns = made.turns(random.between(1, most) as u32, plan.least_output() + random.below(9));
             if random.chance(50) {
                 turns.set_threshold(kept.threshold());
@@ -225,13 +229,13 @@ fn turns_and_kept_lists_add_up_to_the_uncut_run() {
 fn turns_end_after_a_refusal() {
     for_each_seed(300, |random| {
         let query = plans::short_query(random);
-        let mut made = sotjarn::Query::open(tables(&query), &query.words).expect("the opening is accepted");
+        let mut made = sotjarn::Query::open(survey(&query), &query.words).expect("the opening is accepted");
         let state = made.state().to_vec();
         let refused: Vec<_> = made.turns(0, query.plan.least_output()).collect();
         assert_eq!(refused, [Err(Refusal::Quantum)]);
         assert_eq!(made.state(), state);
         let long = random.words(12);
-        let mut loaded = sotjarn::Query::load(tables(&query), &query.words, &long);
+        let mut loaded = sotjarn::Query::load(survey(&query), &query.words, &long);
         let refused: Vec<_> = loaded.turns(1, query.plan.least_output()).collect();
         assert_eq!(refused, [Err(Refusal::StateForm)]);
         assert_eq!(loaded.state(), long);

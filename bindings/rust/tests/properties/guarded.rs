@@ -7,7 +7,7 @@ use crate::evaluation::calls::{Answer, How, Merge, Open, Turn};
 use crate::evaluation::queues::{Counts, Join, Lists, Serve, Service, TopUp, Waiting};
 use crate::evaluation::uploads::{Make, Written};
 use crate::evaluation::views::{self, View};
-use sotjarn::{Entry, Queued, Refusal, Tables, TurnEnding, Turned, NO_ENTRY};
+use sotjarn::{Entry, Queued, Refusal, Survey, Tables, TurnEnding, Turned, NO_ENTRY};
 
 thread_local! {
     /// Moves each buffer to another alignment than the one before.
@@ -67,6 +67,12 @@ impl<'a> Guarded<'a> {
     }
 }
 
+/// Tables under a survey's number, as they are lent.
+fn lent<'a>(number: u32, [rows, pos, osp]: [&'a Guarded; 3]) -> Survey<'a> {
+    let (rows, pos, osp) = (rows.lent(), pos.lent(), osp.lent());
+    Tables { rows, pos, osp }.survey(number)
+}
+
 fn number(refusal: Refusal) -> u32 {
     refusal.code()
 }
@@ -75,12 +81,8 @@ pub fn open(call: &Open) -> (Result<usize, u32>, Vec<u32>) {
     let (rows, plan) = (Guarded::new("rows", &call.tables.rows), Guarded::new("plan", &call.plan));
     let (pos, osp) = (Guarded::new("pos", &call.tables.pos), Guarded::new("osp", &call.tables.osp));
     let mut state = Guarded::new("state", &call.state);
-    let tables = Tables {
-        rows: rows.lent(),
-        pos: pos.lent(),
-        osp: osp.lent(),
-    };
-    let answer = sotjarn::open(tables, plan.lent(), state.lent_mut());
+    let survey = lent(call.survey, [&rows, &pos, &osp]);
+    let answer = sotjarn::open(survey, plan.lent(), state.lent_mut());
     [rows, pos, osp, plan].into_iter().for_each(Guarded::unchanged);
     (answer.map_err(number), state.at_exit())
 }
@@ -90,14 +92,10 @@ pub fn turn(call: &Turn) -> (Result<Answer, u32>, Vec<u32>, Vec<u32>) {
     let (pos, osp) = (Guarded::new("pos", &call.tables.pos), Guarded::new("osp", &call.tables.osp));
     let threshold = Guarded::new("threshold", &call.threshold);
     let (mut state, mut output) = (Guarded::new("state", &call.state), Guarded::new("output", &call.output));
-    let tables = Tables {
-        rows: rows.lent(),
-        pos: pos.lent(),
-        osp: osp.lent(),
-    };
+    let survey = lent(call.survey, [&rows, &pos, &osp]);
     let (state_lent, output_lent) = (state.lent_mut(), output.lent_mut());
     let answer = sotjarn::turn(
-        tables,
+        survey,
         plan.lent(),
         state_lent,
         call.given,
@@ -251,13 +249,9 @@ pub fn join(call: &Join) -> (Result<Counts, u32>, Lists) {
     let (pos, osp) = (Guarded::new("pos", &call.tables.pos), Guarded::new("osp", &call.tables.osp));
     let (state, lists) = (Guarded::new("state", &call.state), &call.lists);
     let (mut line, mut aside) = (GuardedEntries::new(&lists.line), GuardedEntries::new(&lists.aside));
-    let tables = Tables {
-        rows: rows.lent(),
-        pos: pos.lent(),
-        osp: osp.lent(),
-    };
+    let survey = lent(call.survey, [&rows, &pos, &osp]);
     let answer = counted(sotjarn::join(
-        tables,
+        survey,
         line.lent(),
         lists.waiting,
         aside.lent(),
@@ -279,13 +273,9 @@ pub fn serve(call: &Serve) -> (Result<Service, u32>, Lists, Vec<u32>) {
     let (pos, osp) = (Guarded::new("pos", &call.tables.pos), Guarded::new("osp", &call.tables.osp));
     let (mut output, lists) = (Guarded::new("output", &call.output), &call.lists);
     let (mut line, mut aside) = (GuardedEntries::new(&lists.line), GuardedEntries::new(&lists.aside));
-    let tables = Tables {
-        rows: rows.lent(),
-        pos: pos.lent(),
-        osp: osp.lent(),
-    };
+    let survey = lent(call.survey, [&rows, &pos, &osp]);
     let answer = sotjarn::serve(
-        tables,
+        survey,
         line.lent(),
         lists.waiting,
         aside.lent(),

@@ -61,13 +61,14 @@ fn the_largest_wood_is_cut_by_every_ending() {
 fn one_row_more_is_refused() {
     let tally = Tally::default();
     let row = |number| [name(number), name(10), name(100)];
-    for (many, right) in [(65_535, Ok(2)), (65_536, Ok(2)), (65_537, Err(1))] {
+    for (many, right) in [(65_535, Ok(3)), (65_536, Ok(3)), (65_537, Err(1))] {
         let tables = Tables::of((0..many).map(row).collect());
         let plan = stems_plan(70, Ending::Rows(vec![0])).words();
         let call = Open {
             tables,
+            survey: 7,
             plan,
-            state: vec![0; 9],
+            state: vec![0; 10],
         };
         assert_eq!(crate::guarded::open(&call).0, right, "{many} rows");
     }
@@ -83,8 +84,9 @@ fn one_row_more_is_refused() {
         &few,
         &Open {
             tables,
+            survey: 7,
             plan,
-            state: vec![0; 9],
+            state: vec![0; 10],
         },
     );
 }
@@ -111,18 +113,19 @@ fn a_turn_takes_up_to_a_million_steps() {
     );
     assert_eq!(query.run.steps(), 1_050 * (1 + 1_050 + 1) + 1);
     for (quantum, right) in [
-        (999_999, Ok((999_999, How::Spent, 3, 8))),
-        (1_000_000, Ok((1_000_000, How::Spent, 3, 8))),
+        (999_999, Ok((999_999, How::Spent, 4, 8))),
+        (1_000_000, Ok((1_000_000, How::Spent, 4, 8))),
         (1_000_001, Err(8)),
         (0, Err(8)),
     ] {
-        let (tables, plan, mut state) = (query.tables.clone(), query.words.clone(), query.run.saved(0));
-        state.resize(9, 0);
+        let (tables, plan, mut state) = (query.tables.clone(), query.words.clone(), query.saved(0));
+        state.resize(10, 0);
         let call = Turn {
             tables,
+            survey: query.survey,
             plan,
             state,
-            given: 2,
+            given: 3,
             quantum,
             threshold: vec![],
             output: vec![0; 8],

@@ -11,5 +11,6 @@ mod inputs;
 mod long;
 mod queues;
 mod short;
+mod surveys;
 mod uploads;
 mod views;

@@ -119,7 +119,8 @@ fn queries_over_a_view_are_those_over_the_visible_rows() {
         let seen = view_of(&tally, random, &tables, &grant, membership);
         let words = plans::plan(random, &tables).words();
         let rows = Tables::of(visible(&tables, &grant, membership));
-        if let Ok(Some(query)) = queries::query(&rows, &words, 3_000) {
+        if let Ok(Some(mut query)) = queries::query(&rows, &words, 3_000) {
+            query.survey = woods::survey(random); // the adviser's own
             assert!(query.tables == seen, "the view is the tables of the visible rows");
             let steps = query.run.steps();
             cut(&tally, random, &query, steps.div_ceil(2), true);
@@ -161,9 +162,10 @@ fn woods_that_differ_in_hidden_rows_alone_are_the_same_to_an_adviser() {
 /// A query over both of two views, a turn at a time: what opening and each turn answer and write.
 fn queries_alike(tally: &Tally, random: &mut Random, views: &[Tables; 2]) {
     let words = plans::plan(random, &views[0]).words();
-    let Ok(Some(query)) = queries::query(&views[0], &words, 3_000) else {
+    let Ok(Some(mut query)) = queries::query(&views[0], &words, 3_000) else {
         return;
     };
+    query.survey = woods::survey(random); // one number for both
     let open = calls::open(random, &query);
     let opened = views.each_ref().map(|tables| {
         guarded::open(&queries::Open {

@@ -4,13 +4,13 @@ use Prim.Native.Nat.{_+_, _-_, _≤_}
 use native.Mathlib.Omega.{arith}
 use mathlib.Core.Path.{_≡_, refl, sym, _∙_, ap, subst⁻¹}
 use lib.ListN.{length}
-use Rattle.tables.specs.Tables.{tablesOf}
 use Rattle.queries.specs.declared.Keeping.the-variants.{Merged}
 use Rattle.queries.specs.declared.Went.the-variants.{On}
 use Rattle.queries.specs.Rounds.{firstPosition, rounds, resultAt}
 use Rattle.queries.specs.Playing.{StandsAfter}
 use Rattle.queries.proofs.Rounds.{rounds-none, rounds-next, rounds-made, rounds-over, rounds-stopped}
 use Rattle.queries.proofs.Plays.{stands-at}
+use Rattle.print_writing.specs.FileQueries.{lentSurvey}
 use Rattle.print_writing.specs.Shown.{mostTurns}
 use Rattle.print_rounds.proofs.Openings.{started-opens}
 use Rattle.print_rounds.proofs.go_on.Statement.{statement}
@@ -19,7 +19,7 @@ use Rattle.print_rounds.proofs.go_on.Tie as tie
 abbrev Inv-loop : tie.InvT-loop
 Inv-loop bytes rows pos osp plan quantum state₀ opened output₀ kept₀ lists saved₀ used₀ made₀ state output kept saved used made =
     (made ≤ mostTurns) × (length state ≡ length state₀) × (length output ≡ length output₀) × (length kept ≡ length kept₀)
-    × (rounds Merged (tablesOf rows pos osp) plan quantum made (firstPosition opened (record { state = state₀; output = output₀; kept = kept₀ }))
+    × (rounds Merged (lentSurvey rows pos osp) plan quantum made (firstPosition opened (record { state = state₀; output = output₀; kept = kept₀ }))
     ≡ record { went = On saved used; held = record { state = state; output = output; kept = kept } })
 
 abbrev μ-loop : tie.MeasureT-loop
@@ -32,17 +32,17 @@ print-step-requires : tie.Need-print-step-requires Inv-loop μ-loop
 print-step-requires c κs =
     let l = c .before .before .before .before in
     let s = l .before .before .before .before .before .before .before .before .before in
-    let t = tablesOf (s .args .rows .now) (s .args .pos .now) (s .args .osp .now) in
+    let v = lentSurvey (s .args .rows .now) (s .args .pos .now) (s .args .osp .now) in
     let p = s .args .plan .now in
     let st = s .args .state .now in
     let n = l .loop .made in
     let started = s .pre .1 .0 in
-    let here = stands-at Merged t p st (s .args .opened) started (s .args .output .now) (s .args .kept .now) (s .args .quantum) n (l .loop .saved)
+    let here = stands-at Merged v p st (s .args .opened) started (s .args .output .now) (s .args .kept .now) (s .args .quantum) n (l .loop .saved)
     (l .loop .used) _ (l .loop .inv .4) in
-    let stands = subst⁻¹ (λ r. StandsAfter t p (s .args .quantum) r n (l .loop .state) (l .loop .saved)) (here .1) (here .0) in (
+    let stands = subst⁻¹ (λ r. StandsAfter v p (s .args .quantum) r n (l .loop .state) (l .loop .saved)) (here .1) (here .0) in (
       s .pre .0,
       (
-        started-opens t p st (s .args .opened) started,
+        started-opens v p st (s .args .opened) started,
         (
           (omega (arith, c .before .before .before .loop-test .taken), stands),
           (s .pre .1 .1 .0, l .loop .inv .2 ∙ s .pre .1 .1 .1),

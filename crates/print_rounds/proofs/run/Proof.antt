@@ -3,12 +3,12 @@ use borrow.Author.Needs.{needs}
 use native.Mathlib.Omega.{arith}
 use mathlib.Core.Path.{_≡_, ap}
 use lib.ListN.{length-take}
-use Rattle.tables.specs.Tables.{tablesOf}
 use Rattle.queries.specs.declared.Keeping.the-variants.{Merged}
 use Rattle.queries.proofs.Plays.{leaves-by}
 use Rattle.plans.specs.Plans.{planOf}
 use Rattle.lists.specs.Gathering.{width}
 use Rattle.print_writing.specs.declared.Listing.{Listing}
+use Rattle.print_writing.specs.FileQueries.{lentSurvey}
 use Rattle.print_writing.specs.Shown.{mostTurns}
 use Rattle.print_rounds.proofs.Openings.{started-form, started-opens}
 use Rattle.print_writing.proofs.Widths.{some-words, lists-width}
@@ -19,17 +19,17 @@ use Rattle.print_rounds.proofs.run.Tie as tie
 lists-of-requires : tie.Need-lists-of-requires
 lists-of-requires c κs =
     let s = c .before .before .before .before .before in
-    let t = tablesOf (s .args .rows .now) (s .args .pos .now) (s .args .osp .now) in
+    let v = lentSurvey (s .args .rows .now) (s .args .pos .now) (s .args .osp .now) in
     let p = s .args .plan .now in
-    let form = started-form t p (s .args .state .now) (s .args .opened) (s .pre .0) in
+    let form = started-form v p (s .args .state .now) (s .args .opened) (s .pre .0) in
     form
 
 mul-room : tie.Need-mul-room
 mul-room c =
     let s = c .before .before .before .before .before .before .before in
-    let t = tablesOf (s .args .rows .now) (s .args .pos .now) (s .args .osp .now) in
+    let v = lentSurvey (s .args .rows .now) (s .args .pos .now) (s .args .osp .now) in
     let p = s .args .plan .now in
-    let form = started-form t p (s .args .state .now) (s .args .opened) (s .pre .0) in
+    let form = started-form v p (s .args .state .now) (s .args .opened) (s .pre .0) in
     let l = c .before .lists-of in
     let h = some-words (l .result .kind) (l .result .width) (lists-width p (l .result) (form, l .ensures)) in
     search needs
@@ -37,9 +37,9 @@ mul-room c =
 array-borrow-prefix-output : tie.Need-array-borrow-prefix-output
 array-borrow-prefix-output c =
     let s = c .before .before .before .before .before .before .before .before in
-    let t = tablesOf (s .args .rows .now) (s .args .pos .now) (s .args .osp .now) in
+    let v = lentSurvey (s .args .rows .now) (s .args .pos .now) (s .args .osp .now) in
     let p = s .args .plan .now in
-    let form = started-form t p (s .args .state .now) (s .args .opened) (s .pre .0) in
+    let form = started-form v p (s .args .state .now) (s .args .opened) (s .pre .0) in
     let l = c .before .before .lists-of in
     let h = some-words (l .result .kind) (l .result .width) (lists-width p (l .result) (form, l .ensures)) in
     search needs
@@ -47,9 +47,9 @@ array-borrow-prefix-output c =
 slice-aggregate-go-on : tie.Need-slice-aggregate-go-on
 slice-aggregate-go-on c =
     let s = c .before .before .before .before .before .before .before .before .before in
-    let t = tablesOf (s .args .rows .now) (s .args .pos .now) (s .args .osp .now) in
+    let v = lentSurvey (s .args .rows .now) (s .args .pos .now) (s .args .osp .now) in
     let p = s .args .plan .now in
-    let form = started-form t p (s .args .state .now) (s .args .opened) (s .pre .0) in
+    let form = started-form v p (s .args .state .now) (s .args .opened) (s .pre .0) in
     let l = c .before .before .before .lists-of in
     let h = some-words (l .result .kind) (l .result .width) (lists-width p (l .result) (form, l .ensures)) in
     simp length-take (omega arith)
@@ -60,9 +60,9 @@ slice-aggregate-go-on-2 c = search needs
 go-on-requires : tie.Need-go-on-requires
 go-on-requires c κs =
     let s = c .before .before .before .before .before .before .before .before .before .before in
-    let t = tablesOf (s .args .rows .now) (s .args .pos .now) (s .args .osp .now) in
+    let v = lentSurvey (s .args .rows .now) (s .args .pos .now) (s .args .osp .now) in
     let p = s .args .plan .now in
-    let form = started-form t p (s .args .state .now) (s .args .opened) (s .pre .0) in
+    let form = started-form v p (s .args .state .now) (s .args .opened) (s .pre .0) in
     let l = c .before .before .before .before .lists-of in
     let h = some-words (l .result .kind) (l .result .width) (lists-width p (l .result) (form, l .ensures)) in
     let wide : l .result .width ≡ width (planOf p .ending) = ap (λ (x : Listing). x .width) (l .ensures) in
@@ -75,15 +75,15 @@ print-played-requires : tie.Need-print-played-requires
 print-played-requires c κs =
     let s = c .before .before .before .before .before .before .before .before .before .before .before .before .before .before in
     let a = s .args in
-    let t = tablesOf (s .args .rows .now) (s .args .pos .now) (s .args .osp .now) in
+    let v = lentSurvey (s .args .rows .now) (s .args .pos .now) (s .args .osp .now) in
     let p = s .args .plan .now in
-    let form = started-form t p (s .args .state .now) (s .args .opened) (s .pre .0) in
+    let form = started-form v p (s .args .state .now) (s .args .opened) (s .pre .0) in
     let l = c .before .before .before .before .before .before .before .before .lists-of in
     let h = some-words (l .result .kind) (l .result .width) (lists-width p (l .result) (form, l .ensures)) in
     let wide : l .result .width ≡ width (planOf p .ending) = ap (λ (x : Listing). x .width) (l .ensures) in
     let g = c .before .before .before .go-on in
-    let opens = started-opens t p (s .args .state .now) (s .args .opened) (s .pre .0) in
-    let left = leaves-by Merged t p (s .args .state .now) (s .args .opened) (s .pre .0) _ _ _ mostTurns (g .result) _ (g .ensures) in (
+    let opens = started-opens v p (s .args .state .now) (s .args .opened) (s .pre .0) in
+    let left = leaves-by Merged v p (s .args .state .now) (s .args .opened) (s .pre .0) _ _ _ mostTurns (g .result) _ (g .ensures) in (
       file-lists (a .bytes .now) (a .rows .now) (a .pos .now) (a .osp .now) p (a .quantum) (s .pre .1) (l .result) (form, l .ensures),
       (
         file-opens (a .bytes .now) (a .rows .now) (a .pos .now) (a .osp .now) p (a .quantum) (s .pre .1) opens,

@@ -4,7 +4,7 @@ use Prim.Native.Nat.{_+_, _-_, _≤_}
 use native.Mathlib.Omega.{arith}
 use mathlib.Core.Path.{_≡_, refl, sym, _∙_, ap}
 use lib.ListN.{length}
-use Rattle.tables.specs.Tables.{tablesOf}
+use Rattle.turns.specs.Surveys.{surveyOf}
 use Rattle.queries.specs.declared.Keeping.the-variants.{All}
 use Rattle.queries.specs.declared.Went.the-variants.{On}
 use Rattle.queries.specs.Rounds.{firstPosition, rounds, resultAt}
@@ -13,13 +13,13 @@ use Rattle.query_plays.proofs.go_on.Statement.{statement}
 use Rattle.query_plays.proofs.go_on.Tie as tie
 
 abbrev Inv-loop : tie.InvT-loop
-Inv-loop rows pos osp plan quantum most state₀ opened output₀ kept₀ saved₀ used₀ n₀ state output kept saved used n =
+Inv-loop rows pos osp survey plan quantum most state₀ opened output₀ kept₀ saved₀ used₀ n₀ state output kept saved used n =
     (n ≤ most) × (length state ≡ length state₀) × (length output ≡ length output₀) × (length kept ≡ length kept₀)
-    × (rounds All (tablesOf rows pos osp) plan quantum n (firstPosition opened (record { state = state₀; output = output₀; kept = kept₀ }))
+    × (rounds All (surveyOf rows pos osp survey) plan quantum n (firstPosition opened (record { state = state₀; output = output₀; kept = kept₀ }))
     ≡ record { went = On saved used; held = record { state = state; output = output; kept = kept } })
 
 abbrev μ-loop : tie.MeasureT-loop
-μ-loop rows pos osp plan quantum most state₀ opened output₀ kept₀ saved₀ used₀ n₀ state output kept saved used n = most - n
+μ-loop rows pos osp survey plan quantum most state₀ opened output₀ kept₀ saved₀ used₀ n₀ state output kept saved used n = most - n
 
 loop-holds : tie.Need-loop-holds Inv-loop μ-loop
 loop-holds c = (omega arith, refl, refl, refl, rounds-none All _ _ _ _)

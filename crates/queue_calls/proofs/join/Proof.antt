@@ -44,7 +44,7 @@ use denote.Signature.{plain}
 use Rattle.queues.specs.declared.Entry.{Entry}
 use Rattle.queues.proofs.Entry as T
 use denote.Enum.Laws as EL
-use Rattle.tables.specs.Tables.{tablesOf as lent-tables}
+use Rattle.turns.specs.Surveys.{surveyOf as lent-survey}
 use Rattle.queues.specs.Lists.{lentAs}
 use Rattle.queues.specs.Joining.{QueuedResult, joinQueueOf}
 use Rattle.queues.proofs.Queued as Q
@@ -86,18 +86,21 @@ stayed = (
     (
       stay-none-slice (2 ∷ []) tt (plain (λ _. u32)) yes,
       (
-        gave-slice (3 ∷ []) tt (plain (λ _. T.the-row)),
+        stay-none (λ _. u32) yes,
         (
-          stay-none (λ _. usize) yes,
+          gave-slice (3 ∷ []) tt (plain (λ _. T.the-row)),
           (
-            gave-slice (4 ∷ []) tt (plain (λ _. T.the-row)),
+            stay-none (λ _. usize) yes,
             (
-              stay-none (λ _. usize) yes,
+              gave-slice (4 ∷ []) tt (plain (λ _. T.the-row)),
               (
-                stay-none (λ _. u32) yes,
+                stay-none (λ _. usize) yes,
                 (
-                  stay-none (λ _. u64) yes,
-                  (stay-none-slice (5 ∷ []) tt (plain (λ _. u32)) yes, (stay-none-slice (6 ∷ []) tt (plain (λ _. u32)) yes, tt)),
+                  stay-none (λ _. u32) yes,
+                  (
+                    stay-none (λ _. u64) yes,
+                    (stay-none-slice (5 ∷ []) tt (plain (λ _. u32)) yes, (stay-none-slice (6 ∷ []) tt (plain (λ _. u32)) yes, tt)),
+                  ),
                 ),
               ),
             ),
@@ -113,14 +116,14 @@ module _ {M : Type 1} (𝓤 : URA M) (H : Heap 𝓤) (A : Atoms 𝓤) (mem : Mem
   abbrev Joins : Contract 𝓤
   Joins = tripleOf 𝓤 H A joins.signature (joins.spec 𝓤 H A mem run)
 
-  abbrev to-join : (κ₀ κ₁ κ₂ κ₅ κ₆ : Lft) (q₀ q₁ q₂ q₅ q₆ : Share) (rows pos osp : RefT (List ℕ)) (seen : Seen)
+  abbrev to-join : (κ₀ κ₁ κ₂ κ₅ κ₆ : Lft) (q₀ q₁ q₂ q₅ q₆ : Share) (rows pos osp : RefT (List ℕ)) (survey : ℕ) (seen : Seen)
       (given kept owner allowance : ℕ) (plan state : RefT (List ℕ)) → Joins .Ghost
-  to-join κ₀ κ₁ κ₂ κ₅ κ₆ q₀ q₁ q₂ q₅ q₆ rows pos osp seen given kept owner allowance plan state = (
+  to-join κ₀ κ₁ κ₂ κ₅ κ₆ q₀ q₁ q₂ q₅ q₆ rows pos osp survey seen given kept owner allowance plan state = (
     (
       (κ₀, (κ₁, (κ₂, (κ₅, (κ₆, tt))))),
       (q₀, (q₁, (q₂, (q₅, (q₆, tt))))),
       tt,
-      (rows, (pos, (osp, (seen, (given, (kept, (owner, (allowance, (plan, (state, tt)))))))))),
+      (rows, (pos, (osp, (survey, (seen, (given, (kept, (owner, (allowance, (plan, (state, tt))))))))))),
       (
         (sliceVal (rows .ptr) (length (rows .now))) ∷ [],
         (
@@ -128,16 +131,22 @@ module _ {M : Type 1} (𝓤 : URA M) (H : Heap 𝓤) (A : Atoms 𝓤) (mem : Mem
           (
             (sliceVal (osp .ptr) (length (osp .now))) ∷ [],
             (
-              LL.vals S.the-type S′.the-laws seen,
+              vint w32 survey ∷ [],
               (
-                vint w64 given ∷ [],
+                LL.vals S.the-type S′.the-laws seen,
                 (
-                  vint w64 kept ∷ [],
+                  vint w64 given ∷ [],
                   (
-                    vint w32 owner ∷ [],
+                    vint w64 kept ∷ [],
                     (
-                      vint w64 allowance ∷ [],
-                      ((sliceVal (plan .ptr) (length (plan .now))) ∷ [], ((sliceVal (state .ptr) (length (state .now))) ∷ [], tt)),
+                      vint w32 owner ∷ [],
+                      (
+                        vint w64 allowance ∷ [],
+                        (
+                          (sliceVal (plan .ptr) (length (plan .now))) ∷ [],
+                          ((sliceVal (state .ptr) (length (state .now))) ∷ [], tt),
+                        ),
+                      ),
                     ),
                   ),
                 ),
@@ -150,27 +159,28 @@ module _ {M : Type 1} (𝓤 : URA M) (H : Heap 𝓤) (A : Atoms 𝓤) (mem : Mem
     tt,
   )
 
-  abbrev Told : (rows pos osp : RefT (List ℕ)) (seen : Seen) (given kept owner allowance : ℕ) (plan state : RefT (List ℕ)) → Queueing → Type 0
-  Told rows pos osp seen given kept owner allowance plan state d =
+  abbrev Told : (rows pos osp : RefT (List ℕ)) (survey : ℕ) (seen : Seen) (given kept owner allowance : ℕ) (plan state : RefT (List ℕ)) → Queueing
+      → Type 0
+  Told rows pos osp survey seen given kept owner allowance plan state d =
       (line aside : List Entry) → SeenOf (lentAs line given aside kept) owner seen
       → Decides (lentAs line given aside kept) d
-      (joinQueueOf (lent-tables (rows .now) (pos .now) (osp .now)) (lentAs line given aside kept)
+      (joinQueueOf (lent-survey (rows .now) (pos .now) (osp .now) survey) (lentAs line given aside kept)
       (record { owner = owner; allowance = allowance; plan = plan .now; state = state .now }))
 
-  join-of : (κ₀ κ₁ κ₂ κ₅ κ₆ : Lft) (rows pos osp : RefT (List ℕ)) (seen : Seen) (given kept owner allowance : ℕ)
+  join-of : (κ₀ κ₁ κ₂ κ₅ κ₆ : Lft) (rows pos osp : RefT (List ℕ)) (survey : ℕ) (seen : Seen) (given kept owner allowance : ℕ)
       (plan state : RefT (List ℕ)) (d : Queueing)
       → ent 𝓤 (ensured 𝓤 H A joins.ended (joins.clauses 𝓤 H A mem run) (κ₀, (κ₁, (κ₂, (κ₅, (κ₆, tt)))))
-      (rows, (pos, (osp, (seen, (given, (kept, (owner, (allowance, (plan, (state, tt)))))))))) tt d)
-      (fact 𝓤 (Told rows pos osp seen given kept owner allowance plan state d))
-  join-of κ₀ κ₁ κ₂ κ₅ κ₆ rows pos osp seen given kept owner allowance plan state d =
+      (rows, (pos, (osp, (survey, (seen, (given, (kept, (owner, (allowance, (plan, (state, tt))))))))))) tt d)
+      (fact 𝓤 (Told rows pos osp survey seen given kept owner allowance plan state d))
+  join-of κ₀ κ₁ κ₂ κ₅ κ₆ rows pos osp survey seen given kept owner allowance plan state d =
       exE 𝓤 _ (λ ws. snd∗ 𝓤
       (sem 𝓤 H A (lasts joins.ended (κ₀, (κ₁, (κ₂, (κ₅, (κ₆, tt)))))
-      (rows, (pos, (osp, (seen, (given, (kept, (owner, (allowance, (plan, (state, tt)))))))))) ws))
-      (fact 𝓤 (Told rows pos osp seen given kept owner allowance plan state d)))
+      (rows, (pos, (osp, (survey, (seen, (given, (kept, (owner, (allowance, (plan, (state, tt))))))))))) ws))
+      (fact 𝓤 (Told rows pos osp survey seen given kept owner allowance plan state d)))
 
-  goes-join : (W : Given 𝓤 H A) (κ₀ κ₁ κ₂ κ₅ κ₆ : Lft) (q₀ q₁ q₂ q₅ q₆ : Share) (rows pos osp : RefT (List ℕ)) (seen : Seen)
-      (given kept owner allowance : ℕ) (plan state : RefT (List ℕ)) → Is S.the-row seen (LL.vals S.the-type S′.the-laws seen) → given < 2 ^ 64
-      → kept < 2 ^ 64 → owner < 2 ^ 32 → allowance < 2 ^ 64
+  goes-join : (W : Given 𝓤 H A) (κ₀ κ₁ κ₂ κ₅ κ₆ : Lft) (q₀ q₁ q₂ q₅ q₆ : Share) (rows pos osp : RefT (List ℕ)) (survey : ℕ)
+      (seen : Seen) (given kept owner allowance : ℕ) (plan state : RefT (List ℕ)) → Is S.the-row seen (LL.vals S.the-type S′.the-laws seen)
+      → given < 2 ^ 64 → kept < 2 ^ 64 → owner < 2 ^ 32 → allowance < 2 ^ 64 → survey < 2 ^ 32
       → ent 𝓤 (sep 𝓤 (sem 𝓤 H A (flft κ₀ q₀))
       (sep 𝓤 (sem 𝓤 H A (flft κ₁ q₁))
       (sep 𝓤 (sem 𝓤 H A (flft κ₂ q₂))
@@ -181,8 +191,8 @@ module _ {M : Type 1} (𝓤 : URA M) (H : Heap 𝓤) (A : Atoms 𝓤) (mem : Mem
       (sep 𝓤 (sem 𝓤 H A (ShrSlice (named 2) κ₂ u32 .own osp ((sliceVal (osp .ptr) (length (osp .now))) ∷ [])))
       (sep 𝓤 (sem 𝓤 H A (ShrSlice (named 3) κ₅ u32 .own plan ((sliceVal (plan .ptr) (length (plan .now))) ∷ [])))
       (sem 𝓤 H A (ShrSlice (named 4) κ₆ u32 .own state ((sliceVal (state .ptr) (length (state .now))) ∷ []))))))))))))
-      (Joins .pre (to-join κ₀ κ₁ κ₂ κ₅ κ₆ q₀ q₁ q₂ q₅ q₆ rows pos osp seen given kept owner allowance plan state))
-  goes-join W κ₀ κ₁ κ₂ κ₅ κ₆ q₀ q₁ q₂ q₅ q₆ rows pos osp seen given kept owner allowance plan state gs gg gk go ga =
+      (Joins .pre (to-join κ₀ κ₁ κ₂ κ₅ κ₆ q₀ q₁ q₂ q₅ q₆ rows pos osp survey seen given kept owner allowance plan state))
+  goes-join W κ₀ κ₁ κ₂ κ₅ κ₆ q₀ q₁ q₂ q₅ q₆ rows pos osp survey seen given kept owner allowance plan state gs gg gk go ga gv =
       qed W ((‵ (flft κ₀ q₀) ⊛
       (‵ (flft κ₁ q₁) ⊛
       (‵ (flft κ₂ q₂) ⊛
@@ -199,15 +209,16 @@ module _ {M : Type 1} (𝓤 : URA M) (H : Heap 𝓤) (A : Atoms 𝓤) (mem : Mem
       move ! (2 ∷ 0 ∷ []) $ fjoin ! $ owned ! u64 (Is u64) (uint-makes 𝓤 H A W w64) allowance _ (refl, ga) $ fjoin ! $
       owned ! u32 (Is u32) (uint-makes 𝓤 H A W w32) owner _ (refl, go) $ fjoin ! $ owned ! usize (Is usize) (uint-makes 𝓤 H A W w64) kept _ (refl, gk) $
       fjoin ! $ owned ! usize (Is usize) (uint-makes 𝓤 H A W w64) given _ (refl, gg) $ fjoin ! $
-      owned ! S.the-row (Is S.the-row) ((LL.makes S.the-type S′.the-plain) 𝓤 H A) seen _ gs $ fjoin ! $ move ! (2 ∷ 0 ∷ []) $ fjoin ! $
-      move ! (2 ∷ 0 ∷ []) $ fjoin ! $ move ! (2 ∷ 0 ∷ []) $ fjoin ! $ move ! (1 ∷ 0 ∷ []) $ join ! $ frame ! $ done !
+      owned ! S.the-row (Is S.the-row) ((LL.makes S.the-type S′.the-plain) 𝓤 H A) seen _ gs $ fjoin ! $
+      owned ! u32 (Is u32) (uint-makes 𝓤 H A W w32) survey _ (refl, gv) $ fjoin ! $ move ! (2 ∷ 0 ∷ []) $ fjoin ! $ move ! (2 ∷ 0 ∷ []) $ fjoin ! $
+      move ! (2 ∷ 0 ∷ []) $ fjoin ! $ move ! (1 ∷ 0 ∷ []) $ join ! $ frame ! $ done !
 
 module _ {M : Type 1} (𝓤 : URA M) (H : Heap 𝓤) (A : Atoms 𝓤) (W : Given 𝓤 H A) (mem : Memory → SProp 𝓤) (run : Routine → Fun 𝓤)
     (κ₀ κ₁ κ₂ κ₃ κ₄ κ₅ κ₆ : Lft) (q₀ q₁ q₂ q₃ q₄ q₅ q₆ : Share)
-    (rows pos osp : RefT (List ℕ)) (x : RefT (List Entry)) (given : ℕ) (x′ : RefT (List Entry)) (kept owner allowance : ℕ)
+    (rows pos osp : RefT (List ℕ)) (survey : ℕ) (x : RefT (List Entry)) (given : ℕ) (x′ : RefT (List Entry)) (kept owner allowance : ℕ)
     (plan state : RefT (List ℕ))
     (room : Room T.the-row (length (x .now))) (room′ : Room T.the-row (length (x′ .now))) (given-fits : given < 2 ^ 64) (kept-fits : kept < 2 ^ 64)
-    (owner-fits : owner < 2 ^ 32) (allowance-fits : allowance < 2 ^ 64) where
+    (owner-fits : owner < 2 ^ 32) (allowance-fits : allowance < 2 ^ 64) (survey-fits : survey < 2 ^ 32) where
   abbrev at : Vals f.signature (κ₀, (κ₁, (κ₂, (κ₃, (κ₄, (κ₅, (κ₆, tt)))))))
   at = (
     (sliceVal (rows .ptr) (length (rows .now))) ∷ [],
@@ -216,16 +227,25 @@ module _ {M : Type 1} (𝓤 : URA M) (H : Heap 𝓤) (A : Atoms 𝓤) (W : Given
       (
         (sliceVal (osp .ptr) (length (osp .now))) ∷ [],
         (
-          (sliceVal (x .ptr) (length (x .now))) ∷ [],
+          vint w32 survey ∷ [],
           (
-            vint w64 given ∷ [],
+            (sliceVal (x .ptr) (length (x .now))) ∷ [],
             (
-              (sliceVal (x′ .ptr) (length (x′ .now))) ∷ [],
+              vint w64 given ∷ [],
               (
-                vint w64 kept ∷ [],
+                (sliceVal (x′ .ptr) (length (x′ .now))) ∷ [],
                 (
-                  vint w32 owner ∷ [],
-                  (vint w64 allowance ∷ [], ((sliceVal (plan .ptr) (length (plan .now))) ∷ [], ((sliceVal (state .ptr) (length (state .now))) ∷ [], tt))),
+                  vint w64 kept ∷ [],
+                  (
+                    vint w32 owner ∷ [],
+                    (
+                      vint w64 allowance ∷ [],
+                      (
+                        (sliceVal (plan .ptr) (length (plan .now))) ∷ [],
+                        ((sliceVal (state .ptr) (length (state .now))) ∷ [], tt),
+                      ),
+                    ),
+                  ),
                 ),
               ),
             ),
@@ -241,7 +261,7 @@ module _ {M : Type 1} (𝓤 : URA M) (H : Heap 𝓤) (A : Atoms 𝓤) (W : Given
       (κ₀, (κ₁, (κ₂, (κ₃, (κ₄, (κ₅, (κ₆, tt))))))),
       (q₀, (q₁, (q₂, (q₃, (q₄, (q₅, (q₆, tt))))))),
       tt,
-      (rows, (pos, (osp, (x, (given, (x′, (kept, (owner, (allowance, (plan, (state, tt))))))))))),
+      (rows, (pos, (osp, (survey, (x, (given, (x′, (kept, (owner, (allowance, (plan, (state, tt)))))))))))),
       at,
     ),
     tt,
@@ -249,7 +269,7 @@ module _ {M : Type 1} (𝓤 : URA M) (H : Heap 𝓤) (A : Atoms 𝓤) (W : Given
 
   exits : (d : Queueing) (us vs : List Entry) → Is D.the-row d (decided-vals d) → length us ≡ length (x .now) → length vs ≡ length (x′ .now)
       → _≡_ {A = QueuedResult} (record { answer = d .answer; line = us; aside = vs })
-      (joinQueueOf (lent-tables (rows .now) (pos .now) (osp .now)) (lentAs (x .now) given (x′ .now) kept)
+      (joinQueueOf (lent-survey (rows .now) (pos .now) (osp .now) survey) (lentAs (x .now) given (x′ .now) kept)
       (record { owner = owner; allowance = allowance; plan = plan .now; state = state .now }))
       → ent 𝓤 (⋆ 𝓤 H A
       (‵ (flft κ₀ q₀) ∷ ‵ (flft κ₁ q₁) ∷ ‵ (flft κ₂ q₂) ∷ ‵ (flft κ₃ q₃) ∷ ‵ (flft κ₄ q₄) ∷ ‵
@@ -274,21 +294,23 @@ module _ {M : Type 1} (𝓤 : URA M) (H : Heap 𝓤) (A : Atoms 𝓤) (W : Given
           (κ₀, (κ₁, (κ₂, (κ₃, (κ₄, (κ₅, (κ₆, tt))))))),
           (q₀, (q₁, (q₂, (q₃, (q₄, (q₅, (q₆, tt))))))),
           tt,
-          (rows, (pos, (osp, (x, (given, (x′, (kept, (owner, (allowance, (plan, (state, tt))))))))))),
+          (rows, (pos, (osp, (survey, (x, (given, (x′, (kept, (owner, (allowance, (plan, (state, tt)))))))))))),
           at,
         ),
         tt,
-      ) (EL.val Q.the-type Q′.the-laws (d .answer))
-      (d .answer)
-      (tt, (tt, (tt, (us, (tt, (vs, (tt, (tt, (tt, (tt, (tt, tt))))))))))) (tt, (tt, (tt, (lu, (tt, (lv, (tt, (tt, (tt, (tt, (tt, tt)))))))))))) $ says ! is $
+      )
+      (EL.val Q.the-type Q′.the-laws (d .answer)) (d .answer)
+      (tt, (tt, (tt, (tt, (us, (tt, (vs, (tt, (tt, (tt, (tt, (tt, tt)))))))))))) (tt, (tt, (tt, (tt, (lu, (tt, (lv, (tt, (tt, (tt, (tt, (tt, tt))))))))))))) $
+      says ! is $
       nothing ! $ move ! (7 ∷ 0 ∷ []) $ join ! $ move ! (6 ∷ 0 ∷ []) $ join ! $ move ! (5 ∷ 0 ∷ []) $ join ! $ move ! (4 ∷ 0 ∷ []) $ join ! $
       move ! (3 ∷ 0 ∷ []) $ join ! $ move ! (2 ∷ 0 ∷ []) $ join ! $ move ! (1 ∷ 0 ∷ []) $ join ! $ nothing ! $ move ! (8 ∷ 0 ∷ []) $ fjoin ! $
       move ! (7 ∷ 0 ∷ []) $ fjoin ! $ owned ! u64 (Is u64) (uint-makes 𝓤 H A W w64) allowance _ (refl, allowance-fits) $ fjoin ! $
       owned ! u32 (Is u32) (uint-makes 𝓤 H A W w32) owner _ (refl, owner-fits) $ fjoin ! $
       owned ! usize (Is usize) (uint-makes 𝓤 H A W w64) kept _ (refl, kept-fits) $ fjoin ! $ move ! (6 ∷ 0 ∷ []) $ fjoin ! $
       owned ! usize (Is usize) (uint-makes 𝓤 H A W w64) given _ (refl, given-fits) $ fjoin ! $ move ! (5 ∷ 0 ∷ []) $ fjoin ! $
-      move ! (4 ∷ 0 ∷ []) $ fjoin ! $ move ! (3 ∷ 0 ∷ []) $ fjoin ! $ move ! (2 ∷ 0 ∷ []) $ fjoin ! $ move ! (1 ∷ 0 ∷ []) $ frame ! $
-      frame ! $ owned ! Q.the-row (Is Q.the-row) (EL.makes Q.the-type Q′.the-plain 𝓤 H A) (d .answer) _ (answer-in d g) $ done !
+      owned ! u32 (Is u32) (uint-makes 𝓤 H A W w32) survey _ (refl, survey-fits) $ fjoin ! $ move ! (4 ∷ 0 ∷ []) $ fjoin ! $ move ! (3 ∷ 0 ∷ []) $
+      fjoin ! $ move ! (2 ∷ 0 ∷ []) $ fjoin ! $ move ! (1 ∷ 0 ∷ []) $ frame ! $ frame ! $
+      owned ! Q.the-row (Is Q.the-row) (EL.makes Q.the-type Q′.the-plain 𝓤 H A) (d .answer) _ (answer-in d g) $ done !
 
   module _ (C : Calls 𝓤 H) (Λ : Loops 𝓤 H) (fm : FmC 𝓤 H (W .laws) C) (known-looks : Triple 𝓤 (C #looks) (Look 𝓤 H A mem run))
       (known-puts : Triple 𝓤 (C #puts) (Settle 𝓤 H A mem run))
@@ -297,21 +319,21 @@ module _ {M : Type 1} (𝓤 : URA M) (H : Heap 𝓤) (A : Atoms 𝓤) (W : Given
         → length (state .now) < 2 ^ 64
         → ent 𝓤 (onEntry 𝓤 H A f.signature (κ₀, (κ₁, (κ₂, (κ₃, (κ₄, (κ₅, (κ₆, tt)))))))
         (q₀, (q₁, (q₂, (q₃, (q₄, (q₅, (q₆, tt)))))))
-        (rows, (pos, (osp, (x, (given, (x′, (kept, (owner, (allowance, (plan, (state, tt))))))))))) at)
+        (rows, (pos, (osp, (survey, (x, (given, (x′, (kept, (owner, (allowance, (plan, (state, tt)))))))))))) at)
         (WpFn 𝓤 H C Λ code.function
-        ((sliceVal (rows .ptr) (length (rows .now))) ∷ (sliceVal (pos .ptr) (length (pos .now))) ∷ (sliceVal (osp .ptr) (length (osp .now))) ∷ (sliceVal
-        (x .ptr) (length (x .now))) ∷ vint w64 given ∷ (sliceVal (x′ .ptr) (length (x′ .now))) ∷ vint w64 kept ∷ vint w32 owner ∷ vint w64
-        allowance ∷ (sliceVal (plan .ptr) (length (plan .now))) ∷ (sliceVal (state .ptr) (length (state .now))) ∷ []) Post)
+        ((sliceVal (rows .ptr) (length (rows .now))) ∷ (sliceVal (pos .ptr) (length (pos .now))) ∷ (sliceVal (osp .ptr) (length (osp .now))) ∷ vint w32
+        survey ∷ (sliceVal (x .ptr) (length (x .now))) ∷ vint w64 given ∷ (sliceVal (x′ .ptr) (length (x′ .now))) ∷ vint w64 kept ∷ vint w32
+        owner ∷ vint w64 allowance ∷ (sliceVal (plan .ptr) (length (plan .now))) ∷ (sliceVal (state .ptr) (length (state .now))) ∷ []) Post)
     walk r₀ r₁ r₂ r₅ r₆ =
         qed W ((‵ (flft κ₀ q₀) ⊛ ‵ (flft κ₁ q₁) ⊛ ‵ (flft κ₂ q₂) ⊛ ‵ (flft κ₃ q₃) ⊛ ‵ (flft κ₄ q₄) ⊛ ‵
         (flft κ₅ q₅) ⊛ ‵ (flft κ₆ q₆) ⊛ ‵ ftrue) ∷ ‵
-        (owns (ShrSlice (named 0) κ₀ u32 ∷ ShrSlice (named 1) κ₁ u32 ∷ ShrSlice (named 2) κ₂ u32 ∷ MutSlice
+        (owns (ShrSlice (named 0) κ₀ u32 ∷ ShrSlice (named 1) κ₁ u32 ∷ ShrSlice (named 2) κ₂ u32 ∷ u32 ∷ MutSlice
         (named 3) κ₃ T.the-row ∷ usize ∷ MutSlice (named 4) κ₄ T.the-row ∷ usize ∷ u32 ∷ u64 ∷ ShrSlice (named 5) κ₅ u32 ∷ ShrSlice
-        (named 6) κ₆ u32 ∷ []) (rows, (pos, (osp, (x, (given, (x′, (kept, (owner, (allowance, (plan, (state, tt))))))))))) at) ∷ []) ∵
+        (named 6) κ₆ u32 ∷ []) (rows, (pos, (osp, (survey, (x, (given, (x′, (kept, (owner, (allowance, (plan, (state, tt)))))))))))) at) ∷ []) ∵
         enter ! C Λ code.function
-        ((sliceVal (rows .ptr) (length (rows .now))) ∷ (sliceVal (pos .ptr) (length (pos .now))) ∷ (sliceVal (osp .ptr) (length (osp .now))) ∷ (sliceVal
-        (x .ptr) (length (x .now))) ∷ vint w64 given ∷ (sliceVal (x′ .ptr) (length (x′ .now))) ∷ vint w64 kept ∷ vint w32 owner ∷ vint w64
-        allowance ∷ (sliceVal (plan .ptr) (length (plan .now))) ∷ (sliceVal (state .ptr) (length (state .now))) ∷ []) _ $
+        ((sliceVal (rows .ptr) (length (rows .now))) ∷ (sliceVal (pos .ptr) (length (pos .now))) ∷ (sliceVal (osp .ptr) (length (osp .now))) ∷ vint w32
+        survey ∷ (sliceVal (x .ptr) (length (x .now))) ∷ vint w64 given ∷ (sliceVal (x′ .ptr) (length (x′ .now))) ∷ vint w64 kept ∷ vint w32
+        owner ∷ vint w64 allowance ∷ (sliceVal (plan .ptr) (length (plan .now))) ∷ (sliceVal (state .ptr) (length (state .now))) ∷ []) _ $
         alloc1 ! (λ l₀. alloc1
         ! (λ l₁. alloc1
         ! (λ l₂. alloc1
@@ -329,14 +351,15 @@ module _ {M : Type 1} (𝓤 : URA M) (H : Heap 𝓤) (A : Atoms 𝓤) (W : Given
         ! (λ l₁₄. alloc1
         ! (λ l₁₅. alloc1
         ! (λ l₁₆. alloc1
-        ! (λ l₁₇. alloc1 ! (λ l₁₈. alloc1 ! (λ l₁₉. alloc1 ! (λ l₂₀. alloc1 ! (λ l₂₁. alloc1 ! (λ l₂₂. alloc0 ! $ params1 ! $
-        pass1 ! (init ! 42 refl (tt, (tt, (record { fits = r₀ }, tt)))) $ pass1 ! (init ! 40 refl (tt, (tt, (record { fits = r₁ }, tt)))) $
-        pass1 ! (init ! 38 refl (tt, (tt, (record { fits = r₂ }, tt)))) $ pass1 ! (init ! 36 refl (tt, (tt, (record { fits = room .0 }, tt)))) $
-        pass1 ! (init ! 34 refl (tt, record { fits = given-fits })) $ pass1 ! (init ! 32 refl (tt, (tt, (record { fits = room′ .0 }, tt)))) $
-        pass1 ! (init ! 30 refl (tt, record { fits = kept-fits })) $ pass1 ! (init ! 28 refl (tt, record { fits = owner-fits })) $
-        pass1 ! (init ! 26 refl (tt, record { fits = allowance-fits })) $ pass1 ! (init ! 24 refl (tt, (tt, (record { fits = r₅ }, tt)))) $
-        pass1 ! (init ! 22 refl (tt, (tt, (record { fits = r₆ }, tt)))) $ pass0 ! $
-        move ! (47 ∷ []) $
+        ! (λ l₁₇. alloc1
+        ! (λ l₁₈. alloc1 ! (λ l₁₉. alloc1 ! (λ l₂₀. alloc1 ! (λ l₂₁. alloc1 ! (λ l₂₂. alloc1 ! (λ l₂₃. alloc0 ! $ params1 ! $
+        pass1 ! (init ! 44 refl (tt, (tt, (record { fits = r₀ }, tt)))) $ pass1 ! (init ! 42 refl (tt, (tt, (record { fits = r₁ }, tt)))) $
+        pass1 ! (init ! 40 refl (tt, (tt, (record { fits = r₂ }, tt)))) $ pass1 ! (init ! 38 refl (tt, record { fits = survey-fits })) $
+        pass1 ! (init ! 36 refl (tt, (tt, (record { fits = room .0 }, tt)))) $ pass1 ! (init ! 34 refl (tt, record { fits = given-fits })) $
+        pass1 ! (init ! 32 refl (tt, (tt, (record { fits = room′ .0 }, tt)))) $ pass1 ! (init ! 30 refl (tt, record { fits = kept-fits })) $
+        pass1 ! (init ! 28 refl (tt, record { fits = owner-fits })) $ pass1 ! (init ! 26 refl (tt, record { fits = allowance-fits })) $
+        pass1 ! (init ! 24 refl (tt, (tt, (record { fits = r₅ }, tt)))) $ pass1 ! (init ! 22 refl (tt, (tt, (record { fits = r₆ }, tt)))) $ pass0 ! $
+        move ! (49 ∷ []) $
         fsplit ! $
         move ! (1 ∷ []) $
         fsplit ! $
@@ -358,7 +381,9 @@ module _ {M : Type 1} (𝓤 : URA M) (H : Heap 𝓤) (A : Atoms 𝓤) (W : Given
         fsplit ! $
         move ! (1 ∷ []) $
         fsplit ! $
-        move ! (58 ∷ []) $
+        move ! (1 ∷ []) $
+        fsplit ! $
+        move ! (61 ∷ []) $
         split ! $
         move ! (1 ∷ []) $
         split ! $
@@ -372,9 +397,9 @@ module _ {M : Type 1} (𝓤 : URA M) (H : Heap 𝓤) (A : Atoms 𝓤) (W : Given
         split ! $
         move ! (1 ∷ []) $
         split ! $
-        keep ! (19 ∷ 7 ∷ 18 ∷ 6 ∷ 17 ∷ 5 ∷ 16 ∷ 4 ∷ 14 ∷ 3 ∷ 10 ∷ 2 ∷ 8 ∷ 0 ∷ 20 ∷ 21 ∷ 22 ∷ 23 ∷ 24 ∷ 25 ∷ 26 ∷ 27
-        ∷ 28 ∷ 29 ∷ 30 ∷ 31 ∷ 32 ∷ 33 ∷ 34 ∷ 35 ∷ 36 ∷ 37 ∷ 38 ∷ 39 ∷ 40 ∷ 41 ∷ 42 ∷ 43 ∷ 44 ∷ 45 ∷ 46 ∷ 47 ∷ 48 ∷
-        49 ∷ 50 ∷ 51 ∷ 52 ∷ 53 ∷ 54 ∷ 55 ∷ 56 ∷ 57 ∷ 58 ∷ 59 ∷ 60 ∷ 61 ∷ 62 ∷ 63 ∷ 64 ∷ 65 ∷ []) $
+        keep ! (20 ∷ 7 ∷ 19 ∷ 6 ∷ 18 ∷ 5 ∷ 16 ∷ 4 ∷ 14 ∷ 3 ∷ 10 ∷ 2 ∷ 8 ∷ 0 ∷ 21 ∷ 22 ∷ 23 ∷ 24 ∷ 25 ∷ 26 ∷ 27 ∷ 28
+        ∷ 29 ∷ 30 ∷ 31 ∷ 32 ∷ 33 ∷ 34 ∷ 35 ∷ 36 ∷ 37 ∷ 38 ∷ 39 ∷ 40 ∷ 41 ∷ 42 ∷ 43 ∷ 44 ∷ 45 ∷ 46 ∷ 47 ∷ 48 ∷ 49 ∷
+        50 ∷ 51 ∷ 52 ∷ 53 ∷ 54 ∷ 55 ∷ 56 ∷ 57 ∷ 58 ∷ 59 ∷ 60 ∷ 61 ∷ 62 ∷ 63 ∷ 64 ∷ 65 ∷ 66 ∷ 67 ∷ 68 ∷ []) $
         assigns ! (addr ! (from ! (fld ! refl (hop ! (look-in ! 50 (sub ! 0 refl (whole !))) (stop !))))) (from ! (stop !)) (init ! 30 refl (tt, tt)) $
         assigns ! (agg
         ! (and-then ! (load ! (from ! (stop !)) (look ! 30 refl))
@@ -422,7 +447,7 @@ module _ {M : Type 1} (𝓤 : URA M) (H : Heap 𝓤) (A : Atoms 𝓤) (W : Given
         heard ! (SeenOf (lentAs (x .now) given (x′ .now) kept) owner seen) (λ is. split ! $ move ! (1 ∷ []) $
         peeks ! S.the-row (Is S.the-row) (shows 𝓤 H A S.the-row) seen (w₁ ∷ []) (λ g₁.
         land ! (from ! (stop !)) (init ! 34 refl (LL.lawful S.the-type S′.the-laws 𝓤 H A W .typed seen (w₁ ∷ []) g₁ .0)) $
-        rewrite ! 34 (λ (u : Val). ‵ (fat fullShare S′.mir l₁₂ 0 u)) (ap only (LL.tells S.the-type S′.the-laws seen (w₁ ∷ []) g₁)) refl $
+        rewrite ! 34 (λ (u : Val). ‵ (fat fullShare S′.mir l₁₃ 0 u)) (ap only (LL.tells S.the-type S′.the-laws seen (w₁ ∷ []) g₁)) refl $
         drop ! $
         split ! $
         lft-end ! tt $
@@ -479,11 +504,12 @@ module _ {M : Type 1} (𝓤 : URA M) (H : Heap 𝓤) (A : Atoms 𝓤) (W : Given
         join ! $
         use1 W (raw
         (Joins 𝓤 H A mem run .pre
-        (to-join 𝓤 H A mem run κ₀ κ₁ κ₂ κ₅ κ₆ q₀ q₁ q₂ q₅ q₆ rows pos osp seen given kept owner allowance plan state)))
-        (goes-join 𝓤 H A mem run W κ₀ κ₁ κ₂ κ₅ κ₆ q₀ q₁ q₂ q₅ q₆ rows pos osp seen given kept owner allowance plan state
-        (told-seen seen g₁) given-fits kept-fits owner-fits allowance-fits) $
+        (to-join 𝓤 H A mem run κ₀ κ₁ κ₂ κ₅ κ₆ q₀ q₁ q₂ q₅ q₆ rows pos osp survey seen given kept owner allowance plan state)))
+        (goes-join 𝓤 H A mem run W κ₀ κ₁ κ₂ κ₅ κ₆ q₀ q₁ q₂ q₅ q₆ rows pos osp survey seen given kept owner allowance plan state
+        (told-seen seen g₁) given-fits kept-fits owner-fits allowance-fits survey-fits) $
         calls-at ! fm (Joins 𝓤 H A mem run) known-joins
-        (to-join 𝓤 H A mem run κ₀ κ₁ κ₂ κ₅ κ₆ q₀ q₁ q₂ q₅ q₆ rows pos osp seen given kept owner allowance plan state)
+        (to-join 𝓤 H A mem run κ₀ κ₁ κ₂ κ₅ κ₆ q₀ q₁ q₂ q₅ q₆ rows pos osp survey seen given kept owner allowance plan state)
+        (and-then ! (load ! (from ! (stop !)) (look ! 54 refl))
         (and-then ! (load ! (from ! (stop !)) (look ! 52 refl))
         (and-then ! (load ! (from ! (stop !)) (look ! 50 refl))
         (and-then ! (load ! (from ! (stop !)) (look ! 48 refl))
@@ -492,21 +518,21 @@ module _ {M : Type 1} (𝓤 : URA M) (H : Heap 𝓤) (A : Atoms 𝓤) (W : Given
         (and-then ! (load ! (from ! (stop !)) (look ! 40 refl))
         (and-then ! (load ! (from ! (stop !)) (look ! 38 refl))
         (and-then ! (load ! (from ! (stop !)) (look ! 36 refl))
-        (and-then ! (load ! (from ! (stop !)) (look ! 34 refl)) (and-then ! (load ! (from ! (stop !)) (look ! 32 refl)) (no-more !))))))))))) (λ w₃.
+        (and-then ! (load ! (from ! (stop !)) (look ! 34 refl)) (and-then ! (load ! (from ! (stop !)) (look ! 32 refl)) (no-more !)))))))))))) (λ w₃.
         use1 W (later
         (some (λ (r : Queueing).
         ((‵ (flft κ₀ q₀) ⊛ ‵ (flft κ₁ q₁) ⊛ ‵ (flft κ₂ q₂) ⊛ ‵ (flft κ₅ q₅) ⊛ ‵ (flft κ₆ q₆) ⊛ ‵ ftrue) ⊛
         ‵ (D.the-row .own r (w₃ ∷ []))) ⊛ raw
         (ensured 𝓤 H A joins.ended (joins.clauses 𝓤 H A mem run) (κ₀, (κ₁, (κ₂, (κ₅, (κ₆, tt)))))
-        (rows, (pos, (osp, (seen, (given, (kept, (owner, (allowance, (plan, (state, tt)))))))))) tt r)))) (id⊢ 𝓤 _) $
+        (rows, (pos, (osp, (survey, (seen, (given, (kept, (owner, (allowance, (plan, (state, tt))))))))))) tt r)))) (id⊢ 𝓤 _) $
         await ! tt $
         pick ! (λ d. split ! $ move ! (1 ∷ []) $
-        use1 W (raw (fact 𝓤 (Told 𝓤 H A mem run rows pos osp seen given kept owner allowance plan state d)))
-        (join-of 𝓤 H A mem run κ₀ κ₁ κ₂ κ₅ κ₆ rows pos osp seen given kept owner allowance plan state d) $
-        heard ! (Told 𝓤 H A mem run rows pos osp seen given kept owner allowance plan state d) (λ told. split ! $ move ! (1 ∷ []) $
+        use1 W (raw (fact 𝓤 (Told 𝓤 H A mem run rows pos osp survey seen given kept owner allowance plan state d)))
+        (join-of 𝓤 H A mem run κ₀ κ₁ κ₂ κ₅ κ₆ rows pos osp survey seen given kept owner allowance plan state d) $
+        heard ! (Told 𝓤 H A mem run rows pos osp survey seen given kept owner allowance plan state d) (λ told. split ! $ move ! (1 ∷ []) $
         peeks ! D.the-row (Is D.the-row) (shows 𝓤 H A D.the-row) d (w₃ ∷ []) (λ g₃.
         land ! (from ! (stop !)) (init ! 29 refl (LL.lawful D.the-type D′.the-laws 𝓤 H A W .typed d (w₃ ∷ []) g₃ .0)) $
-        rewrite ! 29 (λ (u : Val). ‵ (fat fullShare D′.mir l₁₃ 0 u)) (ap only (LL.tells D.the-type D′.the-laws d (w₃ ∷ []) g₃)) refl $
+        rewrite ! 29 (λ (u : Val). ‵ (fat fullShare D′.mir l₁₄ 0 u)) (ap only (LL.tells D.the-type D′.the-laws d (w₃ ∷ []) g₃)) refl $
         drop ! $
         split ! $
         move ! (1 ∷ []) $
@@ -590,24 +616,24 @@ module _ {M : Type 1} (𝓤 : URA M) (H : Heap 𝓤) (A : Atoms 𝓤) (W : Given
         move ! (2 ∷ []) $
         drop ! $
         assigns ! (of-opd ! (load ! (from ! (fld ! refl (stop !))) (look-in ! 32 (sub ! 0 refl (whole !))))) (from ! (stop !))
-        (init ! 58 refl
+        (init ! 60 refl
         (EL.lawful Q.the-type Q′.the-laws 𝓤 H A W tt .typed (d .answer) (EL.vals Q.the-type Q′.the-laws (d .answer)) (answer-in d (told-d d g₃)) .0))
         $
-        returns ! (look ! 58 refl) $ forget ! 14 refl $ forget ! 16 refl $ forget ! 18 refl $ forget ! 20 refl $ forget ! 22 refl $ forget ! 24 refl $
+        returns ! (look ! 60 refl) $ forget ! 14 refl $ forget ! 16 refl $ forget ! 18 refl $ forget ! 20 refl $ forget ! 22 refl $ forget ! 24 refl $
         forget ! 26 refl $ forget ! 28 refl $ forget ! 30 refl $ forget ! 32 refl $ forget ! 34 refl $ forget ! 36 refl $ forget ! 38 refl $
         forget ! 40 refl $ forget ! 42 refl $ forget ! 44 refl $ forget ! 46 refl $ forget ! 48 refl $ forget ! 50 refl $ forget ! 52 refl $
-        forget ! 54 refl $ forget ! 56 refl $ forget ! 58 refl $
-        move ! (58 ∷ 59 ∷ []) $ free1 ! $ move ! (56 ∷ 57 ∷ []) $ free1 ! $ move ! (54 ∷ 55 ∷ []) $ free1 ! $ move ! (52 ∷ 53 ∷ []) $
-        free1 ! $ move ! (50 ∷ 51 ∷ []) $ free1 ! $ move ! (48 ∷ 49 ∷ []) $ free1 ! $ move ! (46 ∷ 47 ∷ []) $ free1 ! $
-        move ! (44 ∷ 45 ∷ []) $ free1 ! $ move ! (42 ∷ 43 ∷ []) $ free1 ! $ move ! (40 ∷ 41 ∷ []) $ free1 ! $ move ! (38 ∷ 39 ∷ []) $
-        free1 ! $ move ! (36 ∷ 37 ∷ []) $ free1 ! $ move ! (34 ∷ 35 ∷ []) $ free1 ! $ move ! (32 ∷ 33 ∷ []) $ free1 ! $
-        move ! (30 ∷ 31 ∷ []) $ free1 ! $ move ! (28 ∷ 29 ∷ []) $ free1 ! $ move ! (26 ∷ 27 ∷ []) $ free1 ! $ move ! (24 ∷ 25 ∷ []) $
-        free1 ! $ move ! (22 ∷ 23 ∷ []) $ free1 ! $ move ! (20 ∷ 21 ∷ []) $ free1 ! $ move ! (18 ∷ 19 ∷ []) $ free1 ! $
-        move ! (16 ∷ 17 ∷ []) $ free1 ! $ move ! (14 ∷ 15 ∷ []) $ free1 ! $ free0 ! $
+        forget ! 54 refl $ forget ! 56 refl $ forget ! 58 refl $ forget ! 60 refl $
+        move ! (60 ∷ 61 ∷ []) $ free1 ! $ move ! (58 ∷ 59 ∷ []) $ free1 ! $ move ! (56 ∷ 57 ∷ []) $ free1 ! $ move ! (54 ∷ 55 ∷ []) $
+        free1 ! $ move ! (52 ∷ 53 ∷ []) $ free1 ! $ move ! (50 ∷ 51 ∷ []) $ free1 ! $ move ! (48 ∷ 49 ∷ []) $ free1 ! $
+        move ! (46 ∷ 47 ∷ []) $ free1 ! $ move ! (44 ∷ 45 ∷ []) $ free1 ! $ move ! (42 ∷ 43 ∷ []) $ free1 ! $ move ! (40 ∷ 41 ∷ []) $
+        free1 ! $ move ! (38 ∷ 39 ∷ []) $ free1 ! $ move ! (36 ∷ 37 ∷ []) $ free1 ! $ move ! (34 ∷ 35 ∷ []) $ free1 ! $
+        move ! (32 ∷ 33 ∷ []) $ free1 ! $ move ! (30 ∷ 31 ∷ []) $ free1 ! $ move ! (28 ∷ 29 ∷ []) $ free1 ! $ move ! (26 ∷ 27 ∷ []) $
+        free1 ! $ move ! (24 ∷ 25 ∷ []) $ free1 ! $ move ! (22 ∷ 23 ∷ []) $ free1 ! $ move ! (20 ∷ 21 ∷ []) $ free1 ! $
+        move ! (18 ∷ 19 ∷ []) $ free1 ! $ move ! (16 ∷ 17 ∷ []) $ free1 ! $ move ! (14 ∷ 15 ∷ []) $ free1 ! $ free0 ! $
         keep ! (8 ∷ 7 ∷ 6 ∷ 2 ∷ 0 ∷ 5 ∷ 4 ∷ 13 ∷ 12 ∷ 11 ∷ 3 ∷ 1 ∷ 10 ∷ 9 ∷ []) $
         by ! (exits d (vs₄ .0) (vs₅ .0) (told-d d g₃) len₄ len₅
         ((λ i. record { answer = d .answer; line = e₄ i; aside = e₅ i })
-        ∙ told (x .now) (x′ .now) is .result)))))))))))))))))))))))))))))))))))))))))))))))))
+        ∙ told (x .now) (x′ .now) is .result))))))))))))))))))))))))))))))))))))))))))))))))))
       where
         told-seen : (seen : Seen) {w : Val} → Is S.the-row seen (w ∷ []) → Is S.the-row seen (LL.vals S.the-type S′.the-laws seen)
         told-seen seen {w} g = subst (Is S.the-row seen) (LL.tells S.the-type S′.the-laws seen (w ∷ []) g) g
@@ -625,7 +651,10 @@ module _ {M : Type 1} (𝓤 : URA M) (H : Heap 𝓤) (A : Atoms 𝓤) (W : Given
         slice-vals,
         (
           slice-vals,
-          (slice-vals, (slice-vals, (uint-vals w64, (slice-vals, (uint-vals w64, (uint-vals w32, (uint-vals w64, (slice-vals, (slice-vals, tt))))))))),
+          (
+            slice-vals,
+            (uint-vals w32, (slice-vals, (uint-vals w64, (slice-vals, (uint-vals w64, (uint-vals w32, (uint-vals w64, (slice-vals, (slice-vals, tt))))))))),
+          ),
         ),
       ))
       (λ κs. (
@@ -635,16 +664,25 @@ module _ {M : Type 1} (𝓤 : URA M) (H : Heap 𝓤) (A : Atoms 𝓤) (W : Given
           (
             shr-slice-tells (named 2) (κs .1 .1 .0) u32,
             (
-              mut-slice-tells (named 3) (κs .1 .1 .1 .0) T.the-row,
+              uint-tells w32,
               (
-                uint-tells w64,
+                mut-slice-tells (named 3) (κs .1 .1 .1 .0) T.the-row,
                 (
-                  mut-slice-tells (named 4) (κs .1 .1 .1 .1 .0) T.the-row,
+                  uint-tells w64,
                   (
-                    uint-tells w64,
+                    mut-slice-tells (named 4) (κs .1 .1 .1 .1 .0) T.the-row,
                     (
-                      uint-tells w32,
-                      (uint-tells w64, (shr-slice-tells (named 5) (κs .1 .1 .1 .1 .1 .0) u32, (shr-slice-tells (named 6) (κs .1 .1 .1 .1 .1 .1 .0) u32, tt))),
+                      uint-tells w64,
+                      (
+                        uint-tells w32,
+                        (
+                          uint-tells w64,
+                          (
+                            shr-slice-tells (named 5) (κs .1 .1 .1 .1 .1 .0) u32,
+                            (shr-slice-tells (named 6) (κs .1 .1 .1 .1 .1 .1 .0) u32, tt),
+                          ),
+                        ),
+                      ),
                     ),
                   ),
                 ),
@@ -657,10 +695,10 @@ module _ {M : Type 1} (𝓤 : URA M) (H : Heap 𝓤) (A : Atoms 𝓤) (W : Given
       walk 𝓤 H A W mem run (κs .0) (κs .1 .0) (κs .1 .1 .0) (κs .1 .1 .1 .0) (κs .1 .1 .1 .1 .0) (κs .1 .1 .1 .1 .1 .0) (κs .1 .1 .1 .1 .1 .1 .0)
       (qs .0) (qs .1 .0) (qs .1 .1 .0) (qs .1 .1 .1 .0) (qs .1 .1 .1 .1 .0) (qs .1 .1 .1 .1 .1 .0) (qs .1 .1 .1 .1 .1 .1 .0) (a .0) (a .1 .0) (a .1 .1 .0)
       (a .1 .1 .1 .0) (a .1 .1 .1 .1 .0) (a .1 .1 .1 .1 .1 .0) (a .1 .1 .1 .1 .1 .1 .0) (a .1 .1 .1 .1 .1 .1 .1 .0) (a .1 .1 .1 .1 .1 .1 .1 .1 .0)
-      (a .1 .1 .1 .1 .1 .1 .1 .1 .1 .0) (a .1 .1 .1 .1 .1 .1 .1 .1 .1 .1 .0) (are .1 .1 .1 .0 .0 .1) (are .1 .1 .1 .1 .1 .0 .0 .1) (are .1 .1 .1 .1 .0 .1)
-      (are .1 .1 .1 .1 .1 .1 .0 .1) (are .1 .1 .1 .1 .1 .1 .1 .0 .1) (are .1 .1 .1 .1 .1 .1 .1 .1 .0 .1) C Λ fm known-looks known-puts known-joins
-      (are .0 .0 .1 .0) (are .1 .0 .0 .1 .0) (are .1 .1 .0 .0 .1 .0) (are .1 .1 .1 .1 .1 .1 .1 .1 .1 .0 .0 .1 .0)
-      (are .1 .1 .1 .1 .1 .1 .1 .1 .1 .1 .0 .0 .1 .0)))
+      (a .1 .1 .1 .1 .1 .1 .1 .1 .1 .0) (a .1 .1 .1 .1 .1 .1 .1 .1 .1 .1 .0) (a .1 .1 .1 .1 .1 .1 .1 .1 .1 .1 .1 .0) (are .1 .1 .1 .1 .0 .0 .1)
+      (are .1 .1 .1 .1 .1 .1 .0 .0 .1) (are .1 .1 .1 .1 .1 .0 .1) (are .1 .1 .1 .1 .1 .1 .1 .0 .1) (are .1 .1 .1 .1 .1 .1 .1 .1 .0 .1)
+      (are .1 .1 .1 .1 .1 .1 .1 .1 .1 .0 .1) (are .1 .1 .1 .0 .1) C Λ fm known-looks known-puts known-joins (are .0 .0 .1 .0) (are .1 .0 .0 .1 .0)
+      (are .1 .1 .0 .0 .1 .0) (are .1 .1 .1 .1 .1 .1 .1 .1 .1 .1 .0 .0 .1 .0) (are .1 .1 .1 .1 .1 .1 .1 .1 .1 .1 .1 .0 .0 .1 .0)))
 
 join-meets : {M : Type 1} (𝓤 : URA M) (H : Heap 𝓤) (A : Atoms 𝓤) → Given 𝓤 H A
     → (mem : Memory → SProp 𝓤) (run : Routine → Fun 𝓤) (𝓣 : Tables 𝓤 H)
@@ -675,20 +713,23 @@ join-meets 𝓤 H A W mem run 𝓣 known-looks known-puts known-joins =
         (
           goes-none-slice 𝓤 H A W 7 (2 ∷ []) tt (plain (λ _. u32)) yes,
           (
-            goes-gave-slice 𝓤 H A W 7 3 tt (plain (λ _. T.the-row)),
+            goes-none 𝓤 H A W 7 (λ _. u32) yes (λ κs x f. refl),
             (
-              goes-none 𝓤 H A W 7 (λ _. usize) yes (λ κs x f. refl),
+              goes-gave-slice 𝓤 H A W 7 3 tt (plain (λ _. T.the-row)),
               (
-                goes-gave-slice 𝓤 H A W 7 4 tt (plain (λ _. T.the-row)),
+                goes-none 𝓤 H A W 7 (λ _. usize) yes (λ κs x f. refl),
                 (
-                  goes-none 𝓤 H A W 7 (λ _. usize) yes (λ κs x f. refl),
+                  goes-gave-slice 𝓤 H A W 7 4 tt (plain (λ _. T.the-row)),
                   (
-                    goes-none 𝓤 H A W 7 (λ _. u32) yes (λ κs x f. refl),
+                    goes-none 𝓤 H A W 7 (λ _. usize) yes (λ κs x f. refl),
                     (
-                      goes-none 𝓤 H A W 7 (λ _. u64) yes (λ κs x f. refl),
+                      goes-none 𝓤 H A W 7 (λ _. u32) yes (λ κs x f. refl),
                       (
-                        goes-none-slice 𝓤 H A W 7 (5 ∷ []) tt (plain (λ _. u32)) yes,
-                        (goes-none-slice 𝓤 H A W 7 (6 ∷ []) tt (plain (λ _. u32)) yes, tt),
+                        goes-none 𝓤 H A W 7 (λ _. u64) yes (λ κs x f. refl),
+                        (
+                          goes-none-slice 𝓤 H A W 7 (5 ∷ []) tt (plain (λ _. u32)) yes,
+                          (goes-none-slice 𝓤 H A W 7 (6 ∷ []) tt (plain (λ _. u32)) yes, tt),
+                        ),
                       ),
                     ),
                   ),

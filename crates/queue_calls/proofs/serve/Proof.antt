@@ -47,7 +47,7 @@ use denote.Signature.{plain}
 use Rattle.queues.specs.declared.Entry.{Entry}
 use Rattle.queues.proofs.Entry as T
 use Rattle.queues.proofs.Entry.Laws as T′
-use Rattle.tables.specs.Tables.{tablesOf as lent-tables}
+use Rattle.turns.specs.Surveys.{surveyOf as lent-survey}
 use Rattle.queues.specs.Lists.{lentAs}
 use Rattle.queues.specs.Serving.{ServeResult, serveOf}
 use Rattle.queues.proofs.Service as Y
@@ -95,16 +95,19 @@ stayed = (
     (
       stay-none-slice (2 ∷ []) tt (plain (λ _. u32)) yes,
       (
-        gave-slice (3 ∷ []) tt (plain (λ _. T.the-row)),
+        stay-none (λ _. u32) yes,
         (
-          stay-none (λ _. usize) yes,
+          gave-slice (3 ∷ []) tt (plain (λ _. T.the-row)),
           (
-            gave-slice (4 ∷ []) tt (plain (λ _. T.the-row)),
+            stay-none (λ _. usize) yes,
             (
-              stay-none (λ _. usize) yes,
+              gave-slice (4 ∷ []) tt (plain (λ _. T.the-row)),
               (
-                stay-none (λ _. u32) yes,
-                (stay-none-slice (5 ∷ []) tt (plain (λ _. u32)) yes, (gave-slice (6 ∷ []) tt (plain (λ _. u32)), tt)),
+                stay-none (λ _. usize) yes,
+                (
+                  stay-none (λ _. u32) yes,
+                  (stay-none-slice (5 ∷ []) tt (plain (λ _. u32)) yes, (gave-slice (6 ∷ []) tt (plain (λ _. u32)), tt)),
+                ),
               ),
             ),
           ),
@@ -119,14 +122,14 @@ module _ {M : Type 1} (𝓤 : URA M) (H : Heap 𝓤) (A : Atoms 𝓤) (mem : Mem
   abbrev Serve : Contract 𝓤
   Serve = tripleOf 𝓤 H A serves.signature (serves.spec 𝓤 H A mem run)
 
-  abbrev to-serve : (κ₀ κ₁ κ₂ κ₅ κ₆ : Lft) (q₀ q₁ q₂ q₅ q₆ : Share) (rows pos osp : RefT (List ℕ)) (seen : Seen) (given kept : ℕ)
-      (e : Entry) (quantum : ℕ) (threshold output : RefT (List ℕ)) → Serve .Ghost
-  to-serve κ₀ κ₁ κ₂ κ₅ κ₆ q₀ q₁ q₂ q₅ q₆ rows pos osp seen given kept e quantum threshold output = (
+  abbrev to-serve : (κ₀ κ₁ κ₂ κ₅ κ₆ : Lft) (q₀ q₁ q₂ q₅ q₆ : Share) (rows pos osp : RefT (List ℕ)) (survey : ℕ) (seen : Seen)
+      (given kept : ℕ) (e : Entry) (quantum : ℕ) (threshold output : RefT (List ℕ)) → Serve .Ghost
+  to-serve κ₀ κ₁ κ₂ κ₅ κ₆ q₀ q₁ q₂ q₅ q₆ rows pos osp survey seen given kept e quantum threshold output = (
     (
       (κ₀, (κ₁, (κ₂, (κ₅, (κ₆, tt))))),
       (q₀, (q₁, (q₂, (q₅, (q₆, tt))))),
       tt,
-      (rows, (pos, (osp, (seen, (given, (kept, (e, (quantum, (threshold, (output, tt)))))))))),
+      (rows, (pos, (osp, (survey, (seen, (given, (kept, (e, (quantum, (threshold, (output, tt))))))))))),
       (
         (sliceVal (rows .ptr) (length (rows .now))) ∷ [],
         (
@@ -134,16 +137,19 @@ module _ {M : Type 1} (𝓤 : URA M) (H : Heap 𝓤) (A : Atoms 𝓤) (mem : Mem
           (
             (sliceVal (osp .ptr) (length (osp .now))) ∷ [],
             (
-              LL.vals S.the-type S′.the-laws seen,
+              vint w32 survey ∷ [],
               (
-                vint w64 given ∷ [],
+                LL.vals S.the-type S′.the-laws seen,
                 (
-                  vint w64 kept ∷ [],
+                  vint w64 given ∷ [],
                   (
-                    entry-vals e,
+                    vint w64 kept ∷ [],
                     (
-                      vint w32 quantum ∷ [],
-                      ((sliceVal (threshold .ptr) (length (threshold .now))) ∷ [], ((sliceVal (output .ptr) (length (output .now))) ∷ [], tt)),
+                      entry-vals e,
+                      (
+                        vint w32 quantum ∷ [],
+                        ((sliceVal (threshold .ptr) (length (threshold .now))) ∷ [], ((sliceVal (output .ptr) (length (output .now))) ∷ [], tt)),
+                      ),
                     ),
                   ),
                 ),
@@ -156,17 +162,18 @@ module _ {M : Type 1} (𝓤 : URA M) (H : Heap 𝓤) (A : Atoms 𝓤) (mem : Mem
     tt,
   )
 
-  abbrev Told : (rows pos osp : RefT (List ℕ)) (seen : Seen) (given kept : ℕ) (e : Entry) (quantum : ℕ) (threshold output : RefT (List ℕ))
-      → ServeChanges → List ℕ → Type 0
-  Told rows pos osp seen given kept e quantum threshold output d written =
+  abbrev Told : (rows pos osp : RefT (List ℕ)) (survey : ℕ) (seen : Seen) (given kept : ℕ) (e : Entry) (quantum : ℕ)
+      (threshold output : RefT (List ℕ)) → ServeChanges → List ℕ → Type 0
+  Told rows pos osp survey seen given kept e quantum threshold output d written =
       (line aside : List Entry) → SeenOf (lentAs line given aside kept) 0 seen → e ≡ getD line 0 nobody
       → Settles (lentAs line given aside kept) d written
-      (serveOf (lent-tables (rows .now) (pos .now) (osp .now)) (lentAs line given aside kept)
+      (serveOf (lent-survey (rows .now) (pos .now) (osp .now) survey) (lentAs line given aside kept)
       (record { quantum = quantum; threshold = threshold .now; output = output .now }))
 
-  goes-serve : (W : Given 𝓤 H A) (κ₀ κ₁ κ₂ κ₅ κ₆ : Lft) (q₀ q₁ q₂ q₅ q₆ : Share) (rows pos osp : RefT (List ℕ)) (seen : Seen)
-      (given kept : ℕ) (e : Entry) (quantum : ℕ) (threshold output : RefT (List ℕ)) → Is S.the-row seen (LL.vals S.the-type S′.the-laws seen)
-      → given < 2 ^ 64 → kept < 2 ^ 64 → Is T.the-row e (entry-vals e) → quantum < 2 ^ 32
+  goes-serve : (W : Given 𝓤 H A) (κ₀ κ₁ κ₂ κ₅ κ₆ : Lft) (q₀ q₁ q₂ q₅ q₆ : Share) (rows pos osp : RefT (List ℕ)) (survey : ℕ)
+      (seen : Seen) (given kept : ℕ) (e : Entry) (quantum : ℕ) (threshold output : RefT (List ℕ))
+      → Is S.the-row seen (LL.vals S.the-type S′.the-laws seen) → given < 2 ^ 64 → kept < 2 ^ 64 → Is T.the-row e (entry-vals e)
+      → quantum < 2 ^ 32 → survey < 2 ^ 32
       → seen .waiting ≤ given
       → ent 𝓤 (sep 𝓤 (sem 𝓤 H A (flft κ₀ q₀))
       (sep 𝓤 (sem 𝓤 H A (flft κ₁ q₁))
@@ -178,8 +185,8 @@ module _ {M : Type 1} (𝓤 : URA M) (H : Heap 𝓤) (A : Atoms 𝓤) (mem : Mem
       (sep 𝓤 (sem 𝓤 H A (ShrSlice (named 2) κ₂ u32 .own osp ((sliceVal (osp .ptr) (length (osp .now))) ∷ [])))
       (sep 𝓤 (sem 𝓤 H A (ShrSlice (named 3) κ₅ u32 .own threshold ((sliceVal (threshold .ptr) (length (threshold .now))) ∷ [])))
       (sem 𝓤 H A (MutSlice (named 4) κ₆ u32 .own output ((sliceVal (output .ptr) (length (output .now))) ∷ []))))))))))))
-      (Serve .pre (to-serve κ₀ κ₁ κ₂ κ₅ κ₆ q₀ q₁ q₂ q₅ q₆ rows pos osp seen given kept e quantum threshold output))
-  goes-serve W κ₀ κ₁ κ₂ κ₅ κ₆ q₀ q₁ q₂ q₅ q₆ rows pos osp seen given kept e quantum threshold output gs gg gk ge gq within =
+      (Serve .pre (to-serve κ₀ κ₁ κ₂ κ₅ κ₆ q₀ q₁ q₂ q₅ q₆ rows pos osp survey seen given kept e quantum threshold output))
+  goes-serve W κ₀ κ₁ κ₂ κ₅ κ₆ q₀ q₁ q₂ q₅ q₆ rows pos osp survey seen given kept e quantum threshold output gs gg gk ge gq gv within =
       qed W ((‵ (flft κ₀ q₀) ⊛
       (‵ (flft κ₁ q₁) ⊛
       (‵ (flft κ₂ q₂) ⊛
@@ -197,14 +204,16 @@ module _ {M : Type 1} (𝓤 : URA M) (H : Heap 𝓤) (A : Atoms 𝓤) (mem : Mem
       fjoin ! $ owned ! T.the-row (Is T.the-row) ((LL.makes T.the-type T′.the-plain) 𝓤 H A) e _ ge $ fjoin ! $
       owned ! usize (Is usize) (uint-makes 𝓤 H A W w64) kept _ (refl, gk) $ fjoin ! $
       owned ! usize (Is usize) (uint-makes 𝓤 H A W w64) given _ (refl, gg) $ fjoin ! $
-      owned ! S.the-row (Is S.the-row) ((LL.makes S.the-type S′.the-plain) 𝓤 H A) seen _ gs $ fjoin ! $ move ! (2 ∷ 0 ∷ []) $ fjoin ! $
-      move ! (2 ∷ 0 ∷ []) $ fjoin ! $ move ! (2 ∷ 0 ∷ []) $ fjoin ! $ move ! (1 ∷ 0 ∷ []) $ frame ! $ done !
+      owned ! S.the-row (Is S.the-row) ((LL.makes S.the-type S′.the-plain) 𝓤 H A) seen _ gs $ fjoin ! $
+      owned ! u32 (Is u32) (uint-makes 𝓤 H A W w32) survey _ (refl, gv) $ fjoin ! $ move ! (2 ∷ 0 ∷ []) $ fjoin ! $ move ! (2 ∷ 0 ∷ []) $ fjoin ! $
+      move ! (2 ∷ 0 ∷ []) $ fjoin ! $ move ! (1 ∷ 0 ∷ []) $ frame ! $ done !
 
 module _ {M : Type 1} (𝓤 : URA M) (H : Heap 𝓤) (A : Atoms 𝓤) (W : Given 𝓤 H A) (mem : Memory → SProp 𝓤) (run : Routine → Fun 𝓤)
     (κ₀ κ₁ κ₂ κ₃ κ₄ κ₅ κ₆ : Lft) (q₀ q₁ q₂ q₃ q₄ q₅ q₆ : Share)
-    (rows pos osp : RefT (List ℕ)) (x : RefT (List Entry)) (given : ℕ) (x′ : RefT (List Entry)) (kept quantum : ℕ) (threshold output : RefT (List ℕ))
+    (rows pos osp : RefT (List ℕ)) (survey : ℕ) (x : RefT (List Entry)) (given : ℕ) (x′ : RefT (List Entry)) (kept quantum : ℕ)
+    (threshold output : RefT (List ℕ))
     (room : Room T.the-row (length (x .now))) (room′ : Room T.the-row (length (x′ .now))) (room″ : Room u32 (length (output .now)))
-    (given-fits : given < 2 ^ 64) (kept-fits : kept < 2 ^ 64) (quantum-fits : quantum < 2 ^ 32) where
+    (given-fits : given < 2 ^ 64) (kept-fits : kept < 2 ^ 64) (quantum-fits : quantum < 2 ^ 32) (survey-fits : survey < 2 ^ 32) where
   abbrev at : Vals f.signature (κ₀, (κ₁, (κ₂, (κ₃, (κ₄, (κ₅, (κ₆, tt)))))))
   at = (
     (sliceVal (rows .ptr) (length (rows .now))) ∷ [],
@@ -213,16 +222,19 @@ module _ {M : Type 1} (𝓤 : URA M) (H : Heap 𝓤) (A : Atoms 𝓤) (W : Given
       (
         (sliceVal (osp .ptr) (length (osp .now))) ∷ [],
         (
-          (sliceVal (x .ptr) (length (x .now))) ∷ [],
+          vint w32 survey ∷ [],
           (
-            vint w64 given ∷ [],
+            (sliceVal (x .ptr) (length (x .now))) ∷ [],
             (
-              (sliceVal (x′ .ptr) (length (x′ .now))) ∷ [],
+              vint w64 given ∷ [],
               (
-                vint w64 kept ∷ [],
+                (sliceVal (x′ .ptr) (length (x′ .now))) ∷ [],
                 (
-                  vint w32 quantum ∷ [],
-                  ((sliceVal (threshold .ptr) (length (threshold .now))) ∷ [], ((sliceVal (output .ptr) (length (output .now))) ∷ [], tt)),
+                  vint w64 kept ∷ [],
+                  (
+                    vint w32 quantum ∷ [],
+                    ((sliceVal (threshold .ptr) (length (threshold .now))) ∷ [], ((sliceVal (output .ptr) (length (output .now))) ∷ [], tt)),
+                  ),
                 ),
               ),
             ),
@@ -238,7 +250,7 @@ module _ {M : Type 1} (𝓤 : URA M) (H : Heap 𝓤) (A : Atoms 𝓤) (W : Given
       (κ₀, (κ₁, (κ₂, (κ₃, (κ₄, (κ₅, (κ₆, tt))))))),
       (q₀, (q₁, (q₂, (q₃, (q₄, (q₅, (q₆, tt))))))),
       tt,
-      (rows, (pos, (osp, (x, (given, (x′, (kept, (quantum, (threshold, (output, tt)))))))))),
+      (rows, (pos, (osp, (survey, (x, (given, (x′, (kept, (quantum, (threshold, (output, tt))))))))))),
       at,
     ),
     tt,
@@ -247,7 +259,7 @@ module _ {M : Type 1} (𝓤 : URA M) (H : Heap 𝓤) (A : Atoms 𝓤) (W : Given
   exits : (d : ServeChanges) (us vs : List Entry) (os : List ℕ) → Is D.the-row d (served-vals d) → length us ≡ length (x .now)
       → length vs ≡ length (x′ .now) → length os ≡ length (output .now)
       → _≡_ {A = ServeResult} (record { answer = d .answer; line = us; aside = vs; output = os })
-      (serveOf (lent-tables (rows .now) (pos .now) (osp .now)) (lentAs (x .now) given (x′ .now) kept)
+      (serveOf (lent-survey (rows .now) (pos .now) (osp .now) survey) (lentAs (x .now) given (x′ .now) kept)
       (record { quantum = quantum; threshold = threshold .now; output = output .now }))
       → ent 𝓤 (⋆ 𝓤 H A
       (‵ (flft κ₀ q₀) ∷ ‵ (flft κ₁ q₁) ∷ ‵ (flft κ₂ q₂) ∷ ‵ (flft κ₃ q₃) ∷ ‵ (flft κ₄ q₄) ∷ ‵
@@ -273,40 +285,42 @@ module _ {M : Type 1} (𝓤 : URA M) (H : Heap 𝓤) (A : Atoms 𝓤) (W : Given
           (κ₀, (κ₁, (κ₂, (κ₃, (κ₄, (κ₅, (κ₆, tt))))))),
           (q₀, (q₁, (q₂, (q₃, (q₄, (q₅, (q₆, tt))))))),
           tt,
-          (rows, (pos, (osp, (x, (given, (x′, (kept, (quantum, (threshold, (output, tt)))))))))),
+          (rows, (pos, (osp, (survey, (x, (given, (x′, (kept, (quantum, (threshold, (output, tt))))))))))),
           at,
         ),
         tt,
-      ) (LL.val Y.the-type Y′.the-laws (d .answer))
-      (d .answer)
-      (tt, (tt, (tt, (us, (tt, (vs, (tt, (tt, (tt, (os, tt)))))))))) (tt, (tt, (tt, (lu, (tt, (lv, (tt, (tt, (tt, (lo, tt))))))))))) $ says ! is $
+      )
+      (LL.val Y.the-type Y′.the-laws (d .answer)) (d .answer)
+      (tt, (tt, (tt, (tt, (us, (tt, (vs, (tt, (tt, (tt, (os, tt))))))))))) (tt, (tt, (tt, (tt, (lu, (tt, (lv, (tt, (tt, (tt, (lo, tt)))))))))))) $ says ! is $
       nothing ! $ move ! (7 ∷ 0 ∷ []) $ join ! $ move ! (6 ∷ 0 ∷ []) $ join ! $ move ! (5 ∷ 0 ∷ []) $ join ! $ move ! (4 ∷ 0 ∷ []) $ join ! $
       move ! (3 ∷ 0 ∷ []) $ join ! $ move ! (2 ∷ 0 ∷ []) $ join ! $ move ! (1 ∷ 0 ∷ []) $ join ! $ nothing ! $ move ! (8 ∷ 0 ∷ []) $ fjoin ! $
       move ! (7 ∷ 0 ∷ []) $ fjoin ! $ owned ! u32 (Is u32) (uint-makes 𝓤 H A W w32) quantum _ (refl, quantum-fits) $ fjoin ! $
       owned ! usize (Is usize) (uint-makes 𝓤 H A W w64) kept _ (refl, kept-fits) $ fjoin ! $ move ! (6 ∷ 0 ∷ []) $ fjoin ! $
       owned ! usize (Is usize) (uint-makes 𝓤 H A W w64) given _ (refl, given-fits) $ fjoin ! $ move ! (5 ∷ 0 ∷ []) $ fjoin ! $
-      move ! (4 ∷ 0 ∷ []) $ fjoin ! $ move ! (3 ∷ 0 ∷ []) $ fjoin ! $ move ! (2 ∷ 0 ∷ []) $ fjoin ! $ move ! (1 ∷ 0 ∷ []) $ frame ! $
-      frame ! $ owned ! Y.the-row (Is Y.the-row) (LL.makes Y.the-type Y′.the-plain 𝓤 H A) (d .answer) _ (served-answer d g) $ done !
+      owned ! u32 (Is u32) (uint-makes 𝓤 H A W w32) survey _ (refl, survey-fits) $ fjoin ! $ move ! (4 ∷ 0 ∷ []) $ fjoin ! $ move ! (3 ∷ 0 ∷ []) $
+      fjoin ! $ move ! (2 ∷ 0 ∷ []) $ fjoin ! $ move ! (1 ∷ 0 ∷ []) $ frame ! $ frame ! $
+      owned ! Y.the-row (Is Y.the-row) (LL.makes Y.the-type Y′.the-plain 𝓤 H A) (d .answer) _ (served-answer d g) $ done !
 
   module _ (C : Calls 𝓤 H) (Λ : Loops 𝓤 H) (fm : FmC 𝓤 H (W .laws) C) (known-looks : Triple 𝓤 (C #looks) (Look 𝓤 H A mem run))
       (known-reads : Triple 𝓤 (C #reads) (Read 𝓤 H A mem run)) (known-puts : Triple 𝓤 (C #puts) (Settle 𝓤 H A mem run))
       (known-serves : Triple 𝓤 (C #serves) (Serve 𝓤 H A mem run)) where
     walk : length (rows .now) < 2 ^ 64 → length (pos .now) < 2 ^ 64 → length (osp .now) < 2 ^ 64 → length (threshold .now) < 2 ^ 64
         → ent 𝓤 (onEntry 𝓤 H A f.signature (κ₀, (κ₁, (κ₂, (κ₃, (κ₄, (κ₅, (κ₆, tt)))))))
-        (q₀, (q₁, (q₂, (q₃, (q₄, (q₅, (q₆, tt))))))) (rows, (pos, (osp, (x, (given, (x′, (kept, (quantum, (threshold, (output, tt))))))))))
-        at) (WpFn 𝓤 H C Λ code.function
-        ((sliceVal (rows .ptr) (length (rows .now))) ∷ (sliceVal (pos .ptr) (length (pos .now))) ∷ (sliceVal (osp .ptr) (length (osp .now))) ∷ (sliceVal
-        (x .ptr) (length (x .now))) ∷ vint w64 given ∷ (sliceVal (x′ .ptr) (length (x′ .now))) ∷ vint w64 kept ∷ vint w32
+        (q₀, (q₁, (q₂, (q₃, (q₄, (q₅, (q₆, tt)))))))
+        (rows, (pos, (osp, (survey, (x, (given, (x′, (kept, (quantum, (threshold, (output, tt))))))))))) at)
+        (WpFn 𝓤 H C Λ code.function
+        ((sliceVal (rows .ptr) (length (rows .now))) ∷ (sliceVal (pos .ptr) (length (pos .now))) ∷ (sliceVal (osp .ptr) (length (osp .now))) ∷ vint w32
+        survey ∷ (sliceVal (x .ptr) (length (x .now))) ∷ vint w64 given ∷ (sliceVal (x′ .ptr) (length (x′ .now))) ∷ vint w64 kept ∷ vint w32
         quantum ∷ (sliceVal (threshold .ptr) (length (threshold .now))) ∷ (sliceVal (output .ptr) (length (output .now))) ∷ []) Post)
     walk r₀ r₁ r₂ r₅ =
         qed W ((‵ (flft κ₀ q₀) ⊛ ‵ (flft κ₁ q₁) ⊛ ‵ (flft κ₂ q₂) ⊛ ‵ (flft κ₃ q₃) ⊛ ‵ (flft κ₄ q₄) ⊛ ‵
         (flft κ₅ q₅) ⊛ ‵ (flft κ₆ q₆) ⊛ ‵ ftrue) ∷ ‵
-        (owns (ShrSlice (named 0) κ₀ u32 ∷ ShrSlice (named 1) κ₁ u32 ∷ ShrSlice (named 2) κ₂ u32 ∷ MutSlice
+        (owns (ShrSlice (named 0) κ₀ u32 ∷ ShrSlice (named 1) κ₁ u32 ∷ ShrSlice (named 2) κ₂ u32 ∷ u32 ∷ MutSlice
         (named 3) κ₃ T.the-row ∷ usize ∷ MutSlice (named 4) κ₄ T.the-row ∷ usize ∷ u32 ∷ ShrSlice (named 5) κ₅ u32 ∷ MutSlice
-        (named 6) κ₆ u32 ∷ []) (rows, (pos, (osp, (x, (given, (x′, (kept, (quantum, (threshold, (output, tt)))))))))) at) ∷ []) ∵
+        (named 6) κ₆ u32 ∷ []) (rows, (pos, (osp, (survey, (x, (given, (x′, (kept, (quantum, (threshold, (output, tt))))))))))) at) ∷ []) ∵
         enter ! C Λ code.function
-        ((sliceVal (rows .ptr) (length (rows .now))) ∷ (sliceVal (pos .ptr) (length (pos .now))) ∷ (sliceVal (osp .ptr) (length (osp .now))) ∷ (sliceVal
-        (x .ptr) (length (x .now))) ∷ vint w64 given ∷ (sliceVal (x′ .ptr) (length (x′ .now))) ∷ vint w64 kept ∷ vint w32
+        ((sliceVal (rows .ptr) (length (rows .now))) ∷ (sliceVal (pos .ptr) (length (pos .now))) ∷ (sliceVal (osp .ptr) (length (osp .now))) ∷ vint w32
+        survey ∷ (sliceVal (x .ptr) (length (x .now))) ∷ vint w64 given ∷ (sliceVal (x′ .ptr) (length (x′ .now))) ∷ vint w64 kept ∷ vint w32
         quantum ∷ (sliceVal (threshold .ptr) (length (threshold .now))) ∷ (sliceVal (output .ptr) (length (output .now))) ∷ []) _ $
         alloc1 ! (λ l₀. alloc1
         ! (λ l₁. alloc1
@@ -329,14 +343,15 @@ module _ {M : Type 1} (𝓤 : URA M) (H : Heap 𝓤) (A : Atoms 𝓤) (W : Given
         ! (λ l₁₈. alloc1
         ! (λ l₁₉. alloc1
         ! (λ l₂₀. alloc1
-        ! (λ l₂₁. alloc1 ! (λ l₂₂. alloc1 ! (λ l₂₃. alloc1 ! (λ l₂₄. alloc1 ! (λ l₂₅. alloc1 ! (λ l₂₆. alloc0 ! $ params1 ! $
-        pass1 ! (init ! 50 refl (tt, (tt, (record { fits = r₀ }, tt)))) $ pass1 ! (init ! 48 refl (tt, (tt, (record { fits = r₁ }, tt)))) $
-        pass1 ! (init ! 46 refl (tt, (tt, (record { fits = r₂ }, tt)))) $ pass1 ! (init ! 44 refl (tt, (tt, (record { fits = room .0 }, tt)))) $
-        pass1 ! (init ! 42 refl (tt, record { fits = given-fits })) $ pass1 ! (init ! 40 refl (tt, (tt, (record { fits = room′ .0 }, tt)))) $
-        pass1 ! (init ! 38 refl (tt, record { fits = kept-fits })) $ pass1 ! (init ! 36 refl (tt, record { fits = quantum-fits })) $
-        pass1 ! (init ! 34 refl (tt, (tt, (record { fits = r₅ }, tt)))) $ pass1 ! (init ! 32 refl (tt, (tt, (record { fits = room″ .0 }, tt)))) $
-        pass0 ! $
-        move ! (55 ∷ []) $
+        ! (λ l₂₁. alloc1
+        ! (λ l₂₂. alloc1 ! (λ l₂₃. alloc1 ! (λ l₂₄. alloc1 ! (λ l₂₅. alloc1 ! (λ l₂₆. alloc1 ! (λ l₂₇. alloc0 ! $ params1 ! $
+        pass1 ! (init ! 52 refl (tt, (tt, (record { fits = r₀ }, tt)))) $ pass1 ! (init ! 50 refl (tt, (tt, (record { fits = r₁ }, tt)))) $
+        pass1 ! (init ! 48 refl (tt, (tt, (record { fits = r₂ }, tt)))) $ pass1 ! (init ! 46 refl (tt, record { fits = survey-fits })) $
+        pass1 ! (init ! 44 refl (tt, (tt, (record { fits = room .0 }, tt)))) $ pass1 ! (init ! 42 refl (tt, record { fits = given-fits })) $
+        pass1 ! (init ! 40 refl (tt, (tt, (record { fits = room′ .0 }, tt)))) $ pass1 ! (init ! 38 refl (tt, record { fits = kept-fits })) $
+        pass1 ! (init ! 36 refl (tt, record { fits = quantum-fits })) $ pass1 ! (init ! 34 refl (tt, (tt, (record { fits = r₅ }, tt)))) $
+        pass1 ! (init ! 32 refl (tt, (tt, (record { fits = room″ .0 }, tt)))) $ pass0 ! $
+        move ! (57 ∷ []) $
         fsplit ! $
         move ! (1 ∷ []) $
         fsplit ! $
@@ -356,7 +371,9 @@ module _ {M : Type 1} (𝓤 : URA M) (H : Heap 𝓤) (A : Atoms 𝓤) (W : Given
         fsplit ! $
         move ! (1 ∷ []) $
         fsplit ! $
-        move ! (65 ∷ []) $
+        move ! (1 ∷ []) $
+        fsplit ! $
+        move ! (68 ∷ []) $
         split ! $
         move ! (1 ∷ []) $
         split ! $
@@ -370,10 +387,10 @@ module _ {M : Type 1} (𝓤 : URA M) (H : Heap 𝓤) (A : Atoms 𝓤) (W : Given
         split ! $
         move ! (1 ∷ []) $
         split ! $
-        keep ! (18 ∷ 7 ∷ 17 ∷ 6 ∷ 16 ∷ 5 ∷ 15 ∷ 4 ∷ 13 ∷ 3 ∷ 10 ∷ 2 ∷ 8 ∷ 0 ∷ 19 ∷ 20 ∷ 21 ∷ 22 ∷ 23 ∷ 24 ∷ 25 ∷ 26
-        ∷ 27 ∷ 28 ∷ 29 ∷ 30 ∷ 31 ∷ 32 ∷ 33 ∷ 34 ∷ 35 ∷ 36 ∷ 37 ∷ 38 ∷ 39 ∷ 40 ∷ 41 ∷ 42 ∷ 43 ∷ 44 ∷ 45 ∷ 46 ∷ 47 ∷
-        48 ∷ 49 ∷ 50 ∷ 51 ∷ 52 ∷ 53 ∷ 54 ∷ 55 ∷ 56 ∷ 57 ∷ 58 ∷ 59 ∷ 60 ∷ 61 ∷ 62 ∷ 63 ∷ 64 ∷ 65 ∷ 66 ∷ 67 ∷ 68 ∷ 69
-        ∷ 70 ∷ 71 ∷ 72 ∷ []) $
+        keep ! (19 ∷ 7 ∷ 18 ∷ 6 ∷ 17 ∷ 5 ∷ 15 ∷ 4 ∷ 13 ∷ 3 ∷ 10 ∷ 2 ∷ 8 ∷ 0 ∷ 20 ∷ 21 ∷ 22 ∷ 23 ∷ 24 ∷ 25 ∷ 26 ∷ 27
+        ∷ 28 ∷ 29 ∷ 30 ∷ 31 ∷ 32 ∷ 33 ∷ 34 ∷ 35 ∷ 36 ∷ 37 ∷ 38 ∷ 39 ∷ 40 ∷ 41 ∷ 42 ∷ 43 ∷ 44 ∷ 45 ∷ 46 ∷ 47 ∷ 48 ∷
+        49 ∷ 50 ∷ 51 ∷ 52 ∷ 53 ∷ 54 ∷ 55 ∷ 56 ∷ 57 ∷ 58 ∷ 59 ∷ 60 ∷ 61 ∷ 62 ∷ 63 ∷ 64 ∷ 65 ∷ 66 ∷ 67 ∷ 68 ∷ 69 ∷ 70
+        ∷ 71 ∷ 72 ∷ 73 ∷ 74 ∷ 75 ∷ []) $
         assigns ! (addr ! (from ! (fld ! refl (hop ! (look-in ! 58 (sub ! 0 refl (whole !))) (stop !))))) (from ! (stop !)) (init ! 38 refl (tt, tt)) $
         assigns ! (agg
         ! (and-then ! (load ! (from ! (stop !)) (look ! 38 refl))
@@ -421,7 +438,7 @@ module _ {M : Type 1} (𝓤 : URA M) (H : Heap 𝓤) (A : Atoms 𝓤) (W : Given
         heard ! (SeenOf (lentAs (x .now) given (x′ .now) kept) 0 seen) (λ is. split ! $ move ! (1 ∷ []) $
         peeks ! S.the-row (Is S.the-row) (shows 𝓤 H A S.the-row) seen (w₁ ∷ []) (λ g₁.
         land ! (from ! (stop !)) (init ! 44 refl (LL.lawful S.the-type S′.the-laws 𝓤 H A W .typed seen (w₁ ∷ []) g₁ .0)) $
-        rewrite ! 44 (λ (u : Val). ‵ (fat fullShare S′.mir l₁₁ 0 u)) (ap only (LL.tells S.the-type S′.the-laws seen (w₁ ∷ []) g₁)) refl $
+        rewrite ! 44 (λ (u : Val). ‵ (fat fullShare S′.mir l₁₂ 0 u)) (ap only (LL.tells S.the-type S′.the-laws seen (w₁ ∷ []) g₁)) refl $
         drop ! $
         split ! $
         lft-end ! tt $
@@ -464,7 +481,7 @@ module _ {M : Type 1} (𝓤 : URA M) (H : Heap 𝓤) (A : Atoms 𝓤) (W : Given
         heard ! (e ≡ getD (x .now) 0 nobody) (λ its. split ! $ move ! (1 ∷ []) $
         peeks ! T.the-row (Is T.the-row) (shows 𝓤 H A T.the-row) e (w₂ ∷ []) (λ g₂.
         land ! (from ! (stop !)) (init ! 43 refl (LL.lawful T.the-type T′.the-laws 𝓤 H A W .typed e (w₂ ∷ []) g₂ .0)) $
-        rewrite ! 43 (λ (u : Val). ‵ (fat fullShare T′.mir l₁₂ 0 u)) (ap only (LL.tells T.the-type T′.the-laws e (w₂ ∷ []) g₂)) refl $
+        rewrite ! 43 (λ (u : Val). ‵ (fat fullShare T′.mir l₁₃ 0 u)) (ap only (LL.tells T.the-type T′.the-laws e (w₂ ∷ []) g₂)) refl $
         drop ! $
         split ! $
         lft-end ! tt $
@@ -517,11 +534,12 @@ module _ {M : Type 1} (𝓤 : URA M) (H : Heap 𝓤) (A : Atoms 𝓤) (W : Given
         join ! $
         use1 W (raw
         (Serve 𝓤 H A mem run .pre
-        (to-serve 𝓤 H A mem run κ₀ κ₁ κ₂ κ₅ κ₆ q₀ q₁ q₂ q₅ q₆ rows pos osp seen given kept e quantum threshold output)))
-        (goes-serve 𝓤 H A mem run W κ₀ κ₁ κ₂ κ₅ κ₆ q₀ q₁ q₂ q₅ q₆ rows pos osp seen given kept e quantum threshold output
-        (told-seen seen g₁) given-fits kept-fits (told-entry e g₂) quantum-fits (few seen is)) $
+        (to-serve 𝓤 H A mem run κ₀ κ₁ κ₂ κ₅ κ₆ q₀ q₁ q₂ q₅ q₆ rows pos osp survey seen given kept e quantum threshold output)))
+        (goes-serve 𝓤 H A mem run W κ₀ κ₁ κ₂ κ₅ κ₆ q₀ q₁ q₂ q₅ q₆ rows pos osp survey seen given kept e quantum threshold output
+        (told-seen seen g₁) given-fits kept-fits (told-entry e g₂) quantum-fits survey-fits (few seen is)) $
         calls-at ! fm (Serve 𝓤 H A mem run) known-serves
-        (to-serve 𝓤 H A mem run κ₀ κ₁ κ₂ κ₅ κ₆ q₀ q₁ q₂ q₅ q₆ rows pos osp seen given kept e quantum threshold output)
+        (to-serve 𝓤 H A mem run κ₀ κ₁ κ₂ κ₅ κ₆ q₀ q₁ q₂ q₅ q₆ rows pos osp survey seen given kept e quantum threshold output)
+        (and-then ! (load ! (from ! (stop !)) (look ! 61 refl))
         (and-then ! (load ! (from ! (stop !)) (look ! 59 refl))
         (and-then ! (load ! (from ! (stop !)) (look ! 57 refl))
         (and-then ! (load ! (from ! (stop !)) (look ! 55 refl))
@@ -530,28 +548,29 @@ module _ {M : Type 1} (𝓤 : URA M) (H : Heap 𝓤) (A : Atoms 𝓤) (W : Given
         (and-then ! (load ! (from ! (stop !)) (look ! 47 refl))
         (and-then ! (load ! (from ! (stop !)) (look ! 37 refl))
         (and-then ! (load ! (from ! (stop !)) (look ! 45 refl))
-        (and-then ! (load ! (from ! (stop !)) (look ! 43 refl)) (and-then ! (load ! (from ! (stop !)) (look ! 19 refl)) (no-more !))))))))))) (λ w₃.
+        (and-then ! (load ! (from ! (stop !)) (look ! 43 refl)) (and-then ! (load ! (from ! (stop !)) (look ! 19 refl)) (no-more !)))))))))))) (λ w₃.
         use1 W (later
         (some (λ (r : ServeChanges).
         ((‵ (flft κ₀ q₀) ⊛ ‵ (flft κ₁ q₁) ⊛ ‵ (flft κ₂ q₂) ⊛ ‵ (flft κ₅ q₅) ⊛ ‵ (flft κ₆ q₆) ⊛ ‵ ftrue) ⊛
         ‵ (D.the-row .own r (w₃ ∷ []))) ⊛ raw
         (ensured 𝓤 H A serves.ended (serves.clauses 𝓤 H A mem run) (κ₀, (κ₁, (κ₂, (κ₅, (κ₆, tt)))))
-        (rows, (pos, (osp, (seen, (given, (kept, (e, (quantum, (threshold, (output, tt)))))))))) tt r)))) (id⊢ 𝓤 _) $
+        (rows, (pos, (osp, (survey, (seen, (given, (kept, (e, (quantum, (threshold, (output, tt))))))))))) tt r)))) (id⊢ 𝓤 _) $
         await ! tt $ pick ! (λ d. split ! $ move ! (1 ∷ []) $
         use1 W (some
         (λ (vs : (Unit
-        {0} × (Unit {0} × (Unit {0} × (Unit {0} × (Unit {0} × (Unit {0} × (Unit {0} × (Unit {0} × (Unit {0} × (List ℕ × Unit {0}))))))))))).
+        {0} × (Unit
+        {0} × (Unit {0} × (Unit {0} × (Unit {0} × (Unit {0} × (Unit {0} × (Unit {0} × (Unit {0} × (Unit {0} × (List ℕ × Unit {0})))))))))))).
         ‵ (lasts serves.ended (κ₀, (κ₁, (κ₂, (κ₅, (κ₆, tt)))))
-        (rows, (pos, (osp, (seen, (given, (kept, (e, (quantum, (threshold, (output, tt)))))))))) vs) ⊛ raw
-        (fact 𝓤 (Told 𝓤 H A mem run rows pos osp seen given kept e quantum threshold output d (vs .1 .1 .1 .1 .1 .1 .1 .1 .1 .0)))))
+        (rows, (pos, (osp, (survey, (seen, (given, (kept, (e, (quantum, (threshold, (output, tt))))))))))) vs) ⊛ raw
+        (fact 𝓤 (Told 𝓤 H A mem run rows pos osp survey seen given kept e quantum threshold output d (vs .1 .1 .1 .1 .1 .1 .1 .1 .1 .1 .0)))))
         (id⊢ 𝓤 _) $
         pick ! (λ vs₃. split ! $ move ! (1 ∷ []) $
-        heard ! (Told 𝓤 H A mem run rows pos osp seen given kept e quantum threshold output d (vs₃ .1 .1 .1 .1 .1 .1 .1 .1 .1 .0)) (λ told.
+        heard ! (Told 𝓤 H A mem run rows pos osp survey seen given kept e quantum threshold output d (vs₃ .1 .1 .1 .1 .1 .1 .1 .1 .1 .1 .0)) (λ told.
         fsplit ! $ drop ! $ fsplit ! $ drop ! $ fsplit ! $ drop ! $ fsplit ! $ drop ! $ fsplit ! $ drop ! $ fsplit ! $ drop ! $ fsplit ! $ drop ! $ fsplit ! $
-        drop ! $ fsplit ! $ drop ! $ fsplit ! $ fsplit ! $ move ! (1 ∷ []) $ feqL ! (λ len₃.
+        drop ! $ fsplit ! $ drop ! $ fsplit ! $ drop ! $ fsplit ! $ fsplit ! $ move ! (1 ∷ []) $ feqL ! (λ len₃.
         move ! (2 ∷ []) $ split ! $ move ! (1 ∷ []) $ peeks ! D.the-row (Is D.the-row) (shows 𝓤 H A D.the-row) d (w₃ ∷ []) (λ g₃.
         land ! (from ! (stop !)) (init ! 38 refl (LL.lawful D.the-type D′.the-laws 𝓤 H A W .typed d (w₃ ∷ []) g₃ .0)) $
-        rewrite ! 38 (λ (u : Val). ‵ (fat fullShare D′.mir l₁₃ 0 u)) (ap only (LL.tells D.the-type D′.the-laws d (w₃ ∷ []) g₃)) refl $
+        rewrite ! 38 (λ (u : Val). ‵ (fat fullShare D′.mir l₁₄ 0 u)) (ap only (LL.tells D.the-type D′.the-laws d (w₃ ∷ []) g₃)) refl $
         drop ! $
         split ! $
         move ! (1 ∷ []) $
@@ -638,25 +657,26 @@ module _ {M : Type 1} (𝓤 : URA M) (H : Heap 𝓤) (A : Atoms 𝓤) (W : Given
         move ! (2 ∷ []) $
         drop ! $
         assigns ! (of-opd ! (load ! (from ! (fld ! refl (stop !))) (look-in ! 40 (sub ! 0 refl (whole !))))) (from ! (stop !))
-        (init ! 66 refl
+        (init ! 68 refl
         (LL.lawful Y.the-type Y′.the-laws 𝓤 H A W .typed (d .answer) (LL.vals Y.the-type Y′.the-laws (d .answer))
         (served-answer d (told-d d g₃)) .0)) $
-        returns ! (look ! 66 refl) $ forget ! 14 refl $ forget ! 16 refl $ forget ! 18 refl $ forget ! 20 refl $ forget ! 22 refl $ forget ! 24 refl $
+        returns ! (look ! 68 refl) $ forget ! 14 refl $ forget ! 16 refl $ forget ! 18 refl $ forget ! 20 refl $ forget ! 22 refl $ forget ! 24 refl $
         forget ! 26 refl $ forget ! 28 refl $ forget ! 30 refl $ forget ! 32 refl $ forget ! 34 refl $ forget ! 36 refl $ forget ! 38 refl $
         forget ! 40 refl $ forget ! 42 refl $ forget ! 44 refl $ forget ! 46 refl $ forget ! 48 refl $ forget ! 50 refl $ forget ! 52 refl $
         forget ! 54 refl $ forget ! 56 refl $ forget ! 58 refl $ forget ! 60 refl $ forget ! 62 refl $ forget ! 64 refl $ forget ! 66 refl $
-        move ! (66 ∷ 67 ∷ []) $ free1 ! $ move ! (64 ∷ 65 ∷ []) $ free1 ! $ move ! (62 ∷ 63 ∷ []) $ free1 ! $ move ! (60 ∷ 61 ∷ []) $
-        free1 ! $ move ! (58 ∷ 59 ∷ []) $ free1 ! $ move ! (56 ∷ 57 ∷ []) $ free1 ! $ move ! (54 ∷ 55 ∷ []) $ free1 ! $
-        move ! (52 ∷ 53 ∷ []) $ free1 ! $ move ! (50 ∷ 51 ∷ []) $ free1 ! $ move ! (48 ∷ 49 ∷ []) $ free1 ! $ move ! (46 ∷ 47 ∷ []) $
-        free1 ! $ move ! (44 ∷ 45 ∷ []) $ free1 ! $ move ! (42 ∷ 43 ∷ []) $ free1 ! $ move ! (40 ∷ 41 ∷ []) $ free1 ! $
-        move ! (38 ∷ 39 ∷ []) $ free1 ! $ move ! (36 ∷ 37 ∷ []) $ free1 ! $ move ! (34 ∷ 35 ∷ []) $ free1 ! $ move ! (32 ∷ 33 ∷ []) $
-        free1 ! $ move ! (30 ∷ 31 ∷ []) $ free1 ! $ move ! (28 ∷ 29 ∷ []) $ free1 ! $ move ! (26 ∷ 27 ∷ []) $ free1 ! $
-        move ! (24 ∷ 25 ∷ []) $ free1 ! $ move ! (22 ∷ 23 ∷ []) $ free1 ! $ move ! (20 ∷ 21 ∷ []) $ free1 ! $ move ! (18 ∷ 19 ∷ []) $
-        free1 ! $ move ! (16 ∷ 17 ∷ []) $ free1 ! $ move ! (14 ∷ 15 ∷ []) $ free1 ! $ free0 ! $
+        forget ! 68 refl $
+        move ! (68 ∷ 69 ∷ []) $ free1 ! $ move ! (66 ∷ 67 ∷ []) $ free1 ! $ move ! (64 ∷ 65 ∷ []) $ free1 ! $ move ! (62 ∷ 63 ∷ []) $
+        free1 ! $ move ! (60 ∷ 61 ∷ []) $ free1 ! $ move ! (58 ∷ 59 ∷ []) $ free1 ! $ move ! (56 ∷ 57 ∷ []) $ free1 ! $
+        move ! (54 ∷ 55 ∷ []) $ free1 ! $ move ! (52 ∷ 53 ∷ []) $ free1 ! $ move ! (50 ∷ 51 ∷ []) $ free1 ! $ move ! (48 ∷ 49 ∷ []) $
+        free1 ! $ move ! (46 ∷ 47 ∷ []) $ free1 ! $ move ! (44 ∷ 45 ∷ []) $ free1 ! $ move ! (42 ∷ 43 ∷ []) $ free1 ! $
+        move ! (40 ∷ 41 ∷ []) $ free1 ! $ move ! (38 ∷ 39 ∷ []) $ free1 ! $ move ! (36 ∷ 37 ∷ []) $ free1 ! $ move ! (34 ∷ 35 ∷ []) $
+        free1 ! $ move ! (32 ∷ 33 ∷ []) $ free1 ! $ move ! (30 ∷ 31 ∷ []) $ free1 ! $ move ! (28 ∷ 29 ∷ []) $ free1 ! $
+        move ! (26 ∷ 27 ∷ []) $ free1 ! $ move ! (24 ∷ 25 ∷ []) $ free1 ! $ move ! (22 ∷ 23 ∷ []) $ free1 ! $ move ! (20 ∷ 21 ∷ []) $
+        free1 ! $ move ! (18 ∷ 19 ∷ []) $ free1 ! $ move ! (16 ∷ 17 ∷ []) $ free1 ! $ move ! (14 ∷ 15 ∷ []) $ free1 ! $ free0 ! $
         keep ! (8 ∷ 7 ∷ 6 ∷ 2 ∷ 0 ∷ 5 ∷ 4 ∷ 13 ∷ 12 ∷ 11 ∷ 3 ∷ 1 ∷ 10 ∷ 9 ∷ []) $
-        by ! (exits d (vs₄ .0) (vs₅ .0) (vs₃ .1 .1 .1 .1 .1 .1 .1 .1 .1 .0) (told-d d g₃) len₄ len₅ len₃
-        ((λ i. record { answer = d .answer; line = e₄ i; aside = e₅ i; output = vs₃ .1 .1 .1 .1 .1 .1 .1 .1 .1 .0 })
-        ∙ told (x .now) (x′ .now) is its .result)))))))))))))))))))))))))))))))))))))))))))))))))))))))))))))
+        by ! (exits d (vs₄ .0) (vs₅ .0) (vs₃ .1 .1 .1 .1 .1 .1 .1 .1 .1 .1 .0) (told-d d g₃) len₄ len₅ len₃
+        ((λ i. record { answer = d .answer; line = e₄ i; aside = e₅ i; output = vs₃ .1 .1 .1 .1 .1 .1 .1 .1 .1 .1 .0 })
+        ∙ told (x .now) (x′ .now) is its .result))))))))))))))))))))))))))))))))))))))))))))))))))))))))))))))
       where
         told-seen : (seen : Seen) {w : Val} → Is S.the-row seen (w ∷ []) → Is S.the-row seen (LL.vals S.the-type S′.the-laws seen)
         told-seen seen {w} g = subst (Is S.the-row seen) (LL.tells S.the-type S′.the-laws seen (w ∷ []) g) g
@@ -678,7 +698,10 @@ module _ {M : Type 1} (𝓤 : URA M) (H : Heap 𝓤) (A : Atoms 𝓤) (W : Given
       walked 𝓤 H A f.ended stayed (f.clauses 𝓤 H A mem run) (WpFn 𝓤 H C Λ code.function)
       (λ κs. (
         slice-vals,
-        (slice-vals, (slice-vals, (slice-vals, (uint-vals w64, (slice-vals, (uint-vals w64, (uint-vals w32, (slice-vals, (slice-vals, tt))))))))),
+        (
+          slice-vals,
+          (slice-vals, (uint-vals w32, (slice-vals, (uint-vals w64, (slice-vals, (uint-vals w64, (uint-vals w32, (slice-vals, (slice-vals, tt))))))))),
+        ),
       ))
       (λ κs. (
         shr-slice-tells (named 0) (κs .0) u32,
@@ -687,14 +710,17 @@ module _ {M : Type 1} (𝓤 : URA M) (H : Heap 𝓤) (A : Atoms 𝓤) (W : Given
           (
             shr-slice-tells (named 2) (κs .1 .1 .0) u32,
             (
-              mut-slice-tells (named 3) (κs .1 .1 .1 .0) T.the-row,
+              uint-tells w32,
               (
-                uint-tells w64,
+                mut-slice-tells (named 3) (κs .1 .1 .1 .0) T.the-row,
                 (
-                  mut-slice-tells (named 4) (κs .1 .1 .1 .1 .0) T.the-row,
+                  uint-tells w64,
                   (
-                    uint-tells w64,
-                    (uint-tells w32, (shr-slice-tells (named 5) (κs .1 .1 .1 .1 .1 .0) u32, (mut-slice-tells (named 6) (κs .1 .1 .1 .1 .1 .1 .0) u32, tt))),
+                    mut-slice-tells (named 4) (κs .1 .1 .1 .1 .0) T.the-row,
+                    (
+                      uint-tells w64,
+                      (uint-tells w32, (shr-slice-tells (named 5) (κs .1 .1 .1 .1 .1 .0) u32, (mut-slice-tells (named 6) (κs .1 .1 .1 .1 .1 .1 .0) u32, tt))),
+                    ),
                   ),
                 ),
               ),
@@ -706,9 +732,10 @@ module _ {M : Type 1} (𝓤 : URA M) (H : Heap 𝓤) (A : Atoms 𝓤) (W : Given
       walk 𝓤 H A W mem run (κs .0) (κs .1 .0) (κs .1 .1 .0) (κs .1 .1 .1 .0) (κs .1 .1 .1 .1 .0) (κs .1 .1 .1 .1 .1 .0) (κs .1 .1 .1 .1 .1 .1 .0)
       (qs .0) (qs .1 .0) (qs .1 .1 .0) (qs .1 .1 .1 .0) (qs .1 .1 .1 .1 .0) (qs .1 .1 .1 .1 .1 .0) (qs .1 .1 .1 .1 .1 .1 .0) (a .0) (a .1 .0) (a .1 .1 .0)
       (a .1 .1 .1 .0) (a .1 .1 .1 .1 .0) (a .1 .1 .1 .1 .1 .0) (a .1 .1 .1 .1 .1 .1 .0) (a .1 .1 .1 .1 .1 .1 .1 .0) (a .1 .1 .1 .1 .1 .1 .1 .1 .0)
-      (a .1 .1 .1 .1 .1 .1 .1 .1 .1 .0) (are .1 .1 .1 .0 .0 .1) (are .1 .1 .1 .1 .1 .0 .0 .1) (are .1 .1 .1 .1 .1 .1 .1 .1 .1 .0 .0 .1)
-      (are .1 .1 .1 .1 .0 .1) (are .1 .1 .1 .1 .1 .1 .0 .1) (are .1 .1 .1 .1 .1 .1 .1 .0 .1) C Λ fm known-looks known-reads known-puts known-serves
-      (are .0 .0 .1 .0) (are .1 .0 .0 .1 .0) (are .1 .1 .0 .0 .1 .0) (are .1 .1 .1 .1 .1 .1 .1 .1 .0 .0 .1 .0)))
+      (a .1 .1 .1 .1 .1 .1 .1 .1 .1 .0) (a .1 .1 .1 .1 .1 .1 .1 .1 .1 .1 .0) (are .1 .1 .1 .1 .0 .0 .1) (are .1 .1 .1 .1 .1 .1 .0 .0 .1)
+      (are .1 .1 .1 .1 .1 .1 .1 .1 .1 .1 .0 .0 .1) (are .1 .1 .1 .1 .1 .0 .1) (are .1 .1 .1 .1 .1 .1 .1 .0 .1) (are .1 .1 .1 .1 .1 .1 .1 .1 .0 .1)
+      (are .1 .1 .1 .0 .1) C Λ fm known-looks known-reads known-puts known-serves (are .0 .0 .1 .0) (are .1 .0 .0 .1 .0) (are .1 .1 .0 .0 .1 .0)
+      (are .1 .1 .1 .1 .1 .1 .1 .1 .1 .0 .0 .1 .0)))
 
 serve-meets : {M : Type 1} (𝓤 : URA M) (H : Heap 𝓤) (A : Atoms 𝓤) → Given 𝓤 H A
     → (mem : Memory → SProp 𝓤) (run : Routine → Fun 𝓤) (𝓣 : Tables 𝓤 H)
@@ -723,16 +750,19 @@ serve-meets 𝓤 H A W mem run 𝓣 known-looks known-reads known-puts known-ser
         (
           goes-none-slice 𝓤 H A W 7 (2 ∷ []) tt (plain (λ _. u32)) yes,
           (
-            goes-gave-slice 𝓤 H A W 7 3 tt (plain (λ _. T.the-row)),
+            goes-none 𝓤 H A W 7 (λ _. u32) yes (λ κs x f. refl),
             (
-              goes-none 𝓤 H A W 7 (λ _. usize) yes (λ κs x f. refl),
+              goes-gave-slice 𝓤 H A W 7 3 tt (plain (λ _. T.the-row)),
               (
-                goes-gave-slice 𝓤 H A W 7 4 tt (plain (λ _. T.the-row)),
+                goes-none 𝓤 H A W 7 (λ _. usize) yes (λ κs x f. refl),
                 (
-                  goes-none 𝓤 H A W 7 (λ _. usize) yes (λ κs x f. refl),
+                  goes-gave-slice 𝓤 H A W 7 4 tt (plain (λ _. T.the-row)),
                   (
-                    goes-none 𝓤 H A W 7 (λ _. u32) yes (λ κs x f. refl),
-                    (goes-none-slice 𝓤 H A W 7 (5 ∷ []) tt (plain (λ _. u32)) yes, (goes-gave-slice 𝓤 H A W 7 6 tt (plain (λ _. u32)), tt)),
+                    goes-none 𝓤 H A W 7 (λ _. usize) yes (λ κs x f. refl),
+                    (
+                      goes-none 𝓤 H A W 7 (λ _. u32) yes (λ κs x f. refl),
+                      (goes-none-slice 𝓤 H A W 7 (5 ∷ []) tt (plain (λ _. u32)) yes, (goes-gave-slice 𝓤 H A W 7 6 tt (plain (λ _. u32)), tt)),
+                    ),
                   ),
                 ),
               ),

@@ -47,7 +47,7 @@ use Rattle.queues.specs.Lists.{lentAs}
 use Rattle.queues.specs.Joining.{QueuedResult, joinQueueOf}
 use Rattle.queues.proofs.Queued as Q
 use Rattle.queues.proofs.Queued.Laws as Q′
-use Rattle.tables.specs.Tables.{tablesOf as lent-tables}
+use Rattle.turns.specs.Surveys.{surveyOf as lent-survey}
 use Rattle.sotjarn.specs.Numbers.{queuedNumbers}
 use Rattle.sotjarn.specs.declared.QueuedNumbers.{QueuedNumbers}
 use Rattle.sotjarn.proofs.QueuedNumbers as N
@@ -73,18 +73,21 @@ stayed = (
     (
       stay-none-slice (2 ∷ []) tt (plain (λ _. u32)) yes,
       (
-        gave-slice (3 ∷ []) tt (plain (λ _. T.the-row)),
+        stay-none (λ _. u32) yes,
         (
-          stay-none (λ _. usize) yes,
+          gave-slice (3 ∷ []) tt (plain (λ _. T.the-row)),
           (
-            gave-slice (4 ∷ []) tt (plain (λ _. T.the-row)),
+            stay-none (λ _. usize) yes,
             (
-              stay-none (λ _. usize) yes,
+              gave-slice (4 ∷ []) tt (plain (λ _. T.the-row)),
               (
-                stay-none (λ _. u32) yes,
+                stay-none (λ _. usize) yes,
                 (
-                  stay-none (λ _. u64) yes,
-                  (stay-none-slice (5 ∷ []) tt (plain (λ _. u32)) yes, (stay-none-slice (6 ∷ []) tt (plain (λ _. u32)) yes, tt)),
+                  stay-none (λ _. u32) yes,
+                  (
+                    stay-none (λ _. u64) yes,
+                    (stay-none-slice (5 ∷ []) tt (plain (λ _. u32)) yes, (stay-none-slice (6 ∷ []) tt (plain (λ _. u32)) yes, tt)),
+                  ),
                 ),
               ),
             ),
@@ -104,15 +107,15 @@ module _ {M : Type 1} (𝓤 : URA M) (H : Heap 𝓤) (A : Atoms 𝓤) (mem : Mem
   Numbers = tripleOf 𝓤 H A numbers.signature (numbers.spec 𝓤 H A mem run)
 
   abbrev to-call : (κ₀ κ₁ κ₂ κ₃ κ₄ κ₅ κ₆ : Lft) (q₀ q₁ q₂ q₃ q₄ q₅ q₆ : Share) (rows : RefT (List ℕ))
-      (pos : RefT (List ℕ)) (osp : RefT (List ℕ)) (x : RefT (List Entry)) (given : ℕ) (x′ : RefT (List Entry)) (kept : ℕ) (owner : ℕ)
+      (pos : RefT (List ℕ)) (osp : RefT (List ℕ)) (survey : ℕ) (x : RefT (List Entry)) (given : ℕ) (x′ : RefT (List Entry)) (kept : ℕ) (owner : ℕ)
       (allowance : ℕ) (plan : RefT (List ℕ)) (state : RefT (List ℕ)) → Call .Ghost
-  to-call κ₀ κ₁ κ₂ κ₃ κ₄ κ₅ κ₆ q₀ q₁ q₂ q₃ q₄ q₅ q₆ rows pos osp x given x′ kept owner allowance plan
+  to-call κ₀ κ₁ κ₂ κ₃ κ₄ κ₅ κ₆ q₀ q₁ q₂ q₃ q₄ q₅ q₆ rows pos osp survey x given x′ kept owner allowance plan
       state = (
         (
           (κ₀, (κ₁, (κ₂, (κ₃, (κ₄, (κ₅, (κ₆, tt))))))),
           (q₀, (q₁, (q₂, (q₃, (q₄, (q₅, (q₆, tt))))))),
           tt,
-          (rows, (pos, (osp, (x, (given, (x′, (kept, (owner, (allowance, (plan, (state, tt))))))))))),
+          (rows, (pos, (osp, (survey, (x, (given, (x′, (kept, (owner, (allowance, (plan, (state, tt)))))))))))),
           (
             (sliceVal (rows .ptr) (length (rows .now))) ∷ [],
             (
@@ -120,18 +123,21 @@ module _ {M : Type 1} (𝓤 : URA M) (H : Heap 𝓤) (A : Atoms 𝓤) (mem : Mem
               (
                 (sliceVal (osp .ptr) (length (osp .now))) ∷ [],
                 (
-                  (sliceVal (x .ptr) (length (x .now))) ∷ [],
+                  vint w32 survey ∷ [],
                   (
-                    vint w64 given ∷ [],
+                    (sliceVal (x .ptr) (length (x .now))) ∷ [],
                     (
-                      (sliceVal (x′ .ptr) (length (x′ .now))) ∷ [],
+                      vint w64 given ∷ [],
                       (
-                        vint w64 kept ∷ [],
+                        (sliceVal (x′ .ptr) (length (x′ .now))) ∷ [],
                         (
-                          vint w32 owner ∷ [],
+                          vint w64 kept ∷ [],
                           (
-                            vint w64 allowance ∷ [],
-                            ((sliceVal (plan .ptr) (length (plan .now))) ∷ [], ((sliceVal (state .ptr) (length (state .now))) ∷ [], tt)),
+                            vint w32 owner ∷ [],
+                            (
+                              vint w64 allowance ∷ [],
+                              ((sliceVal (plan .ptr) (length (plan .now))) ∷ [], ((sliceVal (state .ptr) (length (state .now))) ∷ [], tt)),
+                            ),
                           ),
                         ),
                       ),
@@ -146,8 +152,9 @@ module _ {M : Type 1} (𝓤 : URA M) (H : Heap 𝓤) (A : Atoms 𝓤) (mem : Mem
       )
 
   goes-call : (W : Given 𝓤 H A) (κ₀ κ₁ κ₂ κ₃ κ₄ κ₅ κ₆ : Lft) (q₀ q₁ q₂ q₃ q₄ q₅ q₆ : Share) (rows : RefT (List ℕ))
-      (pos : RefT (List ℕ)) (osp : RefT (List ℕ)) (x : RefT (List Entry)) (given : ℕ) (x′ : RefT (List Entry)) (kept : ℕ) (owner : ℕ)
+      (pos : RefT (List ℕ)) (osp : RefT (List ℕ)) (survey : ℕ) (x : RefT (List Entry)) (given : ℕ) (x′ : RefT (List Entry)) (kept : ℕ) (owner : ℕ)
       (allowance : ℕ) (plan : RefT (List ℕ)) (state : RefT (List ℕ)) → given < 2 ^ 64 → kept < 2 ^ 64 → owner < 2 ^ 32 → allowance < 2 ^ 64
+      → survey < 2 ^ 32
       → ent 𝓤 (sep 𝓤 (sem 𝓤 H A (flft κ₀ q₀))
       (sep 𝓤 (sem 𝓤 H A (flft κ₁ q₁))
       (sep 𝓤 (sem 𝓤 H A (flft κ₂ q₂))
@@ -162,10 +169,11 @@ module _ {M : Type 1} (𝓤 : URA M) (H : Heap 𝓤) (A : Atoms 𝓤) (mem : Mem
       (sep 𝓤 (sem 𝓤 H A (MutSlice (named 4) κ₄ T.the-row .own x′ ((sliceVal (x′ .ptr) (length (x′ .now))) ∷ [])))
       (sep 𝓤 (sem 𝓤 H A (ShrSlice (named 5) κ₅ u32 .own plan ((sliceVal (plan .ptr) (length (plan .now))) ∷ [])))
       (sem 𝓤 H A (ShrSlice (named 6) κ₆ u32 .own state ((sliceVal (state .ptr) (length (state .now))) ∷ []))))))))))))))))
-      (Call .pre (to-call κ₀ κ₁ κ₂ κ₃ κ₄ κ₅ κ₆ q₀ q₁ q₂ q₃ q₄ q₅ q₆ rows pos osp x given x′ kept owner allowance plan
+      (Call .pre (to-call κ₀ κ₁ κ₂ κ₃ κ₄ κ₅ κ₆ q₀ q₁ q₂ q₃ q₄ q₅ q₆ rows pos osp survey x given x′ kept owner allowance
+      plan
       state))
-  goes-call W κ₀ κ₁ κ₂ κ₃ κ₄ κ₅ κ₆ q₀ q₁ q₂ q₃ q₄ q₅ q₆ rows pos osp x given x′ kept owner allowance plan state =
-      λ given-fits kept-fits owner-fits allowance-fits.
+  goes-call W κ₀ κ₁ κ₂ κ₃ κ₄ κ₅ κ₆ q₀ q₁ q₂ q₃ q₄ q₅ q₆ rows pos osp survey x given x′ kept owner allowance plan state =
+      λ given-fits kept-fits owner-fits allowance-fits survey-fits.
       qed W ((‵ (flft κ₀ q₀) ⊛
       (‵ (flft κ₁ q₁) ⊛
       (‵ (flft κ₂ q₂) ⊛
@@ -189,6 +197,7 @@ module _ {M : Type 1} (𝓤 : URA M) (H : Heap 𝓤) (A : Atoms 𝓤) (mem : Mem
       owned ! u32 (Is u32) (uint-makes 𝓤 H A W w32) owner _ (refl, owner-fits) $ fjoin ! $
       owned ! usize (Is usize) (uint-makes 𝓤 H A W w64) kept _ (refl, kept-fits) $ fjoin ! $ move ! (2 ∷ 0 ∷ []) $ fjoin ! $
       owned ! usize (Is usize) (uint-makes 𝓤 H A W w64) given _ (refl, given-fits) $ fjoin ! $ move ! (2 ∷ 0 ∷ []) $ fjoin ! $
+      owned ! u32 (Is u32) (uint-makes 𝓤 H A W w32) survey _ (refl, survey-fits) $ fjoin ! $
       move ! (2 ∷ 0 ∷ []) $ fjoin ! $ move ! (2 ∷ 0 ∷ []) $ fjoin ! $ move ! (2 ∷ 0 ∷ []) $ fjoin ! $ move ! (1 ∷ 0 ∷ []) $
       join ! $ frame ! $ done !
 
@@ -205,10 +214,12 @@ module _ {M : Type 1} (𝓤 : URA M) (H : Heap 𝓤) (A : Atoms 𝓤) (mem : Mem
 
 module _ {M : Type 1} (𝓤 : URA M) (H : Heap 𝓤) (A : Atoms 𝓤) (W : Given 𝓤 H A) (mem : Memory → SProp 𝓤) (run : Routine → Fun 𝓤)
     (κ₀ κ₁ κ₂ κ₃ κ₄ κ₅ κ₆ : Lft) (q₀ q₁ q₂ q₃ q₄ q₅ q₆ : Share)
-    (rows : RefT (List ℕ)) (pos : RefT (List ℕ)) (osp : RefT (List ℕ)) (x : RefT (List Entry)) (given : ℕ) (x′ : RefT (List Entry)) (kept : ℕ)
+    (rows : RefT (List ℕ)) (pos : RefT (List ℕ)) (osp : RefT (List ℕ)) (survey : ℕ) (x : RefT (List Entry)) (given : ℕ) (x′ : RefT (List Entry))
+    (kept : ℕ)
     (owner : ℕ) (allowance : ℕ) (plan : RefT (List ℕ)) (state : RefT (List ℕ)) (x-room : Room T.the-row (length (x .now)))
     (x′-room : Room T.the-row (length (x′ .now)))
-    (given-fits : given < 2 ^ 64) (kept-fits : kept < 2 ^ 64) (owner-fits : owner < 2 ^ 32) (allowance-fits : allowance < 2 ^ 64) where
+    (given-fits : given < 2 ^ 64) (kept-fits : kept < 2 ^ 64) (owner-fits : owner < 2 ^ 32) (allowance-fits : allowance < 2 ^ 64)
+    (survey-fits : survey < 2 ^ 32) where
   abbrev at : Vals f.signature (κ₀, (κ₁, (κ₂, (κ₃, (κ₄, (κ₅, (κ₆, tt)))))))
   at = (
     (sliceVal (rows .ptr) (length (rows .now))) ∷ [],
@@ -217,16 +228,22 @@ module _ {M : Type 1} (𝓤 : URA M) (H : Heap 𝓤) (A : Atoms 𝓤) (W : Given
       (
         (sliceVal (osp .ptr) (length (osp .now))) ∷ [],
         (
-          (sliceVal (x .ptr) (length (x .now))) ∷ [],
+          vint w32 survey ∷ [],
           (
-            vint w64 given ∷ [],
+            (sliceVal (x .ptr) (length (x .now))) ∷ [],
             (
-              (sliceVal (x′ .ptr) (length (x′ .now))) ∷ [],
+              vint w64 given ∷ [],
               (
-                vint w64 kept ∷ [],
+                (sliceVal (x′ .ptr) (length (x′ .now))) ∷ [],
                 (
-                  vint w32 owner ∷ [],
-                  (vint w64 allowance ∷ [], ((sliceVal (plan .ptr) (length (plan .now))) ∷ [], ((sliceVal (state .ptr) (length (state .now))) ∷ [], tt))),
+                  vint w64 kept ∷ [],
+                  (
+                    vint w32 owner ∷ [],
+                    (
+                      vint w64 allowance ∷ [],
+                      ((sliceVal (plan .ptr) (length (plan .now))) ∷ [], ((sliceVal (state .ptr) (length (state .now))) ∷ [], tt)),
+                    ),
+                  ),
                 ),
               ),
             ),
@@ -242,7 +259,7 @@ module _ {M : Type 1} (𝓤 : URA M) (H : Heap 𝓤) (A : Atoms 𝓤) (W : Given
       (κ₀, (κ₁, (κ₂, (κ₃, (κ₄, (κ₅, (κ₆, tt))))))),
       (q₀, (q₁, (q₂, (q₃, (q₄, (q₅, (q₆, tt))))))),
       tt,
-      (rows, (pos, (osp, (x, (given, (x′, (kept, (owner, (allowance, (plan, (state, tt))))))))))),
+      (rows, (pos, (osp, (survey, (x, (given, (x′, (kept, (owner, (allowance, (plan, (state, tt)))))))))))),
       at,
     ),
     tt,
@@ -251,7 +268,7 @@ module _ {M : Type 1} (𝓤 : URA M) (H : Heap 𝓤) (A : Atoms 𝓤) (W : Given
   exits : (r : Queued) (z : QueuedNumbers) (w : Val) (us₀ : List Entry) (us₁ : List Entry) → length us₀ ≡ length (x .now)
       → length us₁ ≡ length (x′ .now)
       → _≡_ {A = QueuedResult} (record { answer = r; line = us₀; aside = us₁ })
-      (joinQueueOf (lent-tables (rows .now) (pos .now) (osp .now)) (lentAs (x .now) given (x′ .now) kept)
+      (joinQueueOf (lent-survey (rows .now) (pos .now) (osp .now) survey) (lentAs (x .now) given (x′ .now) kept)
       (record { owner = owner; allowance = allowance; plan = plan .now; state = state .now })) → z ≡ queuedNumbers r
       → ent 𝓤 (⋆ 𝓤 H A
       (‵ (flft κ₀ q₀) ∷ ‵ (flft κ₁ q₁) ∷ ‵ (flft κ₂ q₂) ∷ ‵ (flft κ₃ q₃) ∷ ‵ (flft κ₄ q₄) ∷ ‵
@@ -275,12 +292,13 @@ module _ {M : Type 1} (𝓤 : URA M) (H : Heap 𝓤) (A : Atoms 𝓤) (W : Given
           (κ₀, (κ₁, (κ₂, (κ₃, (κ₄, (κ₅, (κ₆, tt))))))),
           (q₀, (q₁, (q₂, (q₃, (q₄, (q₅, (q₆, tt))))))),
           tt,
-          (rows, (pos, (osp, (x, (given, (x′, (kept, (owner, (allowance, (plan, (state, tt))))))))))),
+          (rows, (pos, (osp, (survey, (x, (given, (x′, (kept, (owner, (allowance, (plan, (state, tt)))))))))))),
           at,
         ),
         tt,
       ) w z
-      (tt, (tt, (tt, (us₀, (tt, (us₁, (tt, (tt, (tt, (tt, (tt, tt))))))))))) (tt, (tt, (tt, (lu₀, (tt, (lu₁, (tt, (tt, (tt, (tt, (tt, tt)))))))))))) $
+      (tt, (tt, (tt, (tt, (us₀, (tt, (us₁, (tt, (tt, (tt, (tt, (tt, tt))))))))))))
+      (tt, (tt, (tt, (tt, (lu₀, (tt, (lu₁, (tt, (tt, (tt, (tt, (tt, tt))))))))))))) $
       says ! (
         its
             ∙ ap (λ (o : QueuedResult). queuedNumbers (o .answer)) is,
@@ -293,6 +311,7 @@ module _ {M : Type 1} (𝓤 : URA M) (H : Heap 𝓤) (A : Atoms 𝓤) (W : Given
       owned ! u32 (Is u32) (uint-makes 𝓤 H A W w32) owner _ (refl, owner-fits) $ fjoin ! $
       owned ! usize (Is usize) (uint-makes 𝓤 H A W w64) kept _ (refl, kept-fits) $ fjoin ! $ move ! (6 ∷ 0 ∷ []) $ fjoin ! $
       owned ! usize (Is usize) (uint-makes 𝓤 H A W w64) given _ (refl, given-fits) $ fjoin ! $ move ! (5 ∷ 0 ∷ []) $ fjoin ! $
+      owned ! u32 (Is u32) (uint-makes 𝓤 H A W w32) survey _ (refl, survey-fits) $ fjoin ! $
       move ! (4 ∷ 0 ∷ []) $ fjoin ! $ move ! (3 ∷ 0 ∷ []) $ fjoin ! $ move ! (2 ∷ 0 ∷ []) $ fjoin ! $ move ! (1 ∷ 0 ∷ 2 ∷ []) $
       frame ! $ frame ! $ done !
 
@@ -302,20 +321,22 @@ module _ {M : Type 1} (𝓤 : URA M) (H : Heap 𝓤) (A : Atoms 𝓤) (W : Given
         → length (state .now) < 2 ^ 64
         → ent 𝓤 (onEntry 𝓤 H A f.signature (κ₀, (κ₁, (κ₂, (κ₃, (κ₄, (κ₅, (κ₆, tt)))))))
         (q₀, (q₁, (q₂, (q₃, (q₄, (q₅, (q₆, tt)))))))
-        (rows, (pos, (osp, (x, (given, (x′, (kept, (owner, (allowance, (plan, (state, tt))))))))))) at)
+        (rows, (pos, (osp, (survey, (x, (given, (x′, (kept, (owner, (allowance, (plan, (state, tt)))))))))))) at)
         (WpFn 𝓤 H C Λ code.function
-        ((sliceVal (rows .ptr) (length (rows .now))) ∷ (sliceVal (pos .ptr) (length (pos .now))) ∷ (sliceVal (osp .ptr) (length (osp .now))) ∷ (sliceVal
-        (x .ptr) (length (x .now))) ∷ vint w64 given ∷ (sliceVal (x′ .ptr) (length (x′ .now))) ∷ vint w64 kept ∷ vint w32 owner ∷ vint w64
+        ((sliceVal (rows .ptr) (length (rows .now))) ∷ (sliceVal (pos .ptr) (length (pos .now))) ∷ (sliceVal (osp .ptr) (length (osp .now))) ∷ vint w32
+        survey ∷ (sliceVal (x .ptr) (length (x .now))) ∷ vint w64 given ∷ (sliceVal (x′ .ptr) (length (x′ .now))) ∷ vint w64 kept ∷ vint w32
+        owner ∷ vint w64
         allowance ∷ (sliceVal (plan .ptr) (length (plan .now))) ∷ (sliceVal (state .ptr) (length (state .now))) ∷ []) Post)
     walk r₀ r₁ r₂ r₅ r₆ =
         qed W ((‵ (flft κ₀ q₀) ⊛ ‵ (flft κ₁ q₁) ⊛ ‵ (flft κ₂ q₂) ⊛ ‵ (flft κ₃ q₃) ⊛ ‵ (flft κ₄ q₄) ⊛ ‵
         (flft κ₅ q₅) ⊛ ‵ (flft κ₆ q₆) ⊛ ‵ ftrue) ∷ ‵
-        (owns (ShrSlice (named 0) κ₀ u32 ∷ ShrSlice (named 1) κ₁ u32 ∷ ShrSlice (named 2) κ₂ u32 ∷ MutSlice
+        (owns (ShrSlice (named 0) κ₀ u32 ∷ ShrSlice (named 1) κ₁ u32 ∷ ShrSlice (named 2) κ₂ u32 ∷ u32 ∷ MutSlice
         (named 3) κ₃ T.the-row ∷ usize ∷ MutSlice (named 4) κ₄ T.the-row ∷ usize ∷ u32 ∷ u64 ∷ ShrSlice (named 5) κ₅ u32 ∷ ShrSlice
-        (named 6) κ₆ u32 ∷ []) (rows, (pos, (osp, (x, (given, (x′, (kept, (owner, (allowance, (plan, (state, tt))))))))))) at) ∷ []) ∵
+        (named 6) κ₆ u32 ∷ []) (rows, (pos, (osp, (survey, (x, (given, (x′, (kept, (owner, (allowance, (plan, (state, tt)))))))))))) at) ∷ []) ∵
         enter ! C Λ code.function
-        ((sliceVal (rows .ptr) (length (rows .now))) ∷ (sliceVal (pos .ptr) (length (pos .now))) ∷ (sliceVal (osp .ptr) (length (osp .now))) ∷ (sliceVal
-        (x .ptr) (length (x .now))) ∷ vint w64 given ∷ (sliceVal (x′ .ptr) (length (x′ .now))) ∷ vint w64 kept ∷ vint w32 owner ∷ vint w64
+        ((sliceVal (rows .ptr) (length (rows .now))) ∷ (sliceVal (pos .ptr) (length (pos .now))) ∷ (sliceVal (osp .ptr) (length (osp .now))) ∷ vint w32
+        survey ∷ (sliceVal (x .ptr) (length (x .now))) ∷ vint w64 given ∷ (sliceVal (x′ .ptr) (length (x′ .now))) ∷ vint w64 kept ∷ vint w32
+        owner ∷ vint w64
         allowance ∷ (sliceVal (plan .ptr) (length (plan .now))) ∷ (sliceVal (state .ptr) (length (state .now))) ∷ []) _ $ alloc1 ! (λ l₀. alloc1
         ! (λ l₁. alloc1
         ! (λ l₂. alloc1
@@ -327,20 +348,23 @@ module _ {M : Type 1} (𝓤 : URA M) (H : Heap 𝓤) (A : Atoms 𝓤) (W : Given
         ! (λ l₈. alloc1
         ! (λ l₉. alloc1
         ! (λ l₁₀. alloc1
-        ! (λ l₁₁. alloc1 ! (λ l₁₂. alloc1 ! (λ l₁₃. alloc1 ! (λ l₁₄. alloc1 ! (λ l₁₅. alloc1 ! (λ l₁₆. alloc0 ! $ params1 ! $
-        pass1 ! (init ! 30 refl (tt, (tt, (record { fits = r₀ }, tt)))) $ pass1 ! (init ! 28 refl (tt, (tt, (record { fits = r₁ }, tt)))) $
-        pass1 ! (init ! 26 refl (tt, (tt, (record { fits = r₂ }, tt)))) $ pass1 ! (init ! 24 refl (tt, (tt, (record { fits = x-room .0 }, tt)))) $
+        ! (λ l₁₁. alloc1
+        ! (λ l₁₂. alloc1 ! (λ l₁₃. alloc1 ! (λ l₁₄. alloc1 ! (λ l₁₅. alloc1 ! (λ l₁₆. alloc1 ! (λ l₁₇. alloc0 ! $ params1 ! $
+        pass1 ! (init ! 32 refl (tt, (tt, (record { fits = r₀ }, tt)))) $ pass1 ! (init ! 30 refl (tt, (tt, (record { fits = r₁ }, tt)))) $
+        pass1 ! (init ! 28 refl (tt, (tt, (record { fits = r₂ }, tt)))) $ pass1 ! (init ! 26 refl (tt, record { fits = survey-fits })) $
+        pass1 ! (init ! 24 refl (tt, (tt, (record { fits = x-room .0 }, tt)))) $
         pass1 ! (init ! 22 refl (tt, record { fits = given-fits })) $ pass1 ! (init ! 20 refl (tt, (tt, (record { fits = x′-room .0 }, tt)))) $
         pass1 ! (init ! 18 refl (tt, record { fits = kept-fits })) $ pass1 ! (init ! 16 refl (tt, record { fits = owner-fits })) $
         pass1 ! (init ! 14 refl (tt, record { fits = allowance-fits })) $ pass1 ! (init ! 12 refl (tt, (tt, (record { fits = r₅ }, tt)))) $
         pass1 ! (init ! 10 refl (tt, (tt, (record { fits = r₆ }, tt)))) $ pass0 ! $
-        move ! (35 ∷ []) $ fsplit ! $ move ! (1 ∷ []) $ fsplit ! $ move ! (1 ∷ []) $ fsplit ! $ move ! (1 ∷ []) $ fsplit ! $ move ! (1 ∷ []) $
+        move ! (37 ∷ []) $ fsplit ! $ move ! (1 ∷ []) $ fsplit ! $ move ! (1 ∷ []) $ fsplit ! $ move ! (1 ∷ []) $ fsplit ! $ move ! (1 ∷ []) $
+        fsplit ! $ move ! (1 ∷ []) $
         fsplit ! $ move ! (1 ∷ []) $ fsplit ! $ move ! (1 ∷ []) $ fsplit ! $ move ! (1 ∷ []) $ fsplit ! $ move ! (1 ∷ []) $ fsplit ! $
-        move ! (1 ∷ []) $ fsplit ! $ move ! (1 ∷ []) $ fsplit ! $ move ! (46 ∷ []) $ split ! $ move ! (1 ∷ []) $ split ! $ move ! (1 ∷ []) $
+        move ! (1 ∷ []) $ fsplit ! $ move ! (1 ∷ []) $ fsplit ! $ move ! (49 ∷ []) $ split ! $ move ! (1 ∷ []) $ split ! $ move ! (1 ∷ []) $
         split ! $ move ! (1 ∷ []) $ split ! $ move ! (1 ∷ []) $ split ! $ move ! (1 ∷ []) $ split ! $ move ! (1 ∷ []) $ split ! $
-        keep ! (7 ∷ 6 ∷ 5 ∷ 4 ∷ 3 ∷ 2 ∷ 0 ∷ 19 ∷ 18 ∷ 17 ∷ 16 ∷ 14 ∷ 10 ∷ 8 ∷ 20 ∷ 21 ∷ 22 ∷ 23 ∷ 24 ∷ 25 ∷ 26 ∷ 27
-        ∷ 28 ∷ 29 ∷ 30 ∷ 31 ∷ 32 ∷ 33 ∷ 34 ∷ 35 ∷ 36 ∷ 37 ∷ 38 ∷ 39 ∷ 40 ∷ 41 ∷ 42 ∷ 43 ∷ 44 ∷ 45 ∷ 46 ∷ 47 ∷ 48 ∷
-        49 ∷ 50 ∷ 51 ∷ 52 ∷ 53 ∷ []) $
+        keep ! (7 ∷ 6 ∷ 5 ∷ 4 ∷ 3 ∷ 2 ∷ 0 ∷ 20 ∷ 19 ∷ 18 ∷ 16 ∷ 14 ∷ 10 ∷ 8 ∷ 21 ∷ 22 ∷ 23 ∷ 24 ∷ 25 ∷ 26 ∷ 27 ∷ 28
+        ∷ 29 ∷ 30 ∷ 31 ∷ 32 ∷ 33 ∷ 34 ∷ 35 ∷ 36 ∷ 37 ∷ 38
+        ∷ 39 ∷ 40 ∷ 41 ∷ 42 ∷ 43 ∷ 44 ∷ 45 ∷ 46 ∷ 47 ∷ 48 ∷ 49 ∷ 50 ∷ 51 ∷ 52 ∷ 53 ∷ 54 ∷ 55 ∷ 56 ∷ []) $
         assigns ! (addr ! (from ! (fld ! refl (hop ! (look-in ! 38 (sub ! 0 refl (whole !))) (stop !))))) (from ! (stop !)) (init ! 20 refl (tt, tt)) $
         assigns ! (agg
         ! (and-then ! (load ! (from ! (stop !)) (look ! 20 refl))
@@ -371,12 +395,15 @@ module _ {M : Type 1} (𝓤 : URA M) (H : Heap 𝓤) (A : Atoms 𝓤) (W : Given
         move ! (10 ∷ 0 ∷ []) $ join ! $ move ! (9 ∷ 0 ∷ []) $ join ! $ move ! (8 ∷ 0 ∷ []) $ join ! $ move ! (7 ∷ 0 ∷ []) $ join ! $
         move ! (6 ∷ 0 ∷ []) $ join ! $ use1 W (raw
         (Call 𝓤 H A mem run .pre
-        (to-call 𝓤 H A mem run κ₀ κ₁ κ₂ κ₃ κ₄ κ₅ κ₆ q₀ q₁ q₂ q₃ q₄ q₅ q₆ rows pos osp x given x′ kept owner allowance
+        (to-call 𝓤 H A mem run κ₀ κ₁ κ₂ κ₃ κ₄ κ₅ κ₆ q₀ q₁ q₂ q₃ q₄ q₅ q₆ rows pos osp survey x given x′ kept owner
+        allowance
         plan state)))
-        (goes-call 𝓤 H A mem run W κ₀ κ₁ κ₂ κ₃ κ₄ κ₅ κ₆ q₀ q₁ q₂ q₃ q₄ q₅ q₆ rows pos osp x given x′ kept owner
-        allowance plan state given-fits kept-fits owner-fits allowance-fits) $ calls-at ! fm (Call 𝓤 H A mem run) known-callee
-        (to-call 𝓤 H A mem run κ₀ κ₁ κ₂ κ₃ κ₄ κ₅ κ₆ q₀ q₁ q₂ q₃ q₄ q₅ q₆ rows pos osp x given x′ kept owner allowance
+        (goes-call 𝓤 H A mem run W κ₀ κ₁ κ₂ κ₃ κ₄ κ₅ κ₆ q₀ q₁ q₂ q₃ q₄ q₅ q₆ rows pos osp survey x given x′ kept owner
+        allowance plan state given-fits kept-fits owner-fits allowance-fits survey-fits) $ calls-at ! fm (Call 𝓤 H A mem run) known-callee
+        (to-call 𝓤 H A mem run κ₀ κ₁ κ₂ κ₃ κ₄ κ₅ κ₆ q₀ q₁ q₂ q₃ q₄ q₅ q₆ rows pos osp survey x given x′ kept owner
+        allowance
         plan state)
+        (and-then ! (load ! (from ! (stop !)) (look ! 38 refl))
         (and-then ! (load ! (from ! (stop !)) (look ! 36 refl))
         (and-then ! (load ! (from ! (stop !)) (look ! 34 refl))
         (and-then ! (load ! (from ! (stop !)) (look ! 32 refl))
@@ -386,54 +413,58 @@ module _ {M : Type 1} (𝓤 : URA M) (H : Heap 𝓤) (A : Atoms 𝓤) (W : Given
         (and-then ! (load ! (from ! (stop !)) (look ! 24 refl))
         (and-then ! (load ! (from ! (stop !)) (look ! 22 refl))
         (and-then ! (load ! (from ! (stop !)) (look ! 20 refl))
-        (and-then ! (load ! (from ! (stop !)) (look ! 18 refl)) (and-then ! (load ! (from ! (stop !)) (look ! 16 refl)) (no-more !)))))))))))) (λ w₁.
+        (and-then ! (load ! (from ! (stop !)) (look ! 18 refl)) (and-then ! (load ! (from ! (stop !)) (look ! 16 refl)) (no-more !))))))))))))) (λ w₁.
         use1 W (later
         (some (λ (r : Queued).
         ((‵ (flft κ₀ q₀) ⊛ ‵ (flft κ₁ q₁) ⊛ ‵ (flft κ₂ q₂) ⊛ ‵ (flft κ₃ q₃) ⊛ ‵ (flft κ₄ q₄) ⊛ ‵
         (flft κ₅ q₅) ⊛ ‵ (flft κ₆ q₆) ⊛ ‵ ftrue) ⊛ ‵ (Q.the-row .own r (w₁ ∷ []))) ⊛ raw
         (ensured 𝓤 H A callee.ended (callee.clauses 𝓤 H A mem run) (κ₀, (κ₁, (κ₂, (κ₃, (κ₄, (κ₅, (κ₆, tt)))))))
-        (rows, (pos, (osp, (x, (given, (x′, (kept, (owner, (allowance, (plan, (state, tt))))))))))) tt r)))) (id⊢ 𝓤 _) $
+        (rows, (pos, (osp, (survey, (x, (given, (x′, (kept, (owner, (allowance, (plan, (state, tt)))))))))))) tt r)))) (id⊢ 𝓤 _) $
         await ! tt $ pick ! (λ r. split ! $ move ! (1 ∷ []) $ use1 W (some
         (λ (vs : Unit
         {0} × (Unit
         {0} × (Unit
-        {0} × (List Entry × (Unit {0} × (List Entry × (Unit {0} × (Unit {0} × (Unit {0} × (Unit {0} × (Unit {0} × Unit {0}))))))))))). ‵
+        {0} × (Unit
+        {0} × (List Entry × (Unit {0} × (List Entry × (Unit {0} × (Unit {0} × (Unit {0} × (Unit {0} × (Unit {0} × Unit {0})))))))))))). ‵
         (lasts callee.ended (κ₀, (κ₁, (κ₂, (κ₃, (κ₄, (κ₅, (κ₆, tt)))))))
-        (rows, (pos, (osp, (x, (given, (x′, (kept, (owner, (allowance, (plan, (state, tt))))))))))) vs) ⊛ raw
-        (fact 𝓤 (_≡_ {A = QueuedResult} (record { answer = r; line = vs .1 .1 .1 .0; aside = vs .1 .1 .1 .1 .1 .0 })
-        (joinQueueOf (lent-tables (rows .now) (pos .now) (osp .now)) (lentAs (x .now) given (x′ .now) kept)
+        (rows, (pos, (osp, (survey, (x, (given, (x′, (kept, (owner, (allowance, (plan, (state, tt)))))))))))) vs) ⊛ raw
+        (fact 𝓤 (_≡_ {A = QueuedResult} (record { answer = r; line = vs .1 .1 .1 .1 .0; aside = vs .1 .1 .1 .1 .1 .1 .0 })
+        (joinQueueOf (lent-survey (rows .now) (pos .now) (osp .now) survey) (lentAs (x .now) given (x′ .now) kept)
         (record { owner = owner; allowance = allowance; plan = plan .now; state = state .now })))))) (id⊢ 𝓤 _) $
         pick ! (λ vs. split ! $ move ! (1 ∷ []) $
-        heard ! (_≡_ {A = QueuedResult} (record { answer = r; line = vs .1 .1 .1 .0; aside = vs .1 .1 .1 .1 .1 .0 })
-        (joinQueueOf (lent-tables (rows .now) (pos .now) (osp .now)) (lentAs (x .now) given (x′ .now) kept)
+        heard ! (_≡_ {A = QueuedResult} (record { answer = r; line = vs .1 .1 .1 .1 .0; aside = vs .1 .1 .1 .1 .1 .1 .0 })
+        (joinQueueOf (lent-survey (rows .now) (pos .now) (osp .now) survey) (lentAs (x .now) given (x′ .now) kept)
         (record { owner = owner; allowance = allowance; plan = plan .now; state = state .now }))) (λ is.
-        fsplit ! $ move ! (1 ∷ []) $ fsplit ! $ move ! (1 ∷ []) $ fsplit ! $ move ! (1 ∷ []) $ fsplit ! $ fsplit ! $ move ! (1 ∷ []) $
-        feqL ! (λ len₃.
+        fsplit ! $ move ! (1 ∷ []) $ fsplit ! $ move ! (1 ∷ []) $ fsplit ! $ move ! (1 ∷ []) $ fsplit ! $ move ! (1 ∷ []) $ fsplit ! $
+        fsplit ! $ move ! (1 ∷ []) $ feqL ! (λ len₃.
         move ! (1 ∷ []) $ fsplit ! $ move ! (1 ∷ []) $ fsplit ! $ fsplit ! $ move ! (1 ∷ []) $ feqL ! (λ len₅.
-        move ! (7 ∷ []) $ split ! $ move ! (1 ∷ []) $ peeks ! Q.the-row (Is Q.the-row) (shows 𝓤 H A Q.the-row) r (w₁ ∷ []) (λ g₁.
-        land ! (from ! (stop !)) (init ! 22 refl (EL.lawful Q.the-type Q′.the-laws 𝓤 H A W tt .typed r (w₁ ∷ []) g₁ .0)) $
+        move ! (8 ∷ []) $ split ! $ move ! (1 ∷ []) $ peeks ! Q.the-row (Is Q.the-row) (shows 𝓤 H A Q.the-row) r (w₁ ∷ []) (λ g₁.
+        land ! (from ! (stop !)) (init ! 23 refl (EL.lawful Q.the-type Q′.the-laws 𝓤 H A W tt .typed r (w₁ ∷ []) g₁ .0)) $
         use1 W (raw (Numbers 𝓤 H A mem run .pre (to-numbers 𝓤 H A mem run r w₁))) (goes-numbers 𝓤 H A mem run W r w₁) $
         calls-at ! fm (Numbers 𝓤 H A mem run) known-numbers (to-numbers 𝓤 H A mem run r w₁)
-        (and-then ! (load ! (from ! (stop !)) (look ! 22 refl)) (no-more !)) (λ w₂.
+        (and-then ! (load ! (from ! (stop !)) (look ! 23 refl)) (no-more !)) (λ w₂.
         use1 W (later
         (some (λ (z : QueuedNumbers). (‵ ftrue ⊛ ‵ (N.the-row .own z (w₂ ∷ []))) ⊛ raw
         (ensured 𝓤 H A numbers.ended (numbers.clauses 𝓤 H A mem run) tt (r, tt) tt z)))) (id⊢ 𝓤 _) $
         await ! tt $ pick ! (λ z. split ! $ move ! (1 ∷ []) $ use1 W (raw (fact 𝓤 (z ≡ queuedNumbers r))) (numbers-of 𝓤 H A mem run r z) $
         heard ! (z ≡ queuedNumbers r) (λ its. split ! $ move ! (1 ∷ []) $
         peeks ! N.the-row (Is N.the-row) (shows 𝓤 H A N.the-row) z (w₂ ∷ []) (λ g₂.
-        land ! (from ! (stop !)) (init ! 47 refl (LL.lawful N.the-type N′.the-laws 𝓤 H A W .typed z (w₂ ∷ []) g₂ .0)) $ move ! (2 ∷ []) $
+        land ! (from ! (stop !)) (init ! 50 refl (LL.lawful N.the-type N′.the-laws 𝓤 H A W .typed z (w₂ ∷ []) g₂ .0)) $ move ! (2 ∷ []) $
         split ! $ move ! (1 ∷ []) $ split ! $ move ! (1 ∷ []) $ split ! $ move ! (1 ∷ []) $ split ! $ move ! (1 ∷ []) $ split ! $
         move ! (1 ∷ []) $ split ! $ move ! (1 ∷ []) $ split ! $
-        returns ! (look ! 54 refl) $ forget ! 22 refl $ forget ! 24 refl $ forget ! 26 refl $ forget ! 28 refl $ forget ! 30 refl $ forget ! 32 refl $
-        forget ! 34 refl $ forget ! 36 refl $ forget ! 38 refl $ forget ! 40 refl $ forget ! 42 refl $ forget ! 44 refl $ forget ! 46 refl $
-        forget ! 48 refl $ forget ! 50 refl $ forget ! 52 refl $ forget ! 54 refl $
-        move ! (54 ∷ 55 ∷ []) $ free1 ! $ move ! (52 ∷ 53 ∷ []) $ free1 ! $ move ! (50 ∷ 51 ∷ []) $ free1 ! $ move ! (48 ∷ 49 ∷ []) $
-        free1 ! $ move ! (46 ∷ 47 ∷ []) $ free1 ! $ move ! (44 ∷ 45 ∷ []) $ free1 ! $ move ! (42 ∷ 43 ∷ []) $ free1 ! $
-        move ! (40 ∷ 41 ∷ []) $ free1 ! $ move ! (38 ∷ 39 ∷ []) $ free1 ! $ move ! (36 ∷ 37 ∷ []) $ free1 ! $ move ! (34 ∷ 35 ∷ []) $
-        free1 ! $ move ! (32 ∷ 33 ∷ []) $ free1 ! $ move ! (30 ∷ 31 ∷ []) $ free1 ! $ move ! (28 ∷ 29 ∷ []) $ free1 ! $
-        move ! (26 ∷ 27 ∷ []) $ free1 ! $ move ! (24 ∷ 25 ∷ []) $ free1 ! $ move ! (22 ∷ 23 ∷ []) $ free1 ! $ free0 ! $
-        keep ! (7 ∷ 6 ∷ 5 ∷ 4 ∷ 3 ∷ 2 ∷ 0 ∷ 21 ∷ 20 ∷ 19 ∷ 13 ∷ 10 ∷ 18 ∷ 17 ∷ 8 ∷ []) $
-        by ! (exits r z w₂ (vs .1 .1 .1 .0) (vs .1 .1 .1 .1 .1 .0) len₃ len₅ is its)))))))))))))))))))))))))))))
+        returns ! (look ! 57 refl) $ forget ! 23 refl $ forget ! 25 refl $ forget ! 27 refl $ forget ! 29 refl $ forget ! 31 refl $ forget ! 33 refl $
+        forget ! 35 refl $ forget ! 37 refl $ forget ! 39 refl $
+        forget ! 41 refl $ forget ! 43 refl $ forget ! 45 refl $ forget ! 47 refl $ forget ! 49 refl $ forget ! 51 refl $ forget ! 53 refl $
+        forget ! 55 refl $ forget ! 57 refl $
+        move ! (57 ∷ 58 ∷ []) $ free1 ! $ move ! (55 ∷ 56 ∷ []) $ free1 ! $ move ! (53 ∷ 54 ∷ []) $ free1 ! $ move ! (51 ∷ 52 ∷ []) $
+        free1 ! $ move ! (49 ∷ 50 ∷ []) $ free1 ! $
+        move ! (47 ∷ 48 ∷ []) $ free1 ! $ move ! (45 ∷ 46 ∷ []) $ free1 ! $ move ! (43 ∷ 44 ∷ []) $ free1 ! $ move ! (41 ∷ 42 ∷ []) $
+        free1 ! $ move ! (39 ∷ 40 ∷ []) $ free1 ! $
+        move ! (37 ∷ 38 ∷ []) $ free1 ! $ move ! (35 ∷ 36 ∷ []) $ free1 ! $ move ! (33 ∷ 34 ∷ []) $ free1 ! $ move ! (31 ∷ 32 ∷ []) $
+        free1 ! $ move ! (29 ∷ 30 ∷ []) $ free1 ! $
+        move ! (27 ∷ 28 ∷ []) $ free1 ! $ move ! (25 ∷ 26 ∷ []) $ free1 ! $ move ! (23 ∷ 24 ∷ []) $ free1 ! $ free0 ! $
+        keep ! (7 ∷ 6 ∷ 5 ∷ 4 ∷ 3 ∷ 2 ∷ 0 ∷ 22 ∷ 21 ∷ 20 ∷ 13 ∷ 10 ∷ 19 ∷ 18 ∷ 8 ∷ []) $
+        by ! (exits r z w₂ (vs .1 .1 .1 .1 .0) (vs .1 .1 .1 .1 .1 .1 .0) len₃ len₅ is its))))))))))))))))))))))))))))))
 
 module _ {M : Type 1} (𝓤 : URA M) (H : Heap 𝓤) (A : Atoms 𝓤) (W : Given 𝓤 H A) (mem : Memory → SProp 𝓤) (run : Routine → Fun 𝓤) where
   sotjarn-join-walks : (C : Calls 𝓤 H) (Λ : Loops 𝓤 H) → FmC 𝓤 H (W .laws) C → Triple 𝓤 (C #callee) (Call 𝓤 H A mem run)
@@ -444,7 +475,10 @@ module _ {M : Type 1} (𝓤 : URA M) (H : Heap 𝓤) (A : Atoms 𝓤) (W : Given
         slice-vals,
         (
           slice-vals,
-          (slice-vals, (slice-vals, (uint-vals w64, (slice-vals, (uint-vals w64, (uint-vals w32, (uint-vals w64, (slice-vals, (slice-vals, tt))))))))),
+          (
+            slice-vals,
+            (uint-vals w32, (slice-vals, (uint-vals w64, (slice-vals, (uint-vals w64, (uint-vals w32, (uint-vals w64, (slice-vals, (slice-vals, tt))))))))),
+          ),
         ),
       ))
       (λ κs. (
@@ -454,16 +488,22 @@ module _ {M : Type 1} (𝓤 : URA M) (H : Heap 𝓤) (A : Atoms 𝓤) (W : Given
           (
             shr-slice-tells (named 2) (κs .1 .1 .0) u32,
             (
-              mut-slice-tells (named 3) (κs .1 .1 .1 .0) T.the-row,
+              uint-tells w32,
               (
-                uint-tells w64,
+                mut-slice-tells (named 3) (κs .1 .1 .1 .0) T.the-row,
                 (
-                  mut-slice-tells (named 4) (κs .1 .1 .1 .1 .0) T.the-row,
+                  uint-tells w64,
                   (
-                    uint-tells w64,
+                    mut-slice-tells (named 4) (κs .1 .1 .1 .1 .0) T.the-row,
                     (
-                      uint-tells w32,
-                      (uint-tells w64, (shr-slice-tells (named 5) (κs .1 .1 .1 .1 .1 .0) u32, (shr-slice-tells (named 6) (κs .1 .1 .1 .1 .1 .1 .0) u32, tt))),
+                      uint-tells w64,
+                      (
+                        uint-tells w32,
+                        (
+                          uint-tells w64,
+                          (shr-slice-tells (named 5) (κs .1 .1 .1 .1 .1 .0) u32, (shr-slice-tells (named 6) (κs .1 .1 .1 .1 .1 .1 .0) u32, tt)),
+                        ),
+                      ),
                     ),
                   ),
                 ),
@@ -475,10 +515,12 @@ module _ {M : Type 1} (𝓤 : URA M) (H : Heap 𝓤) (A : Atoms 𝓤) (W : Given
       (λ κs qs bounds a g are. via 𝓤 _ (fst∗ 𝓤 _ (emp 𝓤)) (
       walk 𝓤 H A W mem run (κs .0) (κs .1 .0) (κs .1 .1 .0) (κs .1 .1 .1 .0) (κs .1 .1 .1 .1 .0) (κs .1 .1 .1 .1 .1 .0) (κs .1 .1 .1 .1 .1 .1 .0)
       (qs .0) (qs .1 .0) (qs .1 .1 .0) (qs .1 .1 .1 .0) (qs .1 .1 .1 .1 .0) (qs .1 .1 .1 .1 .1 .0) (qs .1 .1 .1 .1 .1 .1 .0) (a .0) (a .1 .0) (a .1 .1 .0)
-      (a .1 .1 .1 .0) (a .1 .1 .1 .1 .0) (a .1 .1 .1 .1 .1 .0) (a .1 .1 .1 .1 .1 .1 .0) (a .1 .1 .1 .1 .1 .1 .1 .0) (a .1 .1 .1 .1 .1 .1 .1 .1 .0)
-      (a .1 .1 .1 .1 .1 .1 .1 .1 .1 .0) (a .1 .1 .1 .1 .1 .1 .1 .1 .1 .1 .0) (are .1 .1 .1 .0 .0 .1) (are .1 .1 .1 .1 .1 .0 .0 .1) (are .1 .1 .1 .1 .0 .1)
-      (are .1 .1 .1 .1 .1 .1 .0 .1) (are .1 .1 .1 .1 .1 .1 .1 .0 .1) (are .1 .1 .1 .1 .1 .1 .1 .1 .0 .1) C Λ fm known-callee known-numbers (are .0 .0 .1 .0)
-      (are .1 .0 .0 .1 .0) (are .1 .1 .0 .0 .1 .0) (are .1 .1 .1 .1 .1 .1 .1 .1 .1 .0 .0 .1 .0) (are .1 .1 .1 .1 .1 .1 .1 .1 .1 .1 .0 .0 .1 .0)))
+      (a .1 .1 .1 .0) (a .1 .1 .1 .1 .0) (a .1 .1 .1 .1 .1 .0) (a .1 .1 .1 .1 .1 .1 .0) (a .1 .1 .1 .1 .1 .1 .1 .0)
+      (a .1 .1 .1 .1 .1 .1 .1 .1 .0) (a .1 .1 .1 .1 .1 .1 .1 .1 .1 .0) (a .1 .1 .1 .1 .1 .1 .1 .1 .1 .1 .0)
+      (a .1 .1 .1 .1 .1 .1 .1 .1 .1 .1 .1 .0) (are .1 .1 .1 .1 .0 .0 .1) (are .1 .1 .1 .1 .1 .1 .0 .0 .1) (are .1 .1 .1 .1 .1 .0 .1)
+      (are .1 .1 .1 .1 .1 .1 .1 .0 .1) (are .1 .1 .1 .1 .1 .1 .1 .1 .0 .1) (are .1 .1 .1 .1 .1 .1 .1 .1 .1 .0 .1) (are .1 .1 .1 .0 .1)
+      C Λ fm known-callee known-numbers (are .0 .0 .1 .0) (are .1 .0 .0 .1 .0) (are .1 .1 .0 .0 .1 .0)
+      (are .1 .1 .1 .1 .1 .1 .1 .1 .1 .1 .0 .0 .1 .0) (are .1 .1 .1 .1 .1 .1 .1 .1 .1 .1 .1 .0 .0 .1 .0)))
 
 sotjarn-join-meets : {M : Type 1} (𝓤 : URA M) (H : Heap 𝓤) (A : Atoms 𝓤) → Given 𝓤 H A
     → (mem : Memory → SProp 𝓤) (run : Routine → Fun 𝓤) (𝓣 : Tables 𝓤 H)
@@ -492,20 +534,23 @@ sotjarn-join-meets 𝓤 H A W mem run 𝓣 known-callee known-numbers =
         (
           goes-none-slice 𝓤 H A W 7 (2 ∷ []) tt (plain (λ _. u32)) yes,
           (
-            goes-gave-slice 𝓤 H A W 7 3 tt (plain (λ _. T.the-row)),
+            goes-none 𝓤 H A W 7 (λ _. u32) yes (λ κs x f. refl),
             (
-              goes-none 𝓤 H A W 7 (λ _. usize) yes (λ κs x f. refl),
+              goes-gave-slice 𝓤 H A W 7 3 tt (plain (λ _. T.the-row)),
               (
-                goes-gave-slice 𝓤 H A W 7 4 tt (plain (λ _. T.the-row)),
+                goes-none 𝓤 H A W 7 (λ _. usize) yes (λ κs x f. refl),
                 (
-                  goes-none 𝓤 H A W 7 (λ _. usize) yes (λ κs x f. refl),
+                  goes-gave-slice 𝓤 H A W 7 4 tt (plain (λ _. T.the-row)),
                   (
-                    goes-none 𝓤 H A W 7 (λ _. u32) yes (λ κs x f. refl),
+                    goes-none 𝓤 H A W 7 (λ _. usize) yes (λ κs x f. refl),
                     (
-                      goes-none 𝓤 H A W 7 (λ _. u64) yes (λ κs x f. refl),
+                      goes-none 𝓤 H A W 7 (λ _. u32) yes (λ κs x f. refl),
                       (
-                        goes-none-slice 𝓤 H A W 7 (5 ∷ []) tt (plain (λ _. u32)) yes,
-                        (goes-none-slice 𝓤 H A W 7 (6 ∷ []) tt (plain (λ _. u32)) yes, tt),
+                        goes-none 𝓤 H A W 7 (λ _. u64) yes (λ κs x f. refl),
+                        (
+                          goes-none-slice 𝓤 H A W 7 (5 ∷ []) tt (plain (λ _. u32)) yes,
+                          (goes-none-slice 𝓤 H A W 7 (6 ∷ []) tt (plain (λ _. u32)) yes, tt),
+                        ),
                       ),
                     ),
                   ),

@@ -46,7 +46,7 @@ use Rattle.queues.specs.Lists.{lentAs}
 use Rattle.queues.specs.Serving.{ServeResult, serveOf}
 use Rattle.queues.proofs.Service as Y
 use Rattle.queues.proofs.Service.Laws as Y′
-use Rattle.tables.specs.Tables.{tablesOf as lent-tables}
+use Rattle.turns.specs.Surveys.{surveyOf as lent-survey}
 use Rattle.sotjarn.specs.Numbers.{serviceNumbers}
 use Rattle.sotjarn.specs.declared.ServiceNumbers.{ServiceNumbers}
 use Rattle.sotjarn.proofs.ServiceNumbers as N
@@ -72,14 +72,17 @@ stayed = (
     (
       stay-none-slice (2 ∷ []) tt (plain (λ _. u32)) yes,
       (
-        gave-slice (3 ∷ []) tt (plain (λ _. T.the-row)),
+        stay-none (λ _. u32) yes,
         (
-          stay-none (λ _. usize) yes,
+          gave-slice (3 ∷ []) tt (plain (λ _. T.the-row)),
           (
-            gave-slice (4 ∷ []) tt (plain (λ _. T.the-row)),
+            stay-none (λ _. usize) yes,
             (
-              stay-none (λ _. usize) yes,
-              (stay-none (λ _. u32) yes, (stay-none-slice (5 ∷ []) tt (plain (λ _. u32)) yes, (gave-slice (6 ∷ []) tt (plain (λ _. u32)), tt))),
+              gave-slice (4 ∷ []) tt (plain (λ _. T.the-row)),
+              (
+                stay-none (λ _. usize) yes,
+                (stay-none (λ _. u32) yes, (stay-none-slice (5 ∷ []) tt (plain (λ _. u32)) yes, (gave-slice (6 ∷ []) tt (plain (λ _. u32)), tt))),
+              ),
             ),
           ),
         ),
@@ -97,15 +100,16 @@ module _ {M : Type 1} (𝓤 : URA M) (H : Heap 𝓤) (A : Atoms 𝓤) (mem : Mem
   Numbers = tripleOf 𝓤 H A numbers.signature (numbers.spec 𝓤 H A mem run)
 
   abbrev to-call : (κ₀ κ₁ κ₂ κ₃ κ₄ κ₅ κ₆ : Lft) (q₀ q₁ q₂ q₃ q₄ q₅ q₆ : Share) (rows : RefT (List ℕ))
-      (pos : RefT (List ℕ)) (osp : RefT (List ℕ)) (x : RefT (List Entry)) (given : ℕ) (x′ : RefT (List Entry)) (kept : ℕ) (quantum : ℕ)
+      (pos : RefT (List ℕ)) (osp : RefT (List ℕ)) (survey : ℕ) (x : RefT (List Entry)) (given : ℕ) (x′ : RefT (List Entry)) (kept : ℕ)
+      (quantum : ℕ)
       (threshold : RefT (List ℕ)) (output : RefT (List ℕ)) → Call .Ghost
-  to-call κ₀ κ₁ κ₂ κ₃ κ₄ κ₅ κ₆ q₀ q₁ q₂ q₃ q₄ q₅ q₆ rows pos osp x given x′ kept quantum threshold
+  to-call κ₀ κ₁ κ₂ κ₃ κ₄ κ₅ κ₆ q₀ q₁ q₂ q₃ q₄ q₅ q₆ rows pos osp survey x given x′ kept quantum threshold
       output = (
         (
           (κ₀, (κ₁, (κ₂, (κ₃, (κ₄, (κ₅, (κ₆, tt))))))),
           (q₀, (q₁, (q₂, (q₃, (q₄, (q₅, (q₆, tt))))))),
           tt,
-          (rows, (pos, (osp, (x, (given, (x′, (kept, (quantum, (threshold, (output, tt)))))))))),
+          (rows, (pos, (osp, (survey, (x, (given, (x′, (kept, (quantum, (threshold, (output, tt))))))))))),
           (
             (sliceVal (rows .ptr) (length (rows .now))) ∷ [],
             (
@@ -113,16 +117,19 @@ module _ {M : Type 1} (𝓤 : URA M) (H : Heap 𝓤) (A : Atoms 𝓤) (mem : Mem
               (
                 (sliceVal (osp .ptr) (length (osp .now))) ∷ [],
                 (
-                  (sliceVal (x .ptr) (length (x .now))) ∷ [],
+                  vint w32 survey ∷ [],
                   (
-                    vint w64 given ∷ [],
+                    (sliceVal (x .ptr) (length (x .now))) ∷ [],
                     (
-                      (sliceVal (x′ .ptr) (length (x′ .now))) ∷ [],
+                      vint w64 given ∷ [],
                       (
-                        vint w64 kept ∷ [],
+                        (sliceVal (x′ .ptr) (length (x′ .now))) ∷ [],
                         (
-                          vint w32 quantum ∷ [],
-                          ((sliceVal (threshold .ptr) (length (threshold .now))) ∷ [], ((sliceVal (output .ptr) (length (output .now))) ∷ [], tt)),
+                          vint w64 kept ∷ [],
+                          (
+                            vint w32 quantum ∷ [],
+                            ((sliceVal (threshold .ptr) (length (threshold .now))) ∷ [], ((sliceVal (output .ptr) (length (output .now))) ∷ [], tt)),
+                          ),
                         ),
                       ),
                     ),
@@ -136,8 +143,9 @@ module _ {M : Type 1} (𝓤 : URA M) (H : Heap 𝓤) (A : Atoms 𝓤) (mem : Mem
       )
 
   goes-call : (W : Given 𝓤 H A) (κ₀ κ₁ κ₂ κ₃ κ₄ κ₅ κ₆ : Lft) (q₀ q₁ q₂ q₃ q₄ q₅ q₆ : Share) (rows : RefT (List ℕ))
-      (pos : RefT (List ℕ)) (osp : RefT (List ℕ)) (x : RefT (List Entry)) (given : ℕ) (x′ : RefT (List Entry)) (kept : ℕ) (quantum : ℕ)
-      (threshold : RefT (List ℕ)) (output : RefT (List ℕ)) → given < 2 ^ 64 → kept < 2 ^ 64 → quantum < 2 ^ 32
+      (pos : RefT (List ℕ)) (osp : RefT (List ℕ)) (survey : ℕ) (x : RefT (List Entry)) (given : ℕ) (x′ : RefT (List Entry)) (kept : ℕ)
+      (quantum : ℕ)
+      (threshold : RefT (List ℕ)) (output : RefT (List ℕ)) → given < 2 ^ 64 → kept < 2 ^ 64 → quantum < 2 ^ 32 → survey < 2 ^ 32
       → ent 𝓤 (sep 𝓤 (sem 𝓤 H A (flft κ₀ q₀))
       (sep 𝓤 (sem 𝓤 H A (flft κ₁ q₁))
       (sep 𝓤 (sem 𝓤 H A (flft κ₂ q₂))
@@ -152,10 +160,10 @@ module _ {M : Type 1} (𝓤 : URA M) (H : Heap 𝓤) (A : Atoms 𝓤) (mem : Mem
       (sep 𝓤 (sem 𝓤 H A (MutSlice (named 4) κ₄ T.the-row .own x′ ((sliceVal (x′ .ptr) (length (x′ .now))) ∷ [])))
       (sep 𝓤 (sem 𝓤 H A (ShrSlice (named 5) κ₅ u32 .own threshold ((sliceVal (threshold .ptr) (length (threshold .now))) ∷ [])))
       (sem 𝓤 H A (MutSlice (named 6) κ₆ u32 .own output ((sliceVal (output .ptr) (length (output .now))) ∷ []))))))))))))))))
-      (Call .pre (to-call κ₀ κ₁ κ₂ κ₃ κ₄ κ₅ κ₆ q₀ q₁ q₂ q₃ q₄ q₅ q₆ rows pos osp x given x′ kept quantum threshold
+      (Call .pre (to-call κ₀ κ₁ κ₂ κ₃ κ₄ κ₅ κ₆ q₀ q₁ q₂ q₃ q₄ q₅ q₆ rows pos osp survey x given x′ kept quantum threshold
       output))
-  goes-call W κ₀ κ₁ κ₂ κ₃ κ₄ κ₅ κ₆ q₀ q₁ q₂ q₃ q₄ q₅ q₆ rows pos osp x given x′ kept quantum threshold output =
-      λ given-fits kept-fits quantum-fits.
+  goes-call W κ₀ κ₁ κ₂ κ₃ κ₄ κ₅ κ₆ q₀ q₁ q₂ q₃ q₄ q₅ q₆ rows pos osp survey x given x′ kept quantum threshold output =
+      λ given-fits kept-fits quantum-fits survey-fits.
       qed W ((‵ (flft κ₀ q₀) ⊛
       (‵ (flft κ₁ q₁) ⊛
       (‵ (flft κ₂ q₂) ⊛
@@ -178,6 +186,7 @@ module _ {M : Type 1} (𝓤 : URA M) (H : Heap 𝓤) (A : Atoms 𝓤) (mem : Mem
       owned ! u32 (Is u32) (uint-makes 𝓤 H A W w32) quantum _ (refl, quantum-fits) $ fjoin ! $
       owned ! usize (Is usize) (uint-makes 𝓤 H A W w64) kept _ (refl, kept-fits) $ fjoin ! $ move ! (2 ∷ 0 ∷ []) $ fjoin ! $
       owned ! usize (Is usize) (uint-makes 𝓤 H A W w64) given _ (refl, given-fits) $ fjoin ! $ move ! (2 ∷ 0 ∷ []) $ fjoin ! $
+      owned ! u32 (Is u32) (uint-makes 𝓤 H A W w32) survey _ (refl, survey-fits) $ fjoin ! $
       move ! (2 ∷ 0 ∷ []) $ fjoin ! $ move ! (2 ∷ 0 ∷ []) $ fjoin ! $ move ! (2 ∷ 0 ∷ []) $ fjoin ! $ move ! (1 ∷ 0 ∷ []) $
       join ! $ frame ! $ done !
 
@@ -194,10 +203,11 @@ module _ {M : Type 1} (𝓤 : URA M) (H : Heap 𝓤) (A : Atoms 𝓤) (mem : Mem
 
 module _ {M : Type 1} (𝓤 : URA M) (H : Heap 𝓤) (A : Atoms 𝓤) (W : Given 𝓤 H A) (mem : Memory → SProp 𝓤) (run : Routine → Fun 𝓤)
     (κ₀ κ₁ κ₂ κ₃ κ₄ κ₅ κ₆ : Lft) (q₀ q₁ q₂ q₃ q₄ q₅ q₆ : Share)
-    (rows : RefT (List ℕ)) (pos : RefT (List ℕ)) (osp : RefT (List ℕ)) (x : RefT (List Entry)) (given : ℕ) (x′ : RefT (List Entry)) (kept : ℕ)
+    (rows : RefT (List ℕ)) (pos : RefT (List ℕ)) (osp : RefT (List ℕ)) (survey : ℕ) (x : RefT (List Entry)) (given : ℕ) (x′ : RefT (List Entry))
+    (kept : ℕ)
     (quantum : ℕ) (threshold : RefT (List ℕ)) (output : RefT (List ℕ)) (x-room : Room T.the-row (length (x .now)))
     (x′-room : Room T.the-row (length (x′ .now))) (output-room : Room u32 (length (output .now)))
-    (given-fits : given < 2 ^ 64) (kept-fits : kept < 2 ^ 64) (quantum-fits : quantum < 2 ^ 32) where
+    (given-fits : given < 2 ^ 64) (kept-fits : kept < 2 ^ 64) (quantum-fits : quantum < 2 ^ 32) (survey-fits : survey < 2 ^ 32) where
   abbrev at : Vals f.signature (κ₀, (κ₁, (κ₂, (κ₃, (κ₄, (κ₅, (κ₆, tt)))))))
   at = (
     (sliceVal (rows .ptr) (length (rows .now))) ∷ [],
@@ -206,16 +216,19 @@ module _ {M : Type 1} (𝓤 : URA M) (H : Heap 𝓤) (A : Atoms 𝓤) (W : Given
       (
         (sliceVal (osp .ptr) (length (osp .now))) ∷ [],
         (
-          (sliceVal (x .ptr) (length (x .now))) ∷ [],
+          vint w32 survey ∷ [],
           (
-            vint w64 given ∷ [],
+            (sliceVal (x .ptr) (length (x .now))) ∷ [],
             (
-              (sliceVal (x′ .ptr) (length (x′ .now))) ∷ [],
+              vint w64 given ∷ [],
               (
-                vint w64 kept ∷ [],
+                (sliceVal (x′ .ptr) (length (x′ .now))) ∷ [],
                 (
-                  vint w32 quantum ∷ [],
-                  ((sliceVal (threshold .ptr) (length (threshold .now))) ∷ [], ((sliceVal (output .ptr) (length (output .now))) ∷ [], tt)),
+                  vint w64 kept ∷ [],
+                  (
+                    vint w32 quantum ∷ [],
+                    ((sliceVal (threshold .ptr) (length (threshold .now))) ∷ [], ((sliceVal (output .ptr) (length (output .now))) ∷ [], tt)),
+                  ),
                 ),
               ),
             ),
@@ -231,7 +244,7 @@ module _ {M : Type 1} (𝓤 : URA M) (H : Heap 𝓤) (A : Atoms 𝓤) (W : Given
       (κ₀, (κ₁, (κ₂, (κ₃, (κ₄, (κ₅, (κ₆, tt))))))),
       (q₀, (q₁, (q₂, (q₃, (q₄, (q₅, (q₆, tt))))))),
       tt,
-      (rows, (pos, (osp, (x, (given, (x′, (kept, (quantum, (threshold, (output, tt)))))))))),
+      (rows, (pos, (osp, (survey, (x, (given, (x′, (kept, (quantum, (threshold, (output, tt))))))))))),
       at,
     ),
     tt,
@@ -240,7 +253,7 @@ module _ {M : Type 1} (𝓤 : URA M) (H : Heap 𝓤) (A : Atoms 𝓤) (W : Given
   exits : (r : Service) (z : ServiceNumbers) (w : Val) (us₀ : List Entry) (us₁ : List Entry) (us₂ : List ℕ) → length us₀ ≡ length (x .now)
       → length us₁ ≡ length (x′ .now) → length us₂ ≡ length (output .now)
       → _≡_ {A = ServeResult} (record { answer = r; line = us₀; aside = us₁; output = us₂ })
-      (serveOf (lent-tables (rows .now) (pos .now) (osp .now)) (lentAs (x .now) given (x′ .now) kept)
+      (serveOf (lent-survey (rows .now) (pos .now) (osp .now) survey) (lentAs (x .now) given (x′ .now) kept)
       (record { quantum = quantum; threshold = threshold .now; output = output .now })) → z ≡ serviceNumbers r
       → ent 𝓤 (⋆ 𝓤 H A
       (‵ (flft κ₀ q₀) ∷ ‵ (flft κ₁ q₁) ∷ ‵ (flft κ₂ q₂) ∷ ‵ (flft κ₃ q₃) ∷ ‵ (flft κ₄ q₄) ∷ ‵
@@ -266,12 +279,13 @@ module _ {M : Type 1} (𝓤 : URA M) (H : Heap 𝓤) (A : Atoms 𝓤) (W : Given
           (κ₀, (κ₁, (κ₂, (κ₃, (κ₄, (κ₅, (κ₆, tt))))))),
           (q₀, (q₁, (q₂, (q₃, (q₄, (q₅, (q₆, tt))))))),
           tt,
-          (rows, (pos, (osp, (x, (given, (x′, (kept, (quantum, (threshold, (output, tt)))))))))),
+          (rows, (pos, (osp, (survey, (x, (given, (x′, (kept, (quantum, (threshold, (output, tt))))))))))),
           at,
         ),
         tt,
       ) w z
-      (tt, (tt, (tt, (us₀, (tt, (us₁, (tt, (tt, (tt, (us₂, tt)))))))))) (tt, (tt, (tt, (lu₀, (tt, (lu₁, (tt, (tt, (tt, (lu₂, tt))))))))))) $
+      (tt, (tt, (tt, (tt, (us₀, (tt, (us₁, (tt, (tt, (tt, (us₂, tt)))))))))))
+      (tt, (tt, (tt, (tt, (lu₀, (tt, (lu₁, (tt, (tt, (tt, (lu₂, tt)))))))))))) $
       says ! (
         its
             ∙ ap (λ (o : ServeResult). serviceNumbers (o .answer)) is,
@@ -283,6 +297,7 @@ module _ {M : Type 1} (𝓤 : URA M) (H : Heap 𝓤) (A : Atoms 𝓤) (W : Given
       owned ! u32 (Is u32) (uint-makes 𝓤 H A W w32) quantum _ (refl, quantum-fits) $ fjoin ! $
       owned ! usize (Is usize) (uint-makes 𝓤 H A W w64) kept _ (refl, kept-fits) $ fjoin ! $ move ! (6 ∷ 0 ∷ []) $ fjoin ! $
       owned ! usize (Is usize) (uint-makes 𝓤 H A W w64) given _ (refl, given-fits) $ fjoin ! $ move ! (5 ∷ 0 ∷ []) $ fjoin ! $
+      owned ! u32 (Is u32) (uint-makes 𝓤 H A W w32) survey _ (refl, survey-fits) $ fjoin ! $
       move ! (4 ∷ 0 ∷ []) $ fjoin ! $ move ! (3 ∷ 0 ∷ []) $ fjoin ! $ move ! (2 ∷ 0 ∷ []) $ fjoin ! $ move ! (1 ∷ 0 ∷ 2 ∷ []) $
       frame ! $ frame ! $ done !
 
@@ -290,20 +305,21 @@ module _ {M : Type 1} (𝓤 : URA M) (H : Heap 𝓤) (A : Atoms 𝓤) (W : Given
       (known-numbers : Triple 𝓤 (C #numbers) (Numbers 𝓤 H A mem run)) where
     walk : length (rows .now) < 2 ^ 64 → length (pos .now) < 2 ^ 64 → length (osp .now) < 2 ^ 64 → length (threshold .now) < 2 ^ 64
         → ent 𝓤 (onEntry 𝓤 H A f.signature (κ₀, (κ₁, (κ₂, (κ₃, (κ₄, (κ₅, (κ₆, tt)))))))
-        (q₀, (q₁, (q₂, (q₃, (q₄, (q₅, (q₆, tt))))))) (rows, (pos, (osp, (x, (given, (x′, (kept, (quantum, (threshold, (output, tt))))))))))
+        (q₀, (q₁, (q₂, (q₃, (q₄, (q₅, (q₆, tt)))))))
+        (rows, (pos, (osp, (survey, (x, (given, (x′, (kept, (quantum, (threshold, (output, tt)))))))))))
         at) (WpFn 𝓤 H C Λ code.function
-        ((sliceVal (rows .ptr) (length (rows .now))) ∷ (sliceVal (pos .ptr) (length (pos .now))) ∷ (sliceVal (osp .ptr) (length (osp .now))) ∷ (sliceVal
-        (x .ptr) (length (x .now))) ∷ vint w64 given ∷ (sliceVal (x′ .ptr) (length (x′ .now))) ∷ vint w64 kept ∷ vint w32
+        ((sliceVal (rows .ptr) (length (rows .now))) ∷ (sliceVal (pos .ptr) (length (pos .now))) ∷ (sliceVal (osp .ptr) (length (osp .now))) ∷ vint w32
+        survey ∷ (sliceVal (x .ptr) (length (x .now))) ∷ vint w64 given ∷ (sliceVal (x′ .ptr) (length (x′ .now))) ∷ vint w64 kept ∷ vint w32
         quantum ∷ (sliceVal (threshold .ptr) (length (threshold .now))) ∷ (sliceVal (output .ptr) (length (output .now))) ∷ []) Post)
     walk r₀ r₁ r₂ r₅ =
         qed W ((‵ (flft κ₀ q₀) ⊛ ‵ (flft κ₁ q₁) ⊛ ‵ (flft κ₂ q₂) ⊛ ‵ (flft κ₃ q₃) ⊛ ‵ (flft κ₄ q₄) ⊛ ‵
         (flft κ₅ q₅) ⊛ ‵ (flft κ₆ q₆) ⊛ ‵ ftrue) ∷ ‵
-        (owns (ShrSlice (named 0) κ₀ u32 ∷ ShrSlice (named 1) κ₁ u32 ∷ ShrSlice (named 2) κ₂ u32 ∷ MutSlice
+        (owns (ShrSlice (named 0) κ₀ u32 ∷ ShrSlice (named 1) κ₁ u32 ∷ ShrSlice (named 2) κ₂ u32 ∷ u32 ∷ MutSlice
         (named 3) κ₃ T.the-row ∷ usize ∷ MutSlice (named 4) κ₄ T.the-row ∷ usize ∷ u32 ∷ ShrSlice (named 5) κ₅ u32 ∷ MutSlice
-        (named 6) κ₆ u32 ∷ []) (rows, (pos, (osp, (x, (given, (x′, (kept, (quantum, (threshold, (output, tt)))))))))) at) ∷ []) ∵
+        (named 6) κ₆ u32 ∷ []) (rows, (pos, (osp, (survey, (x, (given, (x′, (kept, (quantum, (threshold, (output, tt))))))))))) at) ∷ []) ∵
         enter ! C Λ code.function
-        ((sliceVal (rows .ptr) (length (rows .now))) ∷ (sliceVal (pos .ptr) (length (pos .now))) ∷ (sliceVal (osp .ptr) (length (osp .now))) ∷ (sliceVal
-        (x .ptr) (length (x .now))) ∷ vint w64 given ∷ (sliceVal (x′ .ptr) (length (x′ .now))) ∷ vint w64 kept ∷ vint w32
+        ((sliceVal (rows .ptr) (length (rows .now))) ∷ (sliceVal (pos .ptr) (length (pos .now))) ∷ (sliceVal (osp .ptr) (length (osp .now))) ∷ vint w32
+        survey ∷ (sliceVal (x .ptr) (length (x .now))) ∷ vint w64 given ∷ (sliceVal (x′ .ptr) (length (x′ .now))) ∷ vint w64 kept ∷ vint w32
         quantum ∷ (sliceVal (threshold .ptr) (length (threshold .now))) ∷ (sliceVal (output .ptr) (length (output .now))) ∷ []) _ $
         alloc1 ! (λ l₀. alloc1
         ! (λ l₁. alloc1
@@ -317,20 +333,23 @@ module _ {M : Type 1} (𝓤 : URA M) (H : Heap 𝓤) (A : Atoms 𝓤) (W : Given
         ! (λ l₉. alloc1
         ! (λ l₁₀. alloc1
         ! (λ l₁₁. alloc1
-        ! (λ l₁₂. alloc1 ! (λ l₁₃. alloc1 ! (λ l₁₄. alloc1 ! (λ l₁₅. alloc1 ! (λ l₁₆. alloc1 ! (λ l₁₇. alloc0 ! $ params1 ! $
-        pass1 ! (init ! 32 refl (tt, (tt, (record { fits = r₀ }, tt)))) $ pass1 ! (init ! 30 refl (tt, (tt, (record { fits = r₁ }, tt)))) $
-        pass1 ! (init ! 28 refl (tt, (tt, (record { fits = r₂ }, tt)))) $ pass1 ! (init ! 26 refl (tt, (tt, (record { fits = x-room .0 }, tt)))) $
+        ! (λ l₁₂. alloc1
+        ! (λ l₁₃. alloc1 ! (λ l₁₄. alloc1 ! (λ l₁₅. alloc1 ! (λ l₁₆. alloc1 ! (λ l₁₇. alloc1 ! (λ l₁₈. alloc0 ! $ params1 ! $
+        pass1 ! (init ! 34 refl (tt, (tt, (record { fits = r₀ }, tt)))) $ pass1 ! (init ! 32 refl (tt, (tt, (record { fits = r₁ }, tt)))) $
+        pass1 ! (init ! 30 refl (tt, (tt, (record { fits = r₂ }, tt)))) $ pass1 ! (init ! 28 refl (tt, record { fits = survey-fits })) $
+        pass1 ! (init ! 26 refl (tt, (tt, (record { fits = x-room .0 }, tt)))) $
         pass1 ! (init ! 24 refl (tt, record { fits = given-fits })) $ pass1 ! (init ! 22 refl (tt, (tt, (record { fits = x′-room .0 }, tt)))) $
         pass1 ! (init ! 20 refl (tt, record { fits = kept-fits })) $ pass1 ! (init ! 18 refl (tt, record { fits = quantum-fits })) $
         pass1 ! (init ! 16 refl (tt, (tt, (record { fits = r₅ }, tt)))) $ pass1 ! (init ! 14 refl (tt, (tt, (record { fits = output-room .0 }, tt)))) $
         pass0 ! $
-        move ! (37 ∷ []) $ fsplit ! $ move ! (1 ∷ []) $ fsplit ! $ move ! (1 ∷ []) $ fsplit ! $ move ! (1 ∷ []) $ fsplit ! $ move ! (1 ∷ []) $
+        move ! (39 ∷ []) $ fsplit ! $ move ! (1 ∷ []) $ fsplit ! $ move ! (1 ∷ []) $ fsplit ! $ move ! (1 ∷ []) $ fsplit ! $ move ! (1 ∷ []) $
+        fsplit ! $ move ! (1 ∷ []) $
         fsplit ! $ move ! (1 ∷ []) $ fsplit ! $ move ! (1 ∷ []) $ fsplit ! $ move ! (1 ∷ []) $ fsplit ! $ move ! (1 ∷ []) $ fsplit ! $
-        move ! (1 ∷ []) $ fsplit ! $ move ! (47 ∷ []) $ split ! $ move ! (1 ∷ []) $ split ! $ move ! (1 ∷ []) $ split ! $ move ! (1 ∷ []) $
+        move ! (1 ∷ []) $ fsplit ! $ move ! (50 ∷ []) $ split ! $ move ! (1 ∷ []) $ split ! $ move ! (1 ∷ []) $ split ! $ move ! (1 ∷ []) $
         split ! $ move ! (1 ∷ []) $ split ! $ move ! (1 ∷ []) $ split ! $ move ! (1 ∷ []) $ split ! $
-        keep ! (7 ∷ 6 ∷ 5 ∷ 4 ∷ 3 ∷ 2 ∷ 0 ∷ 18 ∷ 17 ∷ 16 ∷ 15 ∷ 13 ∷ 10 ∷ 8 ∷ 19 ∷ 20 ∷ 21 ∷ 22 ∷ 23 ∷ 24 ∷ 25 ∷ 26
-        ∷ 27 ∷ 28 ∷ 29 ∷ 30 ∷ 31 ∷ 32 ∷ 33 ∷ 34 ∷ 35 ∷ 36 ∷ 37 ∷ 38 ∷ 39 ∷ 40 ∷ 41 ∷ 42 ∷ 43 ∷ 44 ∷ 45 ∷ 46 ∷ 47 ∷
-        48 ∷ 49 ∷ 50 ∷ 51 ∷ 52 ∷ 53 ∷ 54 ∷ []) $
+        keep ! (7 ∷ 6 ∷ 5 ∷ 4 ∷ 3 ∷ 2 ∷ 0 ∷ 19 ∷ 18 ∷ 17 ∷ 15 ∷ 13 ∷ 10 ∷ 8 ∷ 20 ∷ 21 ∷ 22 ∷ 23 ∷ 24 ∷ 25 ∷ 26 ∷ 27
+        ∷ 28 ∷ 29 ∷ 30 ∷ 31 ∷ 32 ∷ 33 ∷ 34 ∷ 35 ∷ 36 ∷ 37 ∷ 38
+        ∷ 39 ∷ 40 ∷ 41 ∷ 42 ∷ 43 ∷ 44 ∷ 45 ∷ 46 ∷ 47 ∷ 48 ∷ 49 ∷ 50 ∷ 51 ∷ 52 ∷ 53 ∷ 54 ∷ 55 ∷ 56 ∷ 57 ∷ []) $
         assigns ! (addr ! (from ! (fld ! refl (hop ! (look-in ! 40 (sub ! 0 refl (whole !))) (stop !))))) (from ! (stop !)) (init ! 24 refl (tt, tt)) $
         assigns ! (agg
         ! (and-then ! (load ! (from ! (stop !)) (look ! 24 refl))
@@ -363,12 +382,13 @@ module _ {M : Type 1} (𝓤 : URA M) (H : Heap 𝓤) (A : Atoms 𝓤) (W : Given
         move ! (9 ∷ 0 ∷ []) $ join ! $ move ! (8 ∷ 0 ∷ []) $ join ! $ move ! (7 ∷ 0 ∷ []) $ join ! $ move ! (6 ∷ 0 ∷ []) $ join ! $
         move ! (5 ∷ 0 ∷ []) $ join ! $ use1 W (raw
         (Call 𝓤 H A mem run .pre
-        (to-call 𝓤 H A mem run κ₀ κ₁ κ₂ κ₃ κ₄ κ₅ κ₆ q₀ q₁ q₂ q₃ q₄ q₅ q₆ rows pos osp x given x′ kept quantum
+        (to-call 𝓤 H A mem run κ₀ κ₁ κ₂ κ₃ κ₄ κ₅ κ₆ q₀ q₁ q₂ q₃ q₄ q₅ q₆ rows pos osp survey x given x′ kept quantum
         threshold output)))
-        (goes-call 𝓤 H A mem run W κ₀ κ₁ κ₂ κ₃ κ₄ κ₅ κ₆ q₀ q₁ q₂ q₃ q₄ q₅ q₆ rows pos osp x given x′ kept quantum
-        threshold output given-fits kept-fits quantum-fits) $ calls-at ! fm (Call 𝓤 H A mem run) known-callee
-        (to-call 𝓤 H A mem run κ₀ κ₁ κ₂ κ₃ κ₄ κ₅ κ₆ q₀ q₁ q₂ q₃ q₄ q₅ q₆ rows pos osp x given x′ kept quantum
+        (goes-call 𝓤 H A mem run W κ₀ κ₁ κ₂ κ₃ κ₄ κ₅ κ₆ q₀ q₁ q₂ q₃ q₄ q₅ q₆ rows pos osp survey x given x′ kept quantum
+        threshold output given-fits kept-fits quantum-fits survey-fits) $ calls-at ! fm (Call 𝓤 H A mem run) known-callee
+        (to-call 𝓤 H A mem run κ₀ κ₁ κ₂ κ₃ κ₄ κ₅ κ₆ q₀ q₁ q₂ q₃ q₄ q₅ q₆ rows pos osp survey x given x′ kept quantum
         threshold output)
+        (and-then ! (load ! (from ! (stop !)) (look ! 39 refl))
         (and-then ! (load ! (from ! (stop !)) (look ! 37 refl))
         (and-then ! (load ! (from ! (stop !)) (look ! 35 refl))
         (and-then ! (load ! (from ! (stop !)) (look ! 33 refl))
@@ -377,58 +397,62 @@ module _ {M : Type 1} (𝓤 : URA M) (H : Heap 𝓤) (A : Atoms 𝓤) (W : Given
         (and-then ! (load ! (from ! (stop !)) (look ! 9 refl))
         (and-then ! (load ! (from ! (stop !)) (look ! 25 refl))
         (and-then ! (load ! (from ! (stop !)) (look ! 23 refl))
-        (and-then ! (load ! (from ! (stop !)) (look ! 21 refl)) (and-then ! (load ! (from ! (stop !)) (look ! 5 refl)) (no-more !))))))))))) (λ w₁.
+        (and-then ! (load ! (from ! (stop !)) (look ! 21 refl)) (and-then ! (load ! (from ! (stop !)) (look ! 5 refl)) (no-more !)))))))))))) (λ w₁.
         use1 W (later
         (some (λ (r : Service).
         ((‵ (flft κ₀ q₀) ⊛ ‵ (flft κ₁ q₁) ⊛ ‵ (flft κ₂ q₂) ⊛ ‵ (flft κ₃ q₃) ⊛ ‵ (flft κ₄ q₄) ⊛ ‵
         (flft κ₅ q₅) ⊛ ‵ (flft κ₆ q₆) ⊛ ‵ ftrue) ⊛ ‵ (Y.the-row .own r (w₁ ∷ []))) ⊛ raw
         (ensured 𝓤 H A callee.ended (callee.clauses 𝓤 H A mem run) (κ₀, (κ₁, (κ₂, (κ₃, (κ₄, (κ₅, (κ₆, tt)))))))
-        (rows, (pos, (osp, (x, (given, (x′, (kept, (quantum, (threshold, (output, tt)))))))))) tt r)))) (id⊢ 𝓤 _) $
+        (rows, (pos, (osp, (survey, (x, (given, (x′, (kept, (quantum, (threshold, (output, tt))))))))))) tt r)))) (id⊢ 𝓤 _) $
         await ! tt $ pick ! (λ r. split ! $ move ! (1 ∷ []) $ use1 W (some
         (λ (vs : Unit
         {0} × (Unit
-        {0} × (Unit {0} × (List Entry × (Unit {0} × (List Entry × (Unit {0} × (Unit {0} × (Unit {0} × (List ℕ × Unit {0})))))))))). ‵
+        {0} × (Unit {0} × (Unit {0} × (List Entry × (Unit {0} × (List Entry × (Unit {0} × (Unit {0} × (Unit {0} × (List ℕ × Unit {0}))))))))))). ‵
         (lasts callee.ended (κ₀, (κ₁, (κ₂, (κ₃, (κ₄, (κ₅, (κ₆, tt)))))))
-        (rows, (pos, (osp, (x, (given, (x′, (kept, (quantum, (threshold, (output, tt)))))))))) vs) ⊛ raw
+        (rows, (pos, (osp, (survey, (x, (given, (x′, (kept, (quantum, (threshold, (output, tt))))))))))) vs) ⊛ raw
         (fact 𝓤 (_≡_ {A = ServeResult}
-        (record { answer = r; line = vs .1 .1 .1 .0; aside = vs .1 .1 .1 .1 .1 .0; output = vs .1 .1 .1 .1 .1 .1 .1 .1 .1 .0 })
-        (serveOf (lent-tables (rows .now) (pos .now) (osp .now)) (lentAs (x .now) given (x′ .now) kept)
+        (record { answer = r; line = vs .1 .1 .1 .1 .0; aside = vs .1 .1 .1 .1 .1 .1 .0; output = vs .1 .1 .1 .1 .1 .1 .1 .1 .1 .1 .0 })
+        (serveOf (lent-survey (rows .now) (pos .now) (osp .now) survey) (lentAs (x .now) given (x′ .now) kept)
         (record { quantum = quantum; threshold = threshold .now; output = output .now })))))) (id⊢ 𝓤 _) $
         pick ! (λ vs. split ! $ move ! (1 ∷ []) $
         heard ! (_≡_ {A = ServeResult}
-        (record { answer = r; line = vs .1 .1 .1 .0; aside = vs .1 .1 .1 .1 .1 .0; output = vs .1 .1 .1 .1 .1 .1 .1 .1 .1 .0 })
-        (serveOf (lent-tables (rows .now) (pos .now) (osp .now)) (lentAs (x .now) given (x′ .now) kept)
+        (record { answer = r; line = vs .1 .1 .1 .1 .0; aside = vs .1 .1 .1 .1 .1 .1 .0; output = vs .1 .1 .1 .1 .1 .1 .1 .1 .1 .1 .0 })
+        (serveOf (lent-survey (rows .now) (pos .now) (osp .now) survey) (lentAs (x .now) given (x′ .now) kept)
         (record { quantum = quantum; threshold = threshold .now; output = output .now }))) (λ is.
-        fsplit ! $ move ! (1 ∷ []) $ fsplit ! $ move ! (1 ∷ []) $ fsplit ! $ move ! (1 ∷ []) $ fsplit ! $ fsplit ! $ move ! (1 ∷ []) $
-        feqL ! (λ len₃.
+        fsplit ! $ move ! (1 ∷ []) $ fsplit ! $ move ! (1 ∷ []) $ fsplit ! $ move ! (1 ∷ []) $ fsplit ! $ move ! (1 ∷ []) $ fsplit ! $
+        fsplit ! $ move ! (1 ∷ []) $ feqL ! (λ len₃.
         move ! (1 ∷ []) $ fsplit ! $ move ! (1 ∷ []) $ fsplit ! $ fsplit ! $ move ! (1 ∷ []) $ feqL ! (λ len₅.
         move ! (1 ∷ []) $ fsplit ! $ move ! (1 ∷ []) $ fsplit ! $ move ! (1 ∷ []) $ fsplit ! $ move ! (1 ∷ []) $ fsplit ! $ fsplit ! $
         move ! (1 ∷ []) $ feqL ! (λ len₉.
-        move ! (11 ∷ []) $ split ! $ move ! (1 ∷ []) $ peeks ! Y.the-row (Is Y.the-row) (shows 𝓤 H A Y.the-row) r (w₁ ∷ []) (λ g₁.
-        land ! (from ! (stop !)) (init ! 29 refl (LL.lawful Y.the-type Y′.the-laws 𝓤 H A W .typed r (w₁ ∷ []) g₁ .0)) $
+        move ! (12 ∷ []) $ split ! $ move ! (1 ∷ []) $ peeks ! Y.the-row (Is Y.the-row) (shows 𝓤 H A Y.the-row) r (w₁ ∷ []) (λ g₁.
+        land ! (from ! (stop !)) (init ! 30 refl (LL.lawful Y.the-type Y′.the-laws 𝓤 H A W .typed r (w₁ ∷ []) g₁ .0)) $
         use1 W (raw (Numbers 𝓤 H A mem run .pre (to-numbers 𝓤 H A mem run r w₁))) (goes-numbers 𝓤 H A mem run W r w₁) $
         calls-at ! fm (Numbers 𝓤 H A mem run) known-numbers (to-numbers 𝓤 H A mem run r w₁)
-        (and-then ! (load ! (from ! (stop !)) (look ! 29 refl)) (no-more !)) (λ w₂.
+        (and-then ! (load ! (from ! (stop !)) (look ! 30 refl)) (no-more !)) (λ w₂.
         use1 W (later
         (some (λ (z : ServiceNumbers). (‵ ftrue ⊛ ‵ (N.the-row .own z (w₂ ∷ []))) ⊛ raw
         (ensured 𝓤 H A numbers.ended (numbers.clauses 𝓤 H A mem run) tt (r, tt) tt z)))) (id⊢ 𝓤 _) $
         await ! tt $ pick ! (λ z. split ! $ move ! (1 ∷ []) $ use1 W (raw (fact 𝓤 (z ≡ serviceNumbers r))) (numbers-of 𝓤 H A mem run r z) $
         heard ! (z ≡ serviceNumbers r) (λ its. split ! $ move ! (1 ∷ []) $
         peeks ! N.the-row (Is N.the-row) (shows 𝓤 H A N.the-row) z (w₂ ∷ []) (λ g₂.
-        land ! (from ! (stop !)) (init ! 52 refl (LL.lawful N.the-type N′.the-laws 𝓤 H A W .typed z (w₂ ∷ []) g₂ .0)) $ move ! (2 ∷ []) $
+        land ! (from ! (stop !)) (init ! 55 refl (LL.lawful N.the-type N′.the-laws 𝓤 H A W .typed z (w₂ ∷ []) g₂ .0)) $ move ! (2 ∷ []) $
         split ! $ move ! (1 ∷ []) $ split ! $ move ! (1 ∷ []) $ split ! $ move ! (1 ∷ []) $ split ! $ move ! (1 ∷ []) $ split ! $
         move ! (1 ∷ []) $ split ! $ move ! (1 ∷ []) $ split ! $
-        returns ! (look ! 59 refl) $ forget ! 25 refl $ forget ! 27 refl $ forget ! 29 refl $ forget ! 31 refl $ forget ! 33 refl $ forget ! 35 refl $
-        forget ! 37 refl $ forget ! 39 refl $ forget ! 41 refl $ forget ! 43 refl $ forget ! 45 refl $ forget ! 47 refl $ forget ! 49 refl $
-        forget ! 51 refl $ forget ! 53 refl $ forget ! 55 refl $ forget ! 57 refl $ forget ! 59 refl $
-        move ! (59 ∷ 60 ∷ []) $ free1 ! $ move ! (57 ∷ 58 ∷ []) $ free1 ! $ move ! (55 ∷ 56 ∷ []) $ free1 ! $ move ! (53 ∷ 54 ∷ []) $
-        free1 ! $ move ! (51 ∷ 52 ∷ []) $ free1 ! $ move ! (49 ∷ 50 ∷ []) $ free1 ! $ move ! (47 ∷ 48 ∷ []) $ free1 ! $
-        move ! (45 ∷ 46 ∷ []) $ free1 ! $ move ! (43 ∷ 44 ∷ []) $ free1 ! $ move ! (41 ∷ 42 ∷ []) $ free1 ! $ move ! (39 ∷ 40 ∷ []) $
-        free1 ! $ move ! (37 ∷ 38 ∷ []) $ free1 ! $ move ! (35 ∷ 36 ∷ []) $ free1 ! $ move ! (33 ∷ 34 ∷ []) $ free1 ! $
-        move ! (31 ∷ 32 ∷ []) $ free1 ! $ move ! (29 ∷ 30 ∷ []) $ free1 ! $ move ! (27 ∷ 28 ∷ []) $ free1 ! $ move ! (25 ∷ 26 ∷ []) $
-        free1 ! $ free0 ! $ keep ! (7 ∷ 6 ∷ 5 ∷ 4 ∷ 3 ∷ 2 ∷ 0 ∷ 24 ∷ 23 ∷ 22 ∷ 17 ∷ 15 ∷ 21 ∷ 10 ∷ 8 ∷ []) $
-        by ! (exits r z w₂ (vs .1 .1 .1 .0) (vs .1 .1 .1 .1 .1 .0) (vs .1 .1 .1 .1 .1 .1 .1 .1 .1 .0) len₃ len₅ len₉ is
-        its)))))))))))))))))))))))))))))))
+        returns ! (look ! 62 refl) $ forget ! 26 refl $ forget ! 28 refl $ forget ! 30 refl $ forget ! 32 refl $ forget ! 34 refl $ forget ! 36 refl $
+        forget ! 38 refl $ forget ! 40 refl $ forget ! 42 refl $
+        forget ! 44 refl $ forget ! 46 refl $ forget ! 48 refl $ forget ! 50 refl $ forget ! 52 refl $ forget ! 54 refl $ forget ! 56 refl $
+        forget ! 58 refl $ forget ! 60 refl $ forget ! 62 refl $
+        move ! (62 ∷ 63 ∷ []) $ free1 ! $ move ! (60 ∷ 61 ∷ []) $ free1 ! $ move ! (58 ∷ 59 ∷ []) $ free1 ! $ move ! (56 ∷ 57 ∷ []) $
+        free1 ! $ move ! (54 ∷ 55 ∷ []) $ free1 ! $
+        move ! (52 ∷ 53 ∷ []) $ free1 ! $ move ! (50 ∷ 51 ∷ []) $ free1 ! $ move ! (48 ∷ 49 ∷ []) $ free1 ! $ move ! (46 ∷ 47 ∷ []) $
+        free1 ! $ move ! (44 ∷ 45 ∷ []) $ free1 ! $
+        move ! (42 ∷ 43 ∷ []) $ free1 ! $ move ! (40 ∷ 41 ∷ []) $ free1 ! $ move ! (38 ∷ 39 ∷ []) $ free1 ! $ move ! (36 ∷ 37 ∷ []) $
+        free1 ! $ move ! (34 ∷ 35 ∷ []) $ free1 ! $
+        move ! (32 ∷ 33 ∷ []) $ free1 ! $ move ! (30 ∷ 31 ∷ []) $ free1 ! $ move ! (28 ∷ 29 ∷ []) $ free1 ! $ move ! (26 ∷ 27 ∷ []) $
+        free1 ! $ free0 ! $
+        keep ! (7 ∷ 6 ∷ 5 ∷ 4 ∷ 3 ∷ 2 ∷ 0 ∷ 25 ∷ 24 ∷ 23 ∷ 17 ∷ 15 ∷ 22 ∷ 10 ∷ 8 ∷ []) $
+        by ! (exits r z w₂ (vs .1 .1 .1 .1 .0) (vs .1 .1 .1 .1 .1 .1 .0) (vs .1 .1 .1 .1 .1 .1 .1 .1 .1 .1 .0) len₃ len₅ len₉ is
+        its))))))))))))))))))))))))))))))))
 
 module _ {M : Type 1} (𝓤 : URA M) (H : Heap 𝓤) (A : Atoms 𝓤) (W : Given 𝓤 H A) (mem : Memory → SProp 𝓤) (run : Routine → Fun 𝓤) where
   sotjarn-serve-walks : (C : Calls 𝓤 H) (Λ : Loops 𝓤 H) → FmC 𝓤 H (W .laws) C → Triple 𝓤 (C #callee) (Call 𝓤 H A mem run)
@@ -437,7 +461,10 @@ module _ {M : Type 1} (𝓤 : URA M) (H : Heap 𝓤) (A : Atoms 𝓤) (W : Given
       walked 𝓤 H A f.ended stayed (f.clauses 𝓤 H A mem run) (WpFn 𝓤 H C Λ code.function)
       (λ κs. (
         slice-vals,
-        (slice-vals, (slice-vals, (slice-vals, (uint-vals w64, (slice-vals, (uint-vals w64, (uint-vals w32, (slice-vals, (slice-vals, tt))))))))),
+        (
+          slice-vals,
+          (slice-vals, (uint-vals w32, (slice-vals, (uint-vals w64, (slice-vals, (uint-vals w64, (uint-vals w32, (slice-vals, (slice-vals, tt))))))))),
+        ),
       ))
       (λ κs. (
         shr-slice-tells (named 0) (κs .0) u32,
@@ -446,14 +473,17 @@ module _ {M : Type 1} (𝓤 : URA M) (H : Heap 𝓤) (A : Atoms 𝓤) (W : Given
           (
             shr-slice-tells (named 2) (κs .1 .1 .0) u32,
             (
-              mut-slice-tells (named 3) (κs .1 .1 .1 .0) T.the-row,
+              uint-tells w32,
               (
-                uint-tells w64,
+                mut-slice-tells (named 3) (κs .1 .1 .1 .0) T.the-row,
                 (
-                  mut-slice-tells (named 4) (κs .1 .1 .1 .1 .0) T.the-row,
+                  uint-tells w64,
                   (
-                    uint-tells w64,
-                    (uint-tells w32, (shr-slice-tells (named 5) (κs .1 .1 .1 .1 .1 .0) u32, (mut-slice-tells (named 6) (κs .1 .1 .1 .1 .1 .1 .0) u32, tt))),
+                    mut-slice-tells (named 4) (κs .1 .1 .1 .1 .0) T.the-row,
+                    (
+                      uint-tells w64,
+                      (uint-tells w32, (shr-slice-tells (named 5) (κs .1 .1 .1 .1 .1 .0) u32, (mut-slice-tells (named 6) (κs .1 .1 .1 .1 .1 .1 .0) u32, tt))),
+                    ),
                   ),
                 ),
               ),
@@ -464,10 +494,11 @@ module _ {M : Type 1} (𝓤 : URA M) (H : Heap 𝓤) (A : Atoms 𝓤) (W : Given
       (λ κs qs bounds a g are. via 𝓤 _ (fst∗ 𝓤 _ (emp 𝓤)) (
       walk 𝓤 H A W mem run (κs .0) (κs .1 .0) (κs .1 .1 .0) (κs .1 .1 .1 .0) (κs .1 .1 .1 .1 .0) (κs .1 .1 .1 .1 .1 .0) (κs .1 .1 .1 .1 .1 .1 .0)
       (qs .0) (qs .1 .0) (qs .1 .1 .0) (qs .1 .1 .1 .0) (qs .1 .1 .1 .1 .0) (qs .1 .1 .1 .1 .1 .0) (qs .1 .1 .1 .1 .1 .1 .0) (a .0) (a .1 .0) (a .1 .1 .0)
-      (a .1 .1 .1 .0) (a .1 .1 .1 .1 .0) (a .1 .1 .1 .1 .1 .0) (a .1 .1 .1 .1 .1 .1 .0) (a .1 .1 .1 .1 .1 .1 .1 .0) (a .1 .1 .1 .1 .1 .1 .1 .1 .0)
-      (a .1 .1 .1 .1 .1 .1 .1 .1 .1 .0) (are .1 .1 .1 .0 .0 .1) (are .1 .1 .1 .1 .1 .0 .0 .1) (are .1 .1 .1 .1 .1 .1 .1 .1 .1 .0 .0 .1)
-      (are .1 .1 .1 .1 .0 .1) (are .1 .1 .1 .1 .1 .1 .0 .1) (are .1 .1 .1 .1 .1 .1 .1 .0 .1) C Λ fm known-callee known-numbers (are .0 .0 .1 .0)
-      (are .1 .0 .0 .1 .0) (are .1 .1 .0 .0 .1 .0) (are .1 .1 .1 .1 .1 .1 .1 .1 .0 .0 .1 .0)))
+      (a .1 .1 .1 .0) (a .1 .1 .1 .1 .0) (a .1 .1 .1 .1 .1 .0) (a .1 .1 .1 .1 .1 .1 .0) (a .1 .1 .1 .1 .1 .1 .1 .0)
+      (a .1 .1 .1 .1 .1 .1 .1 .1 .0) (a .1 .1 .1 .1 .1 .1 .1 .1 .1 .0) (a .1 .1 .1 .1 .1 .1 .1 .1 .1 .1 .0) (are .1 .1 .1 .1 .0 .0 .1)
+      (are .1 .1 .1 .1 .1 .1 .0 .0 .1) (are .1 .1 .1 .1 .1 .1 .1 .1 .1 .1 .0 .0 .1) (are .1 .1 .1 .1 .1 .0 .1) (are .1 .1 .1 .1 .1 .1 .1 .0 .1)
+      (are .1 .1 .1 .1 .1 .1 .1 .1 .0 .1) (are .1 .1 .1 .0 .1) C Λ fm known-callee known-numbers (are .0 .0 .1 .0) (are .1 .0 .0 .1 .0)
+      (are .1 .1 .0 .0 .1 .0) (are .1 .1 .1 .1 .1 .1 .1 .1 .1 .0 .0 .1 .0)))
 
 sotjarn-serve-meets : {M : Type 1} (𝓤 : URA M) (H : Heap 𝓤) (A : Atoms 𝓤) → Given 𝓤 H A
     → (mem : Memory → SProp 𝓤) (run : Routine → Fun 𝓤) (𝓣 : Tables 𝓤 H)
@@ -481,16 +512,19 @@ sotjarn-serve-meets 𝓤 H A W mem run 𝓣 known-callee known-numbers =
         (
           goes-none-slice 𝓤 H A W 7 (2 ∷ []) tt (plain (λ _. u32)) yes,
           (
-            goes-gave-slice 𝓤 H A W 7 3 tt (plain (λ _. T.the-row)),
+            goes-none 𝓤 H A W 7 (λ _. u32) yes (λ κs x f. refl),
             (
-              goes-none 𝓤 H A W 7 (λ _. usize) yes (λ κs x f. refl),
+              goes-gave-slice 𝓤 H A W 7 3 tt (plain (λ _. T.the-row)),
               (
-                goes-gave-slice 𝓤 H A W 7 4 tt (plain (λ _. T.the-row)),
+                goes-none 𝓤 H A W 7 (λ _. usize) yes (λ κs x f. refl),
                 (
-                  goes-none 𝓤 H A W 7 (λ _. usize) yes (λ κs x f. refl),
+                  goes-gave-slice 𝓤 H A W 7 4 tt (plain (λ _. T.the-row)),
                   (
-                    goes-none 𝓤 H A W 7 (λ _. u32) yes (λ κs x f. refl),
-                    (goes-none-slice 𝓤 H A W 7 (5 ∷ []) tt (plain (λ _. u32)) yes, (goes-gave-slice 𝓤 H A W 7 6 tt (plain (λ _. u32)), tt)),
+                    goes-none 𝓤 H A W 7 (λ _. usize) yes (λ κs x f. refl),
+                    (
+                      goes-none 𝓤 H A W 7 (λ _. u32) yes (λ κs x f. refl),
+                      (goes-none-slice 𝓤 H A W 7 (5 ∷ []) tt (plain (λ _. u32)) yes, (goes-gave-slice 𝓤 H A W 7 6 tt (plain (λ _. u32)), tt)),
+                    ),
                   ),
                 ),
               ),

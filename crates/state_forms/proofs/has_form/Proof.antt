@@ -1,14 +1,10 @@
--- `state_saving::has_form` meets its contract.
+-- `state_forms::has_form` meets its contract.
 use borrow.Author.Needs.{needs}
-use Prim.Native.Nat.{_-_}
 use mathlib.Core.Path.{sym, ap, _∙_}
-use native.Mathlib.Omega.{arith}
-use borrow.Author.Tests.{not-true, not-false}
-use Rattle.words.specs.Sequences.{all}
 use Rattle.words.proofs.Walking.{rest-of}
 use Rattle.plans.specs.Plans.{Plan, planOf}
-use Rattle.steps.specs.Saved.{isPlace}
-use Rattle.state_forms.proofs.ShapeCases.{shape-none, shape-elsewhere, shape-longer, shape-places}
+use Rattle.steps.specs.Saved.{shapeBehind}
+use Rattle.state_forms.proofs.ShapeCases.{form-none, form-elsewhere, form-behind}
 use Rattle.state_forms.proofs.has_form.Statement.{statement}
 use Rattle.state_forms.proofs.has_form.Tie as tie
 
@@ -18,76 +14,51 @@ lent s = planOf (s .args .plan .now)
 returns : tie.Need-returns
 returns c =
     let s = c .before .before .before in
-    sym (shape-none (lent s) (s .args .state .now) (c .if1 .taken))
+    sym (form-none (lent s) (s .args .state .now) (c .if1 .taken))
 
-shared-slice-read-word : tie.Need-shared-slice-read-word
-shared-slice-read-word c = search needs
+shared-slice-read-t7 : tie.Need-shared-slice-read-t7
+shared-slice-read-t7 c = search needs
 
-position-right-requires : tie.Need-position-right-requires
-position-right-requires c κs = search needs
+kind-requires : tie.Need-kind-requires
+kind-requires c κs = search needs
 
 returns-2 : tie.Need-returns-2
 returns-2 c =
-    let p = c .before in
-    let s = p .before .before .before .before .before in
-    sym (shape-elsewhere (lent s) (s .args .state .now) (sym (p .position-right .ensures) ∙ not-true _ (c .if2 .taken)))
+    let k = c .before in
+    let s = k .before .before .before .before .before in
+    sym (form-elsewhere (lent s) (s .args .state .now) (λ e. c .if2 .taken (k .kind .ensures ∙ e)))
 
-sub-if3 : tie.Need-sub-if3
-sub-if3 c = search needs
+sub-has-shape : tie.Need-sub-has-shape
+sub-has-shape c = search needs
 
-depth-requires : tie.Need-depth-requires
-depth-requires c κs = search needs
+part-has-shape-start : tie.Need-part-has-shape-start
+part-has-shape-start c = search needs
 
-wide-requires : tie.Need-wide-requires
-wide-requires c κs = search needs
+part-has-shape-end : tie.Need-part-has-shape-end
+part-has-shape-end c = search needs
+
+has-shape-requires : tie.Need-has-shape-requires
+has-shape-requires c κs = search needs
 
 returns-3 : tie.Need-returns-3
 returns-3 c =
-    let d = c .before .before in
-    let p = d .before .before in
-    let s = p .before .before .before .before .before in
-    sym (shape-longer (lent s) (s .args .state .now) (sym (p .position-right .ensures) ∙ not-false _ (d .before .if2 .left))
-    (λ e. c .if3 .taken (let n = c .before .wide .ensures in let m = d .depth .ensures in omega arith)))
-
-sub-all-places : tie.Need-sub-all-places
-sub-all-places c = search needs
-
-part-all-places-start : tie.Need-part-all-places-start
-part-all-places-start c = search needs
-
-part-all-places-end : tie.Need-part-all-places-end
-part-all-places-end c = search needs
-
-all-places-requires : tie.Need-all-places-requires
-all-places-requires c κs = search needs
-
-returns-4 : tie.Need-returns-4
-returns-4 c =
-    let l = c .before .before in
-    let d = l .before .before in
-    let p = d .before .before in
-    let s = p .before .before .before .before .before in
-    let n = l .before .wide .ensures in
-    let m = d .depth .ensures in
-    let w = p .before .before .if1 .left in
-    c .all-places .ensures
-    ∙ ap (all isPlace) (rest-of (s .args .state .now) 1)
-    ∙ sym (shape-places (lent s) (s .args .state .now) (sym (p .position-right .ensures) ∙ not-false _ (d .before .if2 .left)) (omega arith))
+    let f = c .before .before in
+    let k = f .before in
+    let s = k .before .before .before .before .before in
+    c .has-shape .ensures
+    ∙ ap (shapeBehind (lent s)) (rest-of (s .args .state .now) 1)
+    ∙ sym (form-behind (lent s) (s .args .state .now) (sym (k .kind .ensures) ∙ f .if2 .left))
 
 pub has-form-spec : {M : Type 1} → statement M
 has-form-spec =
     tie.close
     (tie.spec
     returns
-    shared-slice-read-word
-    position-right-requires
+    shared-slice-read-t7
+    kind-requires
     returns-2
-    sub-if3
-    depth-requires
-    wide-requires
-    returns-3
-    sub-all-places
-    part-all-places-start
-    part-all-places-end
-    all-places-requires
-    returns-4)
+    sub-has-shape
+    part-has-shape-start
+    part-has-shape-end
+    has-shape-requires
+    returns-3)

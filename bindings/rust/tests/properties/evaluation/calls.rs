@@ -21,6 +21,7 @@ pub type Answer = (u32, How, usize, usize);
 #[derive(Clone, Debug)]
 pub struct Open {
     pub tables: Tables,
+    pub survey: u32,
     pub plan: Vec<u32>,
     pub state: Vec<u32>,
 }
@@ -28,6 +29,7 @@ pub struct Open {
 #[derive(Clone, Debug)]
 pub struct Turn {
     pub tables: Tables,
+    pub survey: u32,
     pub plan: Vec<u32>,
     pub state: Vec<u32>,
     pub given: usize,
@@ -44,9 +46,11 @@ pub struct Merge {
     pub list: Vec<u32>,
 }
 
-/// Accepted tables and plan, and their uncut run.
+/// Accepted tables and plan, and their uncut run. Calls of them are made under a survey's number, each under its own: what it answers
+/// goes by that, and not by the one here, which those who make calls may set.
 pub struct Query {
     pub tables: Tables,
+    pub survey: u32,
     pub words: Vec<u32>,
     pub plan: Plan,
     pub run: Run,
@@ -64,10 +68,18 @@ pub fn query(tables: &Tables, words: &[u32], most: usize) -> Result<Option<Query
     let run = run::run(&orders, &plan, most);
     Ok(run.map(|run| Query {
         tables: tables.clone(),
+        survey: 0,
         words: words.to_vec(),
         plan,
         run,
     }))
+}
+
+impl Query {
+    /// The words of the state that so many steps lead to, under the query's number.
+    pub fn saved(&self, number: usize) -> Vec<u32> {
+        self.run.saved(self.survey, number)
+    }
 }
 
 /// A buffer with words written over its front.
@@ -77,23 +89,38 @@ fn written(buffer: &[u32], words: &[u32]) -> Vec<u32> {
 
 /// The answer to an opening whose tables and plan are those of `query`, and the state buffer at exit.
 pub fn open(query: &Query, call: &Open) -> (Result<usize, u32>, Vec<u32>) {
-    if call.state.len() < 9 {
+    if call.state.len() < 10 {
         return (Err(7), call.state.clone());
     }
-    let start = query.run.saved(0);
+    if call.survey > MOST_COUNT {
+        return (Err(22), call.state.clone());
+    }
+    let start = query.run.saved(call.survey, 0);
     (Ok(start.len()), written(&call.state, &start))
 }
 
-/// Test 9: the branch and places of a state's words.
-pub fn state_of(plan: &Plan, words: &[u32]) -> Option<Vec<u32>> {
-    let (first, places) = words.split_first()?;
+/// Test 9: the survey's number in a state's words, and its branch and places.
+fn state_of(plan: &Plan, words: &[u32]) -> Option<(u32, Vec<u32>)> {
+    let (survey, behind) = words.split_first()?;
+    let (first, places) = behind.split_first()?;
     let (branch, depth) = (count(*first) / 16, count(*first) % 16);
     let patterns = plan.branches.get(branch as usize)?.patterns.len();
-    let right = kind(*first) == STATE
+    let right = kind(*survey) == SURVEY
+        && kind(*first) == STATE
         && places.iter().all(|&word| kind(word) == PLACE)
         && (1..=patterns).contains(&(depth as usize))
         && places.len() == depth as usize;
-    right.then(|| [branch].into_iter().chain(places.iter().map(|&word| count(word))).collect())
+    let state = || [branch].into_iter().chain(places.iter().map(|&word| count(word))).collect();
+    right.then(|| (count(*survey), state()))
+}
+
+/// Tests 9, 22 and 10 of a state's words, under a survey's number: how many steps the run makes to it.
+pub fn state_start(query: &Query, survey: u32, words: &[u32]) -> Result<usize, u32> {
+    let (number, state) = state_of(&query.plan, words).ok_or(9u32)?;
+    if survey > MOST_COUNT || number != survey {
+        return Err(22);
+    }
+    query.run.number(&state).ok_or(10)
 }
 
 /// Test 11.
@@ -102,17 +129,16 @@ fn threshold_right(plan: &Plan, threshold: &[u32]) -> bool {
     threshold.is_empty() || row && threshold.iter().all(|&word| delivered(word))
 }
 
-/// Tests 7 to 11: how many steps the run makes to the given state.
+/// Tests 7 to 11, and 22 between 9 and 10: how many steps the run makes to the given state.
 fn turn_start(query: &Query, call: &Turn) -> Result<usize, u32> {
-    if call.state.len() < 9 || call.output.len() < query.plan.least_output() {
+    if call.state.len() < 10 || call.output.len() < query.plan.least_output() {
         return Err(7);
     }
     if !(1..=1_000_000).contains(&call.quantum) {
         return Err(8);
     }
     let given = call.state.get(..call.given).ok_or(9u32)?;
-    let state = state_of(&query.plan, given).ok_or(9u32)?;
-    let number = query.run.number(&state).ok_or(10u32)?;
+    let number = state_start(query, call.survey, given)?;
     threshold_right(&query.plan, &call.threshold).then_some(number).ok_or(11)
 }
 
@@ -188,7 +214,7 @@ pub fn turn(query: &Query, call: &Turn) -> (Result<Answer, u32>, Vec<u32>, Vec<u
         How::Done => (lists::last_list(&query.plan, &rows, &call.threshold), Vec::new()),
         _ => (
             lists::list(&query.plan, &rows, &call.threshold),
-            query.run.saved(start + steps),
+            query.run.saved(call.survey, start + steps),
         ),
     };
     let answer = (steps as u32, how, saved.len(), list.len());

@@ -2,6 +2,7 @@
 
 use super::calls::{self, Answer, How, Query, Turn};
 use super::tables::Tables;
+use super::words::MOST_COUNT;
 
 /// The most entries in all, and what each buffer has at least; the words of an entry's two arrays.
 pub const MOST: usize = 32;
@@ -31,6 +32,7 @@ pub struct Lists {
 #[derive(Clone, Debug)]
 pub struct Join {
     pub tables: Tables,
+    pub survey: u32,
     pub lists: Lists,
     pub owner: u32,
     pub allowance: u64,
@@ -41,6 +43,7 @@ pub struct Join {
 #[derive(Clone, Debug)]
 pub struct Serve {
     pub tables: Tables,
+    pub survey: u32,
     pub lists: Lists,
     pub quantum: u32,
     pub threshold: Vec<u32>,
@@ -113,8 +116,7 @@ fn joins(call: &Join, most: usize) -> Option<Result<(), u32>> {
         Ok(query) => query?,
         Err(number) => return Some(Err(number)),
     };
-    let passed = |state: Vec<u32>| query.run.number(&state).map(|_| ()).ok_or(10);
-    Some(calls::state_of(&query.plan, &call.state).ok_or(9).and_then(passed))
+    Some(calls::state_start(&query, call.survey, &call.state).map(|_| ()))
 }
 
 /// The answer to a joining, and both lists at exit; none where the run is too long to work out.
@@ -147,6 +149,7 @@ pub fn join(call: &Join, most: usize) -> Option<(Result<Counts, u32>, Lists)> {
 pub fn turn_of(call: &Serve, front: &Waiting, quantum: u32) -> Turn {
     Turn {
         tables: call.tables.clone(),
+        survey: call.survey,
         plan: front.plan.get(..front.planned as usize).unwrap_or_default().to_vec(),
         state: front.state.clone(),
         given: front.saved as usize,
@@ -156,11 +159,12 @@ pub fn turn_of(call: &Serve, front: &Waiting, quantum: u32) -> Turn {
     }
 }
 
-/// Tests 1 to 11 on the front entry and the call, or those of an empty line; none where the run is too long to work out.
+/// Tests 1 to 11 and 22 on the front entry and the call, or those of an empty line; none where the run is too long to work out.
 fn front_tests(call: &Serve, most: usize) -> Option<Result<Option<Query>, u32>> {
     let Some(front) = call.lists.lent().0.first() else {
-        let quantum = (1..=1_000_000).contains(&call.quantum).then_some(None).ok_or(8);
-        return Some(call.tables.orders().map(|_| ()).and(quantum));
+        let quantum = (1..=1_000_000).contains(&call.quantum).then_some(()).ok_or(8);
+        let number = (call.survey <= MOST_COUNT).then_some(None).ok_or(22);
+        return Some(call.tables.orders().map(|_| ()).and(quantum).and(number));
     };
     let turn = turn_of(call, front, call.quantum);
     match calls::query(&call.tables, &turn.plan, most) {

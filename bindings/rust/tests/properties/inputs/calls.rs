@@ -12,8 +12,9 @@ pub fn open(random: &mut Random, query: &Query) -> Open {
     let spare = random.pick(&[0, 0, 1, 7]);
     Open {
         tables: query.tables.clone(),
+        survey: query.survey,
         plan: query.words.clone(),
-        state: random.words(9 + spare),
+        state: random.words(10 + spare),
     }
 }
 
@@ -51,14 +52,15 @@ fn threshold(random: &mut Random, query: &Query) -> Vec<u32> {
 /// A turn from a state that the run passes through.
 pub fn turn(random: &mut Random, query: &Query) -> Turn {
     let steps = query.run.steps();
-    let mut state = query.run.saved(random.below(steps));
+    let mut state = query.saved(random.below(steps));
     let given = state.len();
     let spare = random.pick(&[0, 0, 1, 4]);
-    state.extend(random.words(9 + spare - given.min(9)));
+    state.extend(random.words(10 + spare - given));
     let some = random.between(1, steps) as u32;
     let quantum = random.pick(&[1, 2, some, steps as u32, 1_000_000]);
     Turn {
         tables: query.tables.clone(),
+        survey: query.survey,
         plan: query.words.clone(),
         state,
         given,

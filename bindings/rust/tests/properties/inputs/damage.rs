@@ -2,6 +2,7 @@
 
 use super::plans::{some_constant, tree};
 use super::random::Random;
+use super::woods::{no_survey, survey};
 use crate::evaluation::calls::{Merge, Open, Query, Turn};
 use crate::evaluation::lists;
 use crate::evaluation::plan::{Branch, Condition, Ending, Plan};
@@ -214,37 +215,51 @@ fn state_damage(random: &mut Random, query: &Query, call: &mut Turn) {
     match random.small(6) {
         0 => {
             call.state[at] = marked(
-                random.pick(&[STATE, PLACE, PLACE, 1]),
+                random.pick(&[SURVEY, STATE, PLACE, PLACE, 1]),
                 random.pick(&[0, 1, 2, 3, 16, 17, 33, 65, MOST_COUNT]),
             )
         }
         1 | 2 => call.state[at] = call.state[at].wrapping_add(random.pick(&[1, 1, 2, u32::MAX, u32::MAX - 1])),
-        3 => call.state[0] = call.state[0].wrapping_add(16 * random.pick(&[1, 1, 2, 3, 4])),
-        4 if given < call.state.len() => {
-            call.state[0] = call.state[0].wrapping_add(1);
+        3 if given > 1 => call.state[1] = call.state[1].wrapping_add(16 * random.pick(&[1, 1, 2, 3, 4])),
+        4 if (2..call.state.len()).contains(&given) => {
+            call.state[1] = call.state[1].wrapping_add(1);
             call.state[given] = marked(PLACE, random.small(query.tables.pos.len() as u32 + 2));
             call.given = given + 1;
         }
         _ => {
-            let other = query.run.saved(random.below(query.run.steps()));
+            let other = query.saved(random.below(query.run.steps()));
             call.state[at] = other[at.min(other.len() - 1)];
         }
     }
 }
 
+/// Another number for a call, of 28 bits or more, or for its state.
+fn survey_damage(random: &mut Random, call: &mut Turn) {
+    let other = survey(random);
+    match random.small(4) {
+        0 => call.survey = no_survey(random, call.survey),
+        1 => call.survey = random.pick(&[call.survey ^ 1, other]),
+        _ if call.state.is_empty() => {}
+        2 => call.state[0] = marked(SURVEY, other),
+        _ => call.state[0] ^= 1 << random.small(28),
+    }
+}
+
 pub fn open(random: &mut Random, query: &Query, call: &mut Open) {
-    match random.small(5) {
+    match random.small(6) {
         0 | 1 => tables(random, &mut call.tables),
         2 | 3 => plan_damage(random, query, &mut call.plan),
-        _ => call.state.truncate(random.pick(&[0, 1, 8, 8])),
+        4 => call.survey = no_survey(random, call.survey),
+        _ => call.state.truncate(random.pick(&[0, 1, 9, 9])),
     }
 }
 
 pub fn turn(random: &mut Random, query: &Query, call: &mut Turn) {
-    match random.small(12) {
+    match random.small(14) {
         0 => tables(random, &mut call.tables),
         1 | 2 => plan_damage(random, query, &mut call.plan),
-        3 => call.state.truncate(random.pick(&[0, 1, 8, 8])),
+        3 => call.state.truncate(random.pick(&[0, 1, 9, 9])),
+        12 | 13 => survey_damage(random, call),
         4 => call.quantum = random.pick(&[0, 1_000_001, u32::MAX]),
         5 => call.output.truncate(random.pick(&[0, query.plan.least_output() - 1])),
         6 | 7 => {

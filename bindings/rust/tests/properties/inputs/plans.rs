@@ -1,7 +1,7 @@
 //! Random plans over tables.
 
 use super::random::Random;
-use super::woods::{some_number, wood};
+use super::woods::{some_number, survey, wood};
 use crate::evaluation::calls::{self, Query};
 use crate::evaluation::plan::{Branch, Condition, Ending, Plan};
 use crate::evaluation::tables::Tables;
@@ -122,7 +122,8 @@ pub fn query(random: &mut Random, rows: &[usize], most: usize, deliveries: usize
         let most_rows = random.pick(rows);
         let tables = wood(random, most_rows);
         let words = plan(random, &tables).words();
-        if let Ok(Some(query)) = calls::query(&tables, &words, most) {
+        if let Ok(Some(mut query)) = calls::query(&tables, &words, most) {
+            query.survey = survey(random);
             if query.run.delivered.iter().flatten().count() >= deliveries || random.chance(5) {
                 return query;
             }
@@ -142,7 +143,8 @@ pub fn felled_query(random: &mut Random, rows: &[usize], most: usize) -> Query {
         if random.chance(60) {
             plan.ending = Ending::Group(Vec::new(), plan.columns()[0]);
         }
-        if let Ok(Some(query)) = calls::query(&tables, &plan.words(), most) {
+        if let Ok(Some(mut query)) = calls::query(&tables, &plan.words(), most) {
+            query.survey = survey(random);
             return query;
         }
     }

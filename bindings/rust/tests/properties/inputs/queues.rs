@@ -3,20 +3,20 @@
 use super::random::Random;
 use super::{calls, plans, woods};
 use crate::evaluation::calls::{self as evaluation, Query, Turn};
-use crate::evaluation::queues::{Join, Lists, Serve, TopUp, Waiting, MOST, PLAN_ROOM, STATE_ROOM};
-use crate::evaluation::tables::Tables;
+use crate::evaluation::queues::{turn_of, Join, Lists, Serve, TopUp, Waiting, MOST, PLAN_ROOM, STATE_ROOM};
 
 /// The most steps of an owner's run.
 pub const STEPS: usize = 1_500;
 
-/// Queries over one wood, so many.
+/// Queries over one wood, under one number, so many.
 pub fn queries(random: &mut Random, many: usize) -> Vec<Query> {
     let most_rows = random.pick(&[0, 3, 12, 25, 25, 60]);
     let (tables, deliveries) = (woods::wood(random, most_rows), random.pick(&[0, 2, 6]));
-    let mut made = Vec::new();
+    let (survey, mut made) = (woods::survey(random), Vec::new());
     while made.len() < many {
         let words = plans::plan(random, &tables).words();
-        if let Ok(Some(query)) = evaluation::query(&tables, &words, STEPS) {
+        if let Ok(Some(mut query)) = evaluation::query(&tables, &words, STEPS) {
+            query.survey = survey;
             if query.run.delivered.iter().flatten().count() >= deliveries || random.chance(10) {
                 made.push(query);
             }
@@ -41,7 +41,7 @@ pub fn allowance(random: &mut Random, query: &Query) -> u64 {
 
 /// An entry of a query, at any of its states.
 pub fn entry(random: &mut Random, query: &Query, owner: u32, waits: bool) -> Waiting {
-    let state = query.run.saved(random.below(query.run.steps()));
+    let state = query.saved(random.below(query.run.steps()));
     let zeros = random.chance(50);
     Waiting {
         allowance: if waits { allowance(random, query) } else { 0 },
@@ -117,11 +117,12 @@ pub fn join(random: &mut Random, queries: &[Query], most: usize) -> Join {
     let steps = allowance(random, query);
     Join {
         tables: query.tables.clone(),
+        survey: query.survey,
         owner: newcomer(random, &lists),
         lists,
         allowance: random.pick(&[0, steps, steps]),
         plan: query.words.clone(),
-        state: query.run.saved(random.below(query.run.steps())),
+        state: query.saved(random.below(query.run.steps())),
     }
 }
 
@@ -142,6 +143,7 @@ pub fn serve(random: &mut Random, queries: &[Query], lists: Lists) -> Serve {
     } = calls::turn(random, query);
     Serve {
         tables: query.tables.clone(),
+        survey: query.survey,
         lists,
         quantum,
         threshold,
@@ -227,19 +229,6 @@ fn many_entries(random: &mut Random, lists: &mut Lists) {
     }
 }
 
-/// A turn of an entry with the call's tables and output, so that the damage of turns serves entries too.
-fn as_turn(tables: &Tables, entry: &Waiting, quantum: u32, threshold: &[u32], output: &[u32]) -> Turn {
-    Turn {
-        tables: tables.clone(),
-        plan: entry.plan.get(..entry.planned as usize).unwrap_or_default().to_vec(),
-        state: entry.state.clone(),
-        given: entry.saved as usize,
-        quantum,
-        threshold: threshold.to_vec(),
-        output: output.to_vec(),
-    }
-}
-
 fn count(words: usize) -> u32 {
     u32::try_from(words).unwrap_or(u32::MAX)
 }
@@ -256,6 +245,7 @@ pub fn join_damage(random: &mut Random, queries: &[Query], call: &mut Join) {
     };
     let mut turn = Turn {
         tables: call.tables.clone(),
+        survey: call.survey,
         plan: call.plan.clone(),
         state: call.state.clone(),
         given: call.state.len(),
@@ -266,14 +256,16 @@ pub fn join_damage(random: &mut Random, queries: &[Query], call: &mut Join) {
     turn.state.extend(random.words(2));
     super::damage::turn(random, query, &mut turn);
     let given = turn.given.min(turn.state.len());
-    (call.tables, call.plan, call.state) = (turn.tables, turn.plan, turn.state[..given].to_vec());
+    (call.tables, call.survey) = (turn.tables, turn.survey);
+    (call.plan, call.state) = (turn.plan, turn.state[..given].to_vec());
 }
 
 /// One thing of the call, of its front entry or of the lists changed.
 pub fn serve_damage(random: &mut Random, queries: &[Query], call: &mut Serve) {
     if call.lists.waiting == 0 || call.lists.line.is_empty() || random.chance(25) {
-        return match random.small(8) {
+        return match random.small(9) {
             0..=2 => super::damage::tables(random, &mut call.tables),
+            8 => call.survey = woods::no_survey(random, call.survey),
             3 => call.quantum = random.pick(&[0, 1_000_001, u32::MAX]),
             _ => lists_damage(random, &mut call.lists, None),
         };
@@ -283,7 +275,7 @@ pub fn serve_damage(random: &mut Random, queries: &[Query], call: &mut Serve) {
     let Some(query) = queries.iter().find(|query| query.words == planned) else {
         return;
     };
-    let mut turn = as_turn(&call.tables, &front, call.quantum, &call.threshold, &call.output);
+    let mut turn = turn_of(call, &front, call.quantum);
     super::damage::turn(random, query, &mut turn);
     let entry = &mut call.lists.line[0];
     // a plan that does not fit an entry is a count past the array
@@ -296,7 +288,8 @@ pub fn serve_damage(random: &mut Random, queries: &[Query], call: &mut Serve) {
     let words = turn.state.len().min(STATE_ROOM);
     entry.state[..words].copy_from_slice(&turn.state[..words]);
     entry.saved = count(turn.given);
-    (call.tables, call.quantum, call.threshold, call.output) = (turn.tables, turn.quantum, turn.threshold, turn.output);
+    (call.tables, call.survey, call.quantum) = (turn.tables, turn.survey, turn.quantum);
+    (call.threshold, call.output) = (turn.threshold, turn.output);
 }
 
 /// One thing of a top-up or of the lists changed.

@@ -10,6 +10,18 @@ pub fn some_number(random: &mut Random) -> u32 {
     number(random.pick(&[value, value, value, 45, 310, MOST_VALUE - 1, MOST_VALUE]))
 }
 
+/// The number of a survey, of 28 bits.
+pub fn survey(random: &mut Random) -> u32 {
+    let some = random.small(1 << 28);
+    random.pick(&[0, 1, 7, some, some, MOST_COUNT])
+}
+
+/// A number that no survey has, mostly one that is right in its low 28 bits.
+pub fn no_survey(random: &mut Random, right: u32) -> u32 {
+    let high = random.between(1, 15) as u32;
+    random.pick(&[right | 1 << 28, right | high << 28, MOST_COUNT + 1, u32::MAX])
+}
+
 /// Tables of at most so many rows. Names are few, so that patterns join; predicates may be names of subjects too.
 pub fn wood(random: &mut Random, rows: usize) -> Tables {
     let few = random.pick(&[3, 6, rows as u32 / 2 + 3]);

@@ -5,7 +5,7 @@ use mathlib.Core.Path.{sym, _∙_, ap, subst}
 use mathlib.Core.Bool.{_&&_, not}
 use lib.Dec.{ltb}
 use Rattle.words.specs.Tests.{firstFailing, numberOf}
-use Rattle.tables.specs.Tables.{tablesOf}
+use Rattle.turns.specs.Surveys.{surveyOf}
 use Rattle.queues.specs.declared.Entry.{Entry}
 use Rattle.queues.specs.Lists.{lentAs}
 use Rattle.queues.specs.Joining.{Joining, joinQueueOf}
@@ -42,18 +42,18 @@ returns c =
     let k = l .before in
     let m = k .before in
     let a = m .before .before .before .before .before .before .args in
-    let t = tablesOf (a .rows .now) (a .pos .now) (a .osp .now) in
+    let v = surveyOf (a .rows .now) (a .pos .now) (a .osp .now) (a .survey) in
     let j : Joining = record { owner = a .owner; allowance = a .allowance; plan = a .plan .now; state = a .state .now } in
     let f = k .join-right .ensures in
     let g = m .room-right .ensures in
-    let e = join-number t (a .plan .now) (a .state .now)
+    let e = join-number v (a .plan .now) (a .state .now)
     ((a .seen .lined && a .seen .rested) && (not (ltb (a .seen .place) (a .seen .waiting)) && not (ltb (a .seen .found) (a .seen .resting))))
     (roomBy (a .seen .room) (a .seen .spare) (a .given) (a .kept) 1) (n .first-of .result) (q .query-number .result) (l .lists-number .result)
     (n .first-of .ensures) (q .query-number .ensures) (l .lists-number .ensures ∙ (λ i. numberOf (firstFailing (topUpTestsBy (f i) (g i))))) in
     λ line aside is.
-    subst (λ (d : Queueing). Decides (lentAs line (a .given) aside (a .kept)) d (joinQueueOf t (lentAs line (a .given) aside (a .kept)) j))
+    subst (λ (d : Queueing). Decides (lentAs line (a .given) aside (a .kept)) d (joinQueueOf v (lentAs line (a .given) aside (a .kept)) j))
     (sym (c .refused .ensures))
-    (join-refuses t line (a .given) aside (a .kept) j (a .seen) is (n .first-of .result) e (c .before .if1 .taken))
+    (join-refuses v line (a .given) aside (a .kept) j (a .seen) is (n .first-of .result) e (c .before .if1 .taken))
 
 entry-of-requires : tie.Need-entry-of-requires
 entry-of-requires c κs =
@@ -63,14 +63,14 @@ entry-of-requires c κs =
     let k = l .before in
     let m = k .before in
     let a = m .before .before .before .before .before .before .args in
-    let t = tablesOf (a .rows .now) (a .pos .now) (a .osp .now) in
+    let v = surveyOf (a .rows .now) (a .pos .now) (a .osp .now) (a .survey) in
     let f = k .join-right .ensures in
     let g = m .room-right .ensures in
     let entries = (a .seen .lined && a .seen .rested) && (not (ltb (a .seen .place) (a .seen .waiting)) && not (ltb (a .seen .found) (a .seen .resting))) in
-    let e = join-number t (a .plan .now) (a .state .now) entries
+    let e = join-number v (a .plan .now) (a .state .now) entries
     (roomBy (a .seen .room) (a .seen .spare) (a .given) (a .kept) 1) (n .first-of .result) (q .query-number .result) (l .lists-number .result)
     (n .first-of .ensures) (q .query-number .ensures) (l .lists-number .ensures ∙ (λ i. numberOf (firstFailing (topUpTestsBy (f i) (g i))))) in
-    joined-short t (a .plan .now) (a .state .now) entries (a .seen) (a .given) (a .kept) (sym e ∙ c .if1 .left)
+    joined-short v (a .plan .now) (a .state .now) entries (a .seen) (a .given) (a .kept) (sym e ∙ c .if1 .left)
 
 admitted-requires : tie.Need-admitted-requires
 admitted-requires c κs =
@@ -80,14 +80,14 @@ admitted-requires c κs =
     let k = l .before in
     let m = k .before in
     let a = m .before .before .before .before .before .before .args in
-    let t = tablesOf (a .rows .now) (a .pos .now) (a .osp .now) in
+    let v = surveyOf (a .rows .now) (a .pos .now) (a .osp .now) (a .survey) in
     let f = k .join-right .ensures in
     let g = m .room-right .ensures in
     let entries = (a .seen .lined && a .seen .rested) && (not (ltb (a .seen .place) (a .seen .waiting)) && not (ltb (a .seen .found) (a .seen .resting))) in
-    let e = join-number t (a .plan .now) (a .state .now) entries
+    let e = join-number v (a .plan .now) (a .state .now) entries
     (roomBy (a .seen .room) (a .seen .spare) (a .given) (a .kept) 1) (n .first-of .result) (q .query-number .result) (l .lists-number .result)
     (n .first-of .ensures) (q .query-number .ensures) (l .lists-number .ensures ∙ (λ i. numberOf (firstFailing (topUpTestsBy (f i) (g i))))) in
-    let r = joined-room t (a .plan .now) (a .state .now) entries (a .seen) (a .given) (a .kept) (sym e ∙ c .before .if1 .left) in
+    let r = joined-room v (a .plan .now) (a .state .now) entries (a .seen) (a .given) (a .kept) (sym e ∙ c .before .if1 .left) in
     let h = r .entries in omega arith
 
 returns-2 : tie.Need-returns-2
@@ -98,18 +98,18 @@ returns-2 c =
     let k = l .before in
     let m = k .before in
     let a = m .before .before .before .before .before .before .args in
-    let t = tablesOf (a .rows .now) (a .pos .now) (a .osp .now) in
+    let v = surveyOf (a .rows .now) (a .pos .now) (a .osp .now) (a .survey) in
     let j : Joining = record { owner = a .owner; allowance = a .allowance; plan = a .plan .now; state = a .state .now } in
     let f = k .join-right .ensures in
     let g = m .room-right .ensures in
-    let e = join-number t (a .plan .now) (a .state .now)
+    let e = join-number v (a .plan .now) (a .state .now)
     ((a .seen .lined && a .seen .rested) && (not (ltb (a .seen .place) (a .seen .waiting)) && not (ltb (a .seen .found) (a .seen .resting))))
     (roomBy (a .seen .room) (a .seen .spare) (a .given) (a .kept) 1) (n .first-of .result) (q .query-number .result) (l .lists-number .result)
     (n .first-of .ensures) (q .query-number .ensures) (l .lists-number .ensures ∙ (λ i. numberOf (firstFailing (topUpTestsBy (f i) (g i))))) in
     λ line aside is.
-    subst (λ (d : Queueing). Decides (lentAs line (a .given) aside (a .kept)) d (joinQueueOf t (lentAs line (a .given) aside (a .kept)) j))
+    subst (λ (d : Queueing). Decides (lentAs line (a .given) aside (a .kept)) d (joinQueueOf v (lentAs line (a .given) aside (a .kept)) j))
     (sym (c .admitted .ensures ∙ ap (λ (x : Entry). admittedBy x (a .given) (a .kept)) (c .before .entry-of .ensures)))
-    (join-accepts t line (a .given) aside (a .kept) j (a .seen) is (sym e ∙ c .before .before .if1 .left))
+    (join-accepts v line (a .given) aside (a .kept) j (a .seen) is (sym e ∙ c .before .before .if1 .left))
 
 pub join-spec : {M : Type 1} → statement M
 join-spec =

@@ -18,7 +18,8 @@ returns c =
     let k = c .before in
     let s = k .before .before .before .before .before .before .args in
     let t = tablesOf (s .rows .now) (s .pos .now) (s .osp .now) in
-    front-decides (earlyTests t (s .plan .now)) (stateTests t (planOf (s .plan .now)) (s .state .now)) (k .check .result) (k .check .ensures) (c .if1 .taken)
+    front-decides (earlyTests t (s .plan .now)) (stateTests t (s .survey) (planOf (s .plan .now)) (s .state .now))
+    (k .check .result) (k .check .ensures) (c .if1 .taken)
 
 load-requires : tie.Need-load-requires
 load-requires c κs =
@@ -35,7 +36,8 @@ returns-2 c =
     let t = tablesOf (s .rows .now) (s .pos .now) (s .osp .now) in
     let e = sym (k .check .ensures) ∙ c .before .before .if1 .left in
     c .load .ensures .0
-    ∙ sym (ap numberOf (rest-decides (earlyTests t (s .plan .now)) (stateTests t (planOf (s .plan .now)) (s .state .now)) (early-pass t (s .plan .now) e)))
+    ∙ sym (ap numberOf (rest-decides (earlyTests t (s .plan .now)) (stateTests t (s .survey) (planOf (s .plan .now)) (s .state .now))
+    (early-pass t (s .plan .now) e)))
 
 pub query-number-spec : {M : Type 1} → statement M
 query-number-spec = tie.close (tie.spec check-requires returns load-requires returns-2)

@@ -1,4 +1,4 @@
--- `empty_number` meets its contract: the tables, then the quantum.
+-- `empty_number` meets its contract: the tables, then the quantum, then the survey's number.
 use borrow.Author.Needs.{needs}
 use mathlib.Core.Path.{_∙_}
 use Rattle.tables.specs.Tables.{tablesOf}
@@ -13,16 +13,26 @@ check-requires c κs = search needs
 quantum-number-requires : tie.Need-quantum-number-requires
 quantum-number-requires c κs = search needs
 
+survey-number-requires : tie.Need-survey-number-requires
+survey-number-requires c κs = search needs
+
 first-of-requires : tie.Need-first-of-requires
 first-of-requires c κs = search needs
 
+first-of-requires-2 : tie.Need-first-of-requires-2
+first-of-requires-2 c κs = search needs
+
 returns : tie.Need-returns
 returns c =
-    let q = c .before in
+    let f = c .before in
+    let n = f .before in
+    let q = n .before in
     let t = q .before in
     let a = t .before .before .before .before .args in
-    c .first-of .ensures ∙ (λ i. firstNumber (t .check .ensures i) (q .quantum-number .ensures i))
-    ∙ tables-then (tablesOf (a .rows .now) (a .pos .now) (a .osp .now)) (a .quantum)
+    let late = f .first-of .ensures ∙ (λ i. firstNumber (q .quantum-number .ensures i) (n .survey-number .ensures i)) in
+    c .first-of2 .ensures ∙ (λ i. firstNumber (t .check .ensures i) (late i))
+    ∙ tables-then (tablesOf (a .rows .now) (a .pos .now) (a .osp .now)) (a .quantum) (a .survey)
 
 pub empty-number-spec : {M : Type 1} → statement M
-empty-number-spec = tie.close (tie.spec check-requires quantum-number-requires first-of-requires returns)
+empty-number-spec =
+    tie.close (tie.spec check-requires quantum-number-requires survey-number-requires first-of-requires first-of-requires-2 returns)

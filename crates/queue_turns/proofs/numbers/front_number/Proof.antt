@@ -39,7 +39,7 @@ returns c =
     let a = p .before .before .before .before .before .before .before .before .args in
     c .prepare .ensures .0
     ∙ ap (λ (ws : List ℕ). numberOf
-    (firstFailing (turnTests (turnInput (a .rows .now) (a .pos .now) (a .osp .now) ws (a .e .state) (a .e .saved) (a .quantum)
+    (firstFailing (turnTests (turnInput (a .rows .now) (a .pos .now) (a .osp .now) (a .survey) ws (a .e .state) (a .e .saved) (a .quantum)
     (a .threshold .now) (a .output .now))))) (plan-read (a .e) (p .planned .ensures .1 .0) (p .planned .result) (p .planned .ensures .0))
 
 pub front-number-spec : {M : Type 1} → statement M

@@ -5,7 +5,7 @@ use mathlib.Core.Path.{sym, _∙_, subst}
 use mathlib.Core.Bool.{_&&_, not}
 use lib.Dec.{eqb}
 use Rattle.words.specs.Tests.{firstFailing, numberOf}
-use Rattle.tables.specs.Tables.{tablesOf}
+use Rattle.turns.specs.Surveys.{surveyOf}
 use Rattle.queues.specs.Lists.{lentAs}
 use Rattle.queues.specs.Serving.{Serving, queueTestsBy, serveOf}
 use Rattle.queue_tests.specs.Changes.{roomBy}
@@ -50,19 +50,19 @@ returns c =
     let g = k .before in
     let h = g .before in
     let a = h .before .before .before .before .before .before .args in
-    let t = tablesOf (a .rows .now) (a .pos .now) (a .osp .now) in
+    let v = surveyOf (a .rows .now) (a .pos .now) (a .osp .now) (a .survey) in
     let s : Serving = record { quantum = a .quantum; threshold = a .threshold .now; output = a .output .now } in
     let entries = a .seen .lined && a .seen .rested in
     let room = roomBy (a .seen .room) (a .seen .spare) (a .given) (a .kept) 0 in
     let late = k .list-number .ensures
     ∙ (λ i. numberOf (firstFailing (queueTestsBy (g .lists-right .ensures i) (h .room-right .ensures i) (not (eqb (a .seen .waiting) 0))))) in
-    let is = serve-number t s (a .seen .waiting) (a .e) entries room (m .serve-number .result) (k .list-number .result) late (m .serve-number .ensures) in
-    let some = not-served t s (a .seen .waiting) (a .e) entries room (m .serve-number .result) (k .list-number .result) (q .quantum-number .result)
+    let is = serve-number v s (a .seen .waiting) (a .e) entries room (m .serve-number .result) (k .list-number .result) late (m .serve-number .ensures) in
+    let some = not-served v s (a .seen .waiting) (a .e) entries room (m .serve-number .result) (k .list-number .result) (q .quantum-number .result)
     is late (q .quantum-number .ensures) (λ z. w .if1 .taken (f .first-of .ensures ∙ z)) in
     λ line aside seen its.
-    subst (λ (d : ServeChanges). Settles (lentAs line (a .given) aside (a .kept)) d (a .output .now) (serveOf t (lentAs line (a .given) aside (a .kept)) s))
+    subst (λ (d : ServeChanges). Settles (lentAs line (a .given) aside (a .kept)) d (a .output .now) (serveOf v (lentAs line (a .given) aside (a .kept)) s))
     (sym (c .refused .ensures))
-    (serve-refuses t s line (a .given) aside (a .kept) (a .seen) seen (a .e) its (m .serve-number .result) is some)
+    (serve-refuses v s line (a .given) aside (a .kept) (a .seen) seen (a .e) its (m .serve-number .result) is some)
 
 least-steps-requires : tie.Need-least-steps-requires
 least-steps-requires c κs = search needs
@@ -97,8 +97,8 @@ same-length-2 c = search needs
 
 returns-2 : tie.Need-returns-2
 returns-2 c =
-    let v = c .before .before .before in
-    let l = v .before .before in
+    let u = c .before .before .before in
+    let l = u .before .before in
     let w = l .before in
     let f = w .before in
     let q = f .before in
@@ -106,7 +106,7 @@ returns-2 c =
     let g = k .before in
     let h = g .before in
     let a = h .before .before .before .before .before .before .args in
-    let t = tablesOf (a .rows .now) (a .pos .now) (a .osp .now) in
+    let v = surveyOf (a .rows .now) (a .pos .now) (a .osp .now) (a .survey) in
     let s : Serving = record { quantum = a .quantum; threshold = a .threshold .now; output = a .output .now } in
     let entries = a .seen .lined && a .seen .rested in
     let room = roomBy (a .seen .room) (a .seen .spare) (a .given) (a .kept) 0 in
@@ -114,12 +114,12 @@ returns-2 c =
     ∙ (λ i. numberOf (firstFailing (queueTestsBy (g .lists-right .ensures i) (h .room-right .ensures i) (not (eqb (a .seen .waiting) 0))))) in
     let p = passed entries room (a .seen .waiting) (a .quantum) (k .list-number .result) (q .quantum-number .result) late (q .quantum-number .ensures)
     (sym (f .first-of .ensures) ∙ w .if1 .left) in
-    let o = v .turn-entry .last .1 .1 .1 .1 .1 .1 .0 in
+    let o = u .turn-entry .last .1 .1 .1 .1 .1 .1 .1 .0 in
     λ line aside seen its.
-    subst (λ (d : ServeChanges). Settles (lentAs line (a .given) aside (a .kept)) d o (serveOf t (lentAs line (a .given) aside (a .kept)) s))
+    subst (λ (d : ServeChanges). Settles (lentAs line (a .given) aside (a .kept)) d o (serveOf v (lentAs line (a .given) aside (a .kept)) s))
     (sym (c .goes .ensures))
-    (serve-accepts t s line (a .given) aside (a .kept) (a .seen) seen (a .e) its p (v .turn-entry .result) o (l .least-steps .result)
-    (l .least-steps .ensures) (v .turn-entry .ensures))
+    (serve-accepts v s line (a .given) aside (a .kept) (a .seen) seen (a .e) its p (u .turn-entry .result) o (l .least-steps .result)
+    (l .least-steps .ensures) (u .turn-entry .ensures))
 
 pub serve-spec : {M : Type 1} → statement M
 serve-spec =

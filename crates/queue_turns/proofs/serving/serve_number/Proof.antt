@@ -6,7 +6,7 @@ use mathlib.Core.Bool.{Bool, cond}
 use mathlib.Core.List.{[], _∷_}
 use borrow.Author.Tests.{eq-eqb, ne-eqb}
 use Rattle.words.specs.Tests.{firstFailing, numberOf}
-use Rattle.tables.specs.Tables.{tablesOf}
+use Rattle.turns.specs.Surveys.{surveyOf}
 use Rattle.queues.specs.Serving.{Serving, frontTests}
 use Rattle.queue_tests.specs.Changes.{firstNumber}
 use Rattle.queue_turns.proofs.serving.serve_number.Statement.{statement}
@@ -22,11 +22,11 @@ returns : tie.Need-returns
 returns c =
     let f = c .before .before in
     let a = f .before .before .before .before .before .before .args in
-    let t = tablesOf (a .rows .now) (a .pos .now) (a .osp .now) in
+    let v = surveyOf (a .rows .now) (a .pos .now) (a .osp .now) (a .survey) in
     let s : Serving = record { quantum = a .quantum; threshold = a .threshold .now; output = a .output .now } in
     c .first-of .ensures
     ∙ ap (λ (n : ℕ). firstNumber n (a .late)) (c .before .empty-number .ensures)
-    ∙ ap (λ (b : Bool). firstNumber (numberOf (firstFailing (cond b (frontTests t s []) (frontTests t s (a .e ∷ []))))) (a .late))
+    ∙ ap (λ (b : Bool). firstNumber (numberOf (firstFailing (cond b (frontTests v s []) (frontTests v s (a .e ∷ []))))) (a .late))
     (sym (eq-eqb (a .waiting) 0 (f .if1 .taken)))
 
 front-number-requires : tie.Need-front-number-requires
@@ -39,11 +39,11 @@ returns-2 : tie.Need-returns-2
 returns-2 c =
     let f = c .before .before in
     let a = f .before .before .before .before .before .before .args in
-    let t = tablesOf (a .rows .now) (a .pos .now) (a .osp .now) in
+    let v = surveyOf (a .rows .now) (a .pos .now) (a .osp .now) (a .survey) in
     let s : Serving = record { quantum = a .quantum; threshold = a .threshold .now; output = a .output .now } in
     c .first-of2 .ensures
     ∙ ap (λ (n : ℕ). firstNumber n (a .late)) (c .before .front-number .ensures)
-    ∙ ap (λ (b : Bool). firstNumber (numberOf (firstFailing (cond b (frontTests t s []) (frontTests t s (a .e ∷ []))))) (a .late))
+    ∙ ap (λ (b : Bool). firstNumber (numberOf (firstFailing (cond b (frontTests v s []) (frontTests v s (a .e ∷ []))))) (a .late))
     (sym (ne-eqb (a .waiting) 0 (f .if1 .left)))
 
 pub serve-number-spec : {M : Type 1} → statement M

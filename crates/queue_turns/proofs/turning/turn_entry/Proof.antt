@@ -42,7 +42,7 @@ cast-entry-with c =
     let p = t .before .before .before .before .before in
     let s = p .before .before .before .before .before .before .before .before in
     let a = s .args in
-    let i = turnInput (a .rows .now) (a .pos .now) (a .osp .now) (take (p .planned .result) (a .e .plan)) (a .e .state) (a .e .saved) (a .steps)
+    let i = turnInput (a .rows .now) (a .pos .now) (a .osp .now) (a .survey) (take (p .planned .result) (a .e .plan)) (a .e .state) (a .e .saved) (a .steps)
     (a .threshold .now)
     (a .output .now) in
     let e = t .turn .ensures .0 in
@@ -58,7 +58,7 @@ entry-with-requires c κs =
     let p = t .before .before .before .before .before in
     let s = p .before .before .before .before .before .before .before .before in
     let a = s .args in
-    let i = turnInput (a .rows .now) (a .pos .now) (a .osp .now) (take (p .planned .result) (a .e .plan)) (a .e .state) (a .e .saved) (a .steps)
+    let i = turnInput (a .rows .now) (a .pos .now) (a .osp .now) (a .survey) (take (p .planned .result) (a .e .plan)) (a .e .state) (a .e .saved) (a .steps)
     (a .threshold .now)
     (a .output .now) in
     let e = t .turn .ensures .0 in
@@ -77,7 +77,7 @@ returns c =
     let a = p .before .before .before .before .before .before .before .before .args in
     let e = t .turn .ensures .0
     ∙ ap (λ (ws : List ℕ). turnOf
-    (turnInput (a .rows .now) (a .pos .now) (a .osp .now) ws (a .e .state) (a .e .saved) (a .steps) (a .threshold .now) (a .output .now)))
+    (turnInput (a .rows .now) (a .pos .now) (a .osp .now) (a .survey) ws (a .e .state) (a .e .saved) (a .steps) (a .threshold .now) (a .output .now)))
     (plan-read (a .e) (p .planned .ensures .1 .0) (p .planned .result) (p .planned .ensures .0)) in
     record {
       turned = ap (λ (r : TurnResult). r .answer) e;

@@ -1,20 +1,19 @@
 -- `state_loading::load` meets its contract.
 use borrow.Author.Needs.{needs}
-use Prim.Native.Nat.{ℕ, _-_}
+use Prim.Native.Nat.{ℕ}
 use mathlib.Core.Path.{_≡_, sym, ap, _∙_}
 use mathlib.Core.Bool.{true}
 use mathlib.Core.List.{List}
 use native.Mathlib.Omega.{arith}
-use lib.ListN.{length, getD, length-drop}
+use lib.ListN.{getD, drop}
 use borrow.Author.Tests.{not-true, not-false}
-use Rattle.words.specs.Words.{branchOf}
+use Rattle.words.proofs.Booleans.{and-right}
+use Rattle.words.proofs.Walking.{rest-of}
 use Rattle.tables.specs.Tables.{Tables, tablesOf}
-use Rattle.plans.specs.Branches.{Branch, noBranch}
-use Rattle.plans.specs.Plans.{Plan, planOf, branchAt}
-use Rattle.plans.specs.Reading.{branchStart}
-use Rattle.plans.proofs.Given.{given-read, given-is}
-use Rattle.steps.specs.Saved.{shapeRight}
-use Rattle.state_saving.proofs.Loads.{refused-shape, placed, whole, begins, level-there, loads-not, loads, loads-held, loads-ends}
+use Rattle.plans.specs.Plans.{Plan, planOf}
+use Rattle.steps.specs.Saved.{isSurvey, shapeBehind, shapeRight, positionIn}
+use Rattle.state_saving.specs.Loading.{placesRefusal}
+use Rattle.state_saving.proofs.Loads.{refused-shape, refused-survey, refused-behind, some-word}
 use Rattle.state_loading.proofs.loading.load.Statement.{statement}
 use Rattle.state_loading.proofs.loading.load.Tie as tie
 
@@ -34,17 +33,6 @@ entry c = c .before .before .before .before .before .before .before .before
 shape : (c : tie.After-shared-slice-known6) → shapeRight (asked (entry c)) (words (entry c)) ≡ true
 shape c = sym (c .before .before .has-form .ensures) ∙ not-false _ (c .before .if1 .left)
 
--- the terms of the branch that the first word names
-terms-are : (c : tie.After-terms) → let s = entry (c .before .before .before .before) in
-    c .terms .result .now ≡ branchAt (asked s) (branchOf (getD (words s) 0 0)) .terms
-terms-are c =
-    let p = c .before .before in
-    let b = p .before in
-    let s = entry (b .before) in
-    c .terms .ensures
-    ∙ ap (λ (x : Branch). x .terms)
-    (given-is _ noBranch _ (p .branch-part .ensures .1) ∙ ap (branchAt (asked s)) (b .branch .ensures))
-
 has-form-requires : tie.Need-has-form-requires
 has-form-requires c κs = search needs
 
@@ -56,97 +44,60 @@ returns c =
     let f = c .before .before in
     let s = f .before .before .before .before .before .before in
     let shape = sym (f .has-form .ensures) ∙ not-true _ (c .before .if1 .taken) in
-    let e = c .refused .ensures in
-    (e ∙ sym (refused-shape (lent s) (asked s) (s .args .state .now) shape), (λ z. absurd (omega (arith, z, e)), λ z. absurd (omega (arith, z, e))))
-
-shared-slice-read-t20 : tie.Need-shared-slice-read-t20
-shared-slice-read-t20 c = let p = placed (asked (entry c)) (words (entry c)) (shape c) in omega (arith, p .long)
-
-branch-requires : tie.Need-branch-requires
-branch-requires c κs = search needs
-
-branch-part-requires : tie.Need-branch-part-requires
-branch-part-requires c κs =
-    let s = entry (c .before) in
-    let p = placed (asked s) (words s) (shape (c .before)) in
-    (s .pre .1, omega (arith, p .branch, c .branch .ensures))
-
-sub-cursor-in : tie.Need-sub-cursor-in
-sub-cursor-in c =
-    let s = entry (c .before .before) in
-    omega (arith, ap length (c .branch-part .ensures .0), length-drop (branchStart (c .before .branch .result) (s .args .plan .now)) (s .args .plan .now))
-
-cursor-in-requires : tie.Need-cursor-in-requires
-cursor-in-requires c κs =
-    let s = entry (c .before .before) in
-    whole (s .args .plan .now) (words s) (s .pre .1) (shape (c .before .before))
-
-terms-requires : tie.Need-terms-requires
-terms-requires c κs = given-read _ _ (c .before .branch-part .ensures .1)
-
-places-right-requires : tie.Need-places-right-requires
-places-right-requires c κs =
-    let t = c .before in
-    let f = t .before in
-    let k = f .before .before .before in
-    let s = entry k in
-    let e = f .cursor-in .ensures in (
-      s .pre .0,
-      level-there (s .args .plan .now) (words s) (s .pre .1) (shape k) (f .cursor-in .result) (e .0) (e .2) _ (terms-are t),
+    let e = c .refused .ensures in (
+      e ∙ sym (refused-shape (lent s) (s .args .survey) (asked s) (words s) shape),
+      (λ z. absurd (omega (arith, z, e)), λ z. absurd (omega (arith, z, e))),
     )
 
-level-of-requires : tie.Need-level-of-requires
-level-of-requires c κs =
-    let t = c .before .before .before .before .before .before .before .before in
-    let f = t .before in
-    let k = f .before .before .before in
-    let s = entry k in
-    let e = f .cursor-in .ensures in
-    level-there (s .args .plan .now) (words s) (s .pre .1) (shape k) (f .cursor-in .result) (e .0) (e .2) _ (terms-are t) .0
+shared-slice-read-of-survey : tie.Need-shared-slice-read-of-survey
+shared-slice-read-of-survey c = some-word (asked (entry c)) (words (entry c)) (shape c)
 
-returns-2 : tie.Need-returns-2
-returns-2 c =
-    let w = c .before .before .before .before .before .before in
-    let r = w .before in
-    let passes = w .if2 .taken in
-    let t = r .before .before in
-    let f = t .before in
-    let p = f .before in
-    let b = p .before in
-    let s = entry (b .before) in
-    let ws = words s in
-    let e = f .cursor-in .ensures in
-    let plan = s .args .plan .now in
-    let from = f .cursor-in .result in
-    let g = p .branch-part .ensures in
-    let k = r .places-right .ensures .1 .1 passes in (
-      sym (loads plan ws (s .pre .1) (shape (b .before)) from (e .0) (e .2) _ (terms-are t) (lent s) _ (r .places-right .ensures .0) passes),
-      (
-        λ z. (
-          e .0,
-          loads-held plan ws (s .pre .1) (shape (b .before)) from (e .0) (e .2) _ (terms-are t) (lent s) _ (r .places-right .ensures .0)
-              passes (begins plan (p .branch-part .result .now) (b .branch .result) _ (branchStart (b .branch .result) plan) (from .at) (g .0) (g .1)
-              (b .branch .ensures) (e .1)) (e .3) _ (r .places-right .ensures .1 .0 passes) _ (c .level-of .ensures) _ _,
-        ),
-        λ z. loads-ends plan ws (s .pre .1) (shape (b .before)) from (e .0) (e .2) _ (terms-are t) (lent s) _ (r .places-right .ensures .1 .0 passes)
-            (c .level-of .result) _ _ (k .0) (k .1) (k .2),
-      ),
-    )
+of-survey-requires : tie.Need-of-survey-requires
+of-survey-requires c κs = search needs
 
 refused-requires-2 : tie.Need-refused-requires-2
 refused-requires-2 c κs = search needs
 
+returns-2 : tie.Need-returns-2
+returns-2 c =
+    let o = c .before .before in
+    let k = o .before in
+    let s = entry k in
+    let differs = sym (o .of-survey .ensures) ∙ not-true _ (c .before .if2 .taken) in
+    let e = c .refused2 .ensures in (
+      e ∙ sym (refused-survey (lent s) (s .args .survey) (asked s) (words s) (shape k) differs),
+      (λ z. absurd (omega (arith, z, e)), λ z. absurd (omega (arith, z, e))),
+    )
+
+sub-load-behind : tie.Need-sub-load-behind
+sub-load-behind c = some-word (asked (entry (c .before .before))) (words (entry (c .before .before))) (shape (c .before .before))
+
+part-load-behind-start : tie.Need-part-load-behind-start
+part-load-behind-start c = omega (arith, some-word (asked (entry (c .before .before))) (words (entry (c .before .before))) (shape (c .before .before)))
+
+part-load-behind-end : tie.Need-part-load-behind-end
+part-load-behind-end c = search needs
+
+load-behind-requires : tie.Need-load-behind-requires
+load-behind-requires c κs =
+    let k = c .before .before .before .before in
+    let s = entry k in
+    let behind = and-right (isSurvey (getD (words s) 0 0)) (shapeBehind (asked s) (drop 1 (words s))) (shape k) in
+    (s .pre .0, (s .pre .1, ap (shapeBehind (asked s)) (rest-of (words s) 1) ∙ behind))
+
 returns-3 : tie.Need-returns-3
 returns-3 c =
-    let r = c .before .before in
-    let t = r .before .before in
-    let f = t .before in
-    let s = entry (f .before .before .before) in
-    let e = f .cursor-in .ensures in
-    let n = c .refused2 .ensures in (
-      n ∙ sym (loads-not (s .args .plan .now) (words s) (s .pre .1) (shape (f .before .before .before)) (f .cursor-in .result) (e .0) (e .2) _
-          (terms-are t) (lent s) _ (r .places-right .ensures .0) (c .before .if2 .left)),
-      (λ z. absurd (omega (arith, z, n)), λ z. absurd (omega (arith, z, n))),
+    let i = c .before .before .before in
+    let o = i .before in
+    let k = o .before in
+    let s = entry k in
+    let e = c .load-behind .ensures in
+    let behind = rest-of (words s) 1 in
+    let same = sym (o .of-survey .ensures) ∙ not-false _ (i .if2 .left) in (
+      e .0
+          ∙ ap (placesRefusal (lent s) (asked s)) behind
+          ∙ sym (refused-behind (lent s) (s .args .survey) (asked s) (words s) (shape k) same),
+      (λ z. let h = e .1 .0 z in (h .0 ∙ ap positionIn behind, h .1), e .1 .1),
     )
 
 pub load-spec : {M : Type 1} → statement M
@@ -156,14 +107,12 @@ load-spec =
     has-form-requires
     refused-requires
     returns
-    shared-slice-read-t20
-    branch-requires
-    branch-part-requires
-    sub-cursor-in
-    cursor-in-requires
-    terms-requires
-    places-right-requires
-    level-of-requires
-    returns-2
+    shared-slice-read-of-survey
+    of-survey-requires
     refused-requires-2
+    returns-2
+    sub-load-behind
+    part-load-behind-start
+    part-load-behind-end
+    load-behind-requires
     returns-3)

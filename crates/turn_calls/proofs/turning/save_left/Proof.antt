@@ -15,7 +15,7 @@ enum-told-2 c = search needs
 save-requires : tie.Need-save-requires
 save-requires c κs =
     let s = c .before .before .before .before in
-    (s .pre .1 (λ d. let e = c .before .enum-told2 .given .1 in let z : _≡_ {A = ℕ} 0 1 = cc in omega arith), s .pre .0)
+    (s .pre .2 (λ d. let e = c .before .enum-told2 .given .1 in let z : _≡_ {A = ℕ} 0 1 = cc in omega arith), s .pre .0, s .pre .1)
 
 enum-told-3 : tie.Need-enum-told-3
 enum-told-3 c = search needs
@@ -23,7 +23,7 @@ enum-told-3 c = search needs
 save-requires-2 : tie.Need-save-requires-2
 save-requires-2 c κs =
     let s = c .before .before .before .before in
-    (s .pre .1 (λ d. let e = c .before .enum-told3 .given .1 in let z : _≡_ {A = ℕ} 0 1 = cc in omega arith), s .pre .0)
+    (s .pre .2 (λ d. let e = c .before .enum-told3 .given .1 in let z : _≡_ {A = ℕ} 0 1 = cc in omega arith), s .pre .0, s .pre .1)
 
 enum-told-4 : tie.Need-enum-told-4
 enum-told-4 c = search needs

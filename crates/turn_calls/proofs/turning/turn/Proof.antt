@@ -21,8 +21,8 @@ returns : tie.Need-returns
 returns c =
     let p = c .before in
     let s = p .before .before .before .before .before .before .before .before .before .before .before in
-    let i = turnInput (s .args .rows .now) (s .args .pos .now) (s .args .osp .now) (s .args .plan .now) (s .args .state .now) (s .args .given)
-    (s .args .quantum) (s .args .threshold .now) (s .args .output .now) in
+    let i = turnInput (s .args .rows .now) (s .args .pos .now) (s .args .osp .now) (s .args .survey) (s .args .plan .now) (s .args .state .now)
+    (s .args .given) (s .args .quantum) (s .args .threshold .now) (s .args .output .now) in
     turn-told i
     (refuses i (p .prepare .result .refused) (turn-refuses i (p .prepare .result .refused) (p .prepare .ensures .0) (c .if1 .taken)))
 
@@ -31,8 +31,8 @@ run-requires c κs =
     let f = c .before .before .before in
     let p = f .before in
     let s = p .before .before .before .before .before .before .before .before .before .before .before in
-    let i = turnInput (s .args .rows .now) (s .args .pos .now) (s .args .osp .now) (s .args .plan .now) (s .args .state .now) (s .args .given)
-    (s .args .quantum) (s .args .threshold .now) (s .args .output .now) in
+    let i = turnInput (s .args .rows .now) (s .args .pos .now) (s .args .osp .now) (s .args .survey) (s .args .plan .now) (s .args .state .now)
+    (s .args .given) (s .args .quantum) (s .args .threshold .now) (s .args .output .now) in
     let a = accepted i (turn-passes i (sym (p .prepare .ensures .0) ∙ f .if1 .left)) in
     (a .right, (p .prepare .ensures .1 .0 (f .if1 .left) .1, (p .prepare .ensures .1 .1 (f .if1 .left), runnable i a)))
 
@@ -42,9 +42,10 @@ finish-requires c κs =
     let f = r .before .before .before .before in
     let p = f .before in
     let s = p .before .before .before .before .before .before .before .before .before .before .before in
-    let i = turnInput (s .args .rows .now) (s .args .pos .now) (s .args .osp .now) (s .args .plan .now) (s .args .state .now) (s .args .given)
-    (s .args .quantum) (s .args .threshold .now) (s .args .output .now) in
-    (accepted i (turn-passes i (sym (p .prepare .ensures .0) ∙ f .if1 .left)) .state-room, r .run .ensures .storable)
+    let i = turnInput (s .args .rows .now) (s .args .pos .now) (s .args .osp .now) (s .args .survey) (s .args .plan .now) (s .args .state .now)
+    (s .args .given) (s .args .quantum) (s .args .threshold .now) (s .args .output .now) in
+    let a = accepted i (turn-passes i (sym (p .prepare .ensures .0) ∙ f .if1 .left)) in
+    (a .number, a .state-room, r .run .ensures .storable)
 
 same-length-3 : tie.Need-same-length-3
 same-length-3 c = search needs
@@ -59,8 +60,8 @@ returns-2 c =
     let f = r .before .before .before .before in
     let p = f .before in
     let s = p .before .before .before .before .before .before .before .before .before .before .before in
-    let i = turnInput (s .args .rows .now) (s .args .pos .now) (s .args .osp .now) (s .args .plan .now) (s .args .state .now) (s .args .given)
-    (s .args .quantum) (s .args .threshold .now) (s .args .output .now) in
+    let i = turnInput (s .args .rows .now) (s .args .pos .now) (s .args .osp .now) (s .args .survey) (s .args .plan .now) (s .args .state .now)
+    (s .args .given) (s .args .quantum) (s .args .threshold .now) (s .args .output .now) in
     let a = serves i (turn-passes i (sym (p .prepare .ensures .0) ∙ f .if1 .left)) (stateOf (p .prepare .result .from))
     (p .prepare .ensures .1 .0 (f .if1 .left) .0)
     (r .run .result) (r .run .last .1 .1 .1 .1 .1 .1 .1 .1 .0) (r .run .ensures) in

@@ -6,7 +6,7 @@ use lib.ListN.{length, take}
 use lib.Seq.{length-take-le}
 use Rattle.tables.specs.Tables.{tablesOf}
 use Rattle.plans.specs.Plans.{planOf}
-use Rattle.steps.specs.Saved.{shapeRight, placesRight}
+use Rattle.steps.specs.Saved.{shapeRight, surveyRight, placesRight}
 use Rattle.lists.specs.Gathering.{thresholdRight}
 use Rattle.turn_tests.proofs.Sizing.{not-given, state-fails, threshold-passes, threshold-fails}
 use Rattle.turn_tests.proofs.testing.load.Statement.{statement}
@@ -21,8 +21,8 @@ returns c =
     let t = tablesOf (s .args .rows .now) (s .args .pos .now) (s .args .osp .now) in
     let q = planOf (s .args .plan .now) in
     let ws = take (s .args .given) (s .args .state .now) in (
-      c .refused .ensures ∙ not-given (s .args .given) (length (s .args .state .now)) (shapeRight q ws) (placesRight t q ws)
-          (thresholdRight (q .ending) (s .args .threshold .now)) (c .before .if1 .taken),
+      c .refused .ensures ∙ not-given (s .args .given) (length (s .args .state .now)) (shapeRight q ws) (surveyRight (s .args .survey) ws)
+          (placesRight t q ws) (thresholdRight (q .ending) (s .args .threshold .now)) (c .before .if1 .taken),
       (λ z. absurd (omega arith), λ z. absurd (omega arith)),
     )
 
@@ -41,7 +41,7 @@ returns-2 c =
     let t = tablesOf (s .args .rows .now) (s .args .pos .now) (s .args .osp .now) in
     let q = planOf (s .args .plan .now) in
     let ws = take (s .args .given) (s .args .state .now) in (
-      state-fails (s .args .given) (length (s .args .state .now)) (shapeRight q ws) (placesRight t q ws)
+      state-fails (s .args .given) (length (s .args .state .now)) (shapeRight q ws) (surveyRight (s .args .survey) ws) (placesRight t q ws)
           (thresholdRight (q .ending) (s .args .threshold .now)) (l .before .before .before .if1 .left) _ (l .load .ensures .0) (c .if2 .taken),
       l .load .ensures .1,
     )
@@ -60,7 +60,7 @@ returns-3 c =
     let t = tablesOf (s .args .rows .now) (s .args .pos .now) (s .args .osp .now) in
     let q = planOf (s .args .plan .now) in
     let ws = take (s .args .given) (s .args .state .now) in (
-      threshold-passes (s .args .given) (length (s .args .state .now)) (shapeRight q ws) (placesRight t q ws)
+      threshold-passes (s .args .given) (length (s .args .state .now)) (shapeRight q ws) (surveyRight (s .args .survey) ws) (placesRight t q ws)
           (thresholdRight (q .ending) (s .args .threshold .now)) (l .before .before .before .if1 .left) _ (l .load .ensures .0) (p .before .if2 .left)
           (c .before .threshold-right .result) (rw (p .ending-part .ensures .1) at (c .before .threshold-right .ensures)) (c .if3 .taken),
       l .load .ensures .1,
@@ -78,8 +78,9 @@ returns-4 c =
     let t = tablesOf (s .args .rows .now) (s .args .pos .now) (s .args .osp .now) in
     let q = planOf (s .args .plan .now) in
     let ws = take (s .args .given) (s .args .state .now) in (
-      c .refused2 .ensures ∙ threshold-fails (s .args .given) (length (s .args .state .now)) (shapeRight q ws) (placesRight t q ws)
-          (thresholdRight (q .ending) (s .args .threshold .now)) (l .before .before .before .if1 .left) _ (l .load .ensures .0) (p .before .if2 .left)
+      c .refused2 .ensures ∙ threshold-fails (s .args .given) (length (s .args .state .now)) (shapeRight q ws) (surveyRight (s .args .survey) ws)
+          (placesRight t q ws) (thresholdRight (q .ending) (s .args .threshold .now))
+          (l .before .before .before .if1 .left) _ (l .load .ensures .0) (p .before .if2 .left)
           (r .threshold-right .result) (rw (p .ending-part .ensures .1) at (r .threshold-right .ensures)) (c .before .if3 .left),
       (λ z. absurd (omega arith), λ z. absurd (omega arith)),
     )

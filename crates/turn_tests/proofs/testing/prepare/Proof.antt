@@ -18,8 +18,8 @@ returns : tie.Need-returns
 returns c =
     let k = c .before .before in
     let s = k .before .before .before .before .before .before .before .before in
-    let i = turnInput (s .args .rows .now) (s .args .pos .now) (s .args .osp .now) (s .args .plan .now) (s .args .state .now) (s .args .given)
-    (s .args .quantum) (s .args .threshold .now) (s .args .output .now) in (
+    let i = turnInput (s .args .rows .now) (s .args .pos .now) (s .args .osp .now) (s .args .survey) (s .args .plan .now) (s .args .state .now)
+    (s .args .given) (s .args .quantum) (s .args .threshold .now) (s .args .output .now) in (
       c .refused .ensures ∙ early-fails i (k .check .result) (k .check .ensures) (c .before .if1 .taken),
       (λ z. absurd (c .before .if1 .taken (sym (c .refused .ensures) ∙ z)), λ z. absurd (c .before .if1 .taken (sym (c .refused .ensures) ∙ z))),
     )
@@ -42,8 +42,8 @@ returns-2 c =
     let p = z .before in
     let k = p .before .before in
     let s = k .before .before .before .before .before .before .before .before in
-    let i = turnInput (s .args .rows .now) (s .args .pos .now) (s .args .osp .now) (s .args .plan .now) (s .args .state .now) (s .args .given)
-    (s .args .quantum) (s .args .threshold .now) (s .args .output .now) in (
+    let i = turnInput (s .args .rows .now) (s .args .pos .now) (s .args .osp .now) (s .args .survey) (s .args .plan .now) (s .args .state .now)
+    (s .args .given) (s .args .quantum) (s .args .threshold .now) (s .args .output .now) in (
       c .refused2 .ensures ∙ size-fails i (sym (k .check .ensures) ∙ p .before .if1 .left) (endingAt (p .ending-part .result .now))
           (p .ending-part .ensures .1) (z .sizes .result) (z .sizes .ensures) (c .before .if2 .taken),
       (λ h. absurd (c .before .if2 .taken (sym (c .refused2 .ensures) ∙ h)), λ h. absurd (c .before .if2 .taken (sym (c .refused2 .ensures) ∙ h))),
@@ -63,8 +63,8 @@ returns-3 c =
     let p = z .before in
     let k = p .before .before in
     let s = k .before .before .before .before .before .before .before .before in
-    let i = turnInput (s .args .rows .now) (s .args .pos .now) (s .args .osp .now) (s .args .plan .now) (s .args .state .now) (s .args .given)
-    (s .args .quantum) (s .args .threshold .now) (s .args .output .now) in (
+    let i = turnInput (s .args .rows .now) (s .args .pos .now) (s .args .osp .now) (s .args .survey) (s .args .plan .now) (s .args .state .now)
+    (s .args .given) (s .args .quantum) (s .args .threshold .now) (s .args .output .now) in (
       late-decides i (sym (k .check .ensures) ∙ p .before .if1 .left) (endingAt (p .ending-part .result .now)) (p .ending-part .ensures .1)
           (z .sizes .result) (z .sizes .ensures) (c .before .before .if2 .left) _ (c .load .ensures .0),
       c .load .ensures .1,
