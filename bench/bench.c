@@ -228,14 +228,15 @@ static struct sotjarn_written open_by(enum who w, const struct query *q, uint32_
 /* the check alone: the engine refuses a plan of one word 0 after it has checked the tables */
 static double time_check(enum who w, const struct query *q, uint32_t quantum)
 {
-    uint32_t zero[9] = {0}, refused;
+    static const uint32_t none[1] = {0};
+    uint32_t state[SOTJARN_STATE_WORDS] = {0}, refused;
     double t = now();
     (void)q, (void)quantum;
     if (w == SQLITE) {
         found = run_sql("pragma integrity_check", 1, &sum);
         return now() - t;
     }
-    refused = w == PEER ? c_check(TABLES) + 5 : calls[w].open(TABLES, 0, zero, 1, zero, SOTJARN_STATE_WORDS).refused;
+    refused = w == PEER ? c_check(TABLES) + 5 : calls[w].open(TABLES, 0, none, 1, state, SOTJARN_STATE_WORDS).refused;
     t = now() - t;
     if (refused != 5)
         fail("the tables are not accepted");
@@ -244,7 +245,7 @@ static double time_check(enum who w, const struct query *q, uint32_t quantum)
 
 static double time_open(enum who w, const struct query *q, uint32_t quantum)
 {
-    uint32_t state[9];
+    uint32_t state[SOTJARN_STATE_WORDS];
     struct sotjarn_written r;
     double t = now();
     (void)quantum;
@@ -261,7 +262,7 @@ static double time_open(enum who w, const struct query *q, uint32_t quantum)
 
 static double time_turn(enum who w, const struct query *q, uint32_t quantum)
 {
-    uint32_t state[9];
+    uint32_t state[SOTJARN_STATE_WORDS];
     struct result *r = &results[w == SQLITE ? ENGINE : w];
     size_t words;
     double t;

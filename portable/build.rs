@@ -21,7 +21,7 @@ const CALLS: &str = "sotjarn";
 /// The crate of the turn printer, whose `print_path` the program `turns` calls: it and what it uses beside the library.
 const PRINTER: &str = "print_files";
 /// Rattle's own crates, which only the printer uses; src/bin/turns/ has modules of these names that stand in for them.
-const KIT: [&str; 3] = ["io", "os", "libc"];
+const TOOLCHAIN: [&str; 3] = ["io", "os", "libc"];
 /// The library's name, for paths from the program.
 const LIBRARY: &str = "sotjarn_portable";
 
@@ -350,7 +350,7 @@ fn read_crates(file: &Path) -> Crates {
 
 /// Finds a crate and all that it uses, but for Rattle's own.
 fn find_used(crates: &Crates, name: &str, found: &mut BTreeSet<String>) {
-    if KIT.contains(&name) || !found.insert(name.to_string()) {
+    if TOOLCHAIN.contains(&name) || !found.insert(name.to_string()) {
         return;
     }
     match crates.get(name) {

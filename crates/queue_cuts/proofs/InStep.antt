@@ -30,10 +30,11 @@ use Rattle.queues.specs.Serving.{Serving, ServeResult, entryTurn, entryAfter, f
 use Rattle.queues.specs.Calls.{Queue, QueueCall, join, serve, topUp, MadeCall, lentTo, afterQueued, afterCall}
 use Rattle.queries.specs.Stepping.{isServed}
 use Rattle.queue_cuts.specs.Owners.{Act, calls, merging, joining, ownTurn, ownService, ifOwn, callEvents, callServices, ownEvents}
-use Rattle.queue_cuts.specs.Owners.{ownServices, afterActs, notJoined, NeverAgain, NoneOf, HoldsQuery, Waits, gone, in-line, set-aside}
+use Rattle.queue_cuts.specs.Owners.{ownServices, afterActs, NotAnother, NeverAgain, NoneOf, HoldsQuery, Waits, gone, in-line, set-aside}
 use Rattle.queues.proofs.Moving.{queue, line-lent, aside-lent, both-taken, topped-up}
 use Rattle.queue_cuts.proofs.FrontTurns.{other, not-first, none-behind, none-both, none-of-no-one, none-and-one, has-one, Told, Serviced, not-served}
 use Rattle.queue_cuts.proofs.FrontTurns.{off, on, out, serves}
+use Rattle.queue_cuts.proofs.Arrivals.{comes-new}
 
 -- ---- the owner's own turn, as an event of its cut
 module _ (v : Survey) (plan : List ℕ) (owner : ℕ) (s : Serving) (e : Entry) (h : Phone) (k : HoldsQuery owner plan (h .saved) e) where
@@ -211,10 +212,10 @@ module _ (v : Survey) (owner : ℕ) (plan : List ℕ) where
       set-aside before (behind ++ ys) d (ap (λ (w : List Entry). w ++ ys) is ∙ append-assoc before (d ∷ behind) ys) hd
       (none-both owner (q .line) xs a n) b (none-both owner behind ys c k)
 
-  join-waits : (saved : List ℕ) (q : Queue) (m : MadeCall) (j : Joining) → (j .owner ≡ owner → ⊥) → Waits owner plan saved q
-      → Waits owner plan saved (afterCall v q (lentTo q m) (join j))
+  join-waits : (saved : List ℕ) (q : Queue) (m : MadeCall) (j : Joining) → NotAnother v owner q (lentTo q m) (join j)
+      → Waits owner plan saved q → Waits owner plan saved (afterCall v q (lentTo q m) (join j))
   unfolding joinQueueOf
-  join-waits saved q m j hers w = by-tests (firstFailing (joinTests v (lentTo q m) j))
+  join-waits saved q m j first w = by-tests (firstFailing (joinTests v (lentTo q m) j)) refl
     where
       l : LentLists
       l = lentTo q m
@@ -222,27 +223,31 @@ module _ (v : Survey) (owner : ℕ) (plan : List ℕ) where
       d : Entry
       d = newEntry j
 
-      one : NoneOf owner (d ∷ [])
-      one = other owner d [] hers (none-of-no-one owner)
+      -- a served join is another's: were it this owner's, it would have no entry
+      another's : firstFailing (joinTests v l j) ≡ none → j .owner ≡ owner → ⊥
+      another's passed hers =
+          let free = comes-new v q m j passed in
+          first (subst (λ (o : ℕ). NoneOf o (q .line)) hers (free .0)) (subst (λ (o : ℕ). NoneOf o (q .aside)) hers (free .1)) passed hers
 
       choose : Bool → QueuedResult
       choose b = cond b (listsWith l (lineOf l) (asideOf l ++ (d ∷ []))) (listsWith l (lineOf l ++ (d ∷ [])) (asideOf l))
 
-      by-steps : (b : Bool) → Waits owner plan saved (afterQueued q (choose b) (choose b .answer))
-      by-steps true =
+      by-steps : NoneOf owner (d ∷ []) → (b : Bool) → Waits owner plan saved (afterQueued q (choose b) (choose b .answer))
+      by-steps n true =
           subst (Waits owner plan saved)
           (sym (both-taken l (lineOf l) (asideOf l ++ (d ∷ [])) (q .line ++ []) (q .aside ++ (d ∷ [])) (line-lent q m ∙ sym (append-nil (q .line)))
           (ap (λ (es : List Entry). es ++ (d ∷ [])) (aside-lent q m))))
-          (more-waits saved q w [] (d ∷ []) (none-of-no-one owner) one)
-      by-steps false =
+          (more-waits saved q w [] (d ∷ []) (none-of-no-one owner) n)
+      by-steps n false =
           subst (Waits owner plan saved)
           (sym (both-taken l (lineOf l ++ (d ∷ [])) (asideOf l) (q .line ++ (d ∷ [])) (q .aside ++ [])
           (ap (λ (es : List Entry). es ++ (d ∷ [])) (line-lent q m)) (aside-lent q m ∙ sym (append-nil (q .aside)))))
-          (more-waits saved q w (d ∷ []) [] one (none-of-no-one owner))
+          (more-waits saved q w (d ∷ []) [] n (none-of-no-one owner))
 
-      by-tests : (o : Option ℕ) → Waits owner plan saved (afterQueued q (joinedAs l j o) (joinedAs l j o .answer))
-      by-tests (some x) = w
-      by-tests none = by-steps (eqb (j .allowance) 0)
+      by-tests : (o : Option ℕ) → firstFailing (joinTests v l j) ≡ o
+          → Waits owner plan saved (afterQueued q (joinedAs l j o) (joinedAs l j o .answer))
+      by-tests (some x) e = w
+      by-tests none e = by-steps (other owner d [] (another's e) (none-of-no-one owner)) (eqb (j .allowance) 0)
 
   -- one entry goes from the list set aside to the end of the line
   module _ (saved : List ℕ) (q : Queue) (before behind : List Entry) (d : Entry) (n : ℕ) (whole : q .aside ≡ before ++ (d ∷ behind)) where
@@ -377,7 +382,8 @@ module _ (v : Survey) (owner : ℕ) (plan : List ℕ) where
     pub served : servedIn (history v plan h (ownEvents v owner q acts)) ≡ servedIn h ++ ownServices v owner q acts
 
   -- what one call means
-  call-step : (q : Queue) (h : Phone) (m : MadeCall) (c : QueueCall) → Waits owner plan (h .saved) q → notJoined owner c
+  call-step : (q : Queue) (h : Phone) (m : MadeCall) (c : QueueCall) → Waits owner plan (h .saved) q
+      → NotAnother v owner q (lentTo q m) c
       → Step h (afterCall v q (lentTo q m) c) (callEvents v owner q m c) (callServices v owner q m c)
   call-step q h m (join j) w n = not-its (join-waits (h .saved) q m j n w)
   call-step q h m (serve s) w n = serve-step h q s (serveOf v (lentTo q m) s) w (serves v q m s)
@@ -397,16 +403,16 @@ module _ (v : Survey) (owner : ℕ) (plan : List ℕ) where
             ∙ append-assoc (servedIn h) (y ∷ []) (ownServices v owner q acts),
       )
 
-  pub in-step : (acts : List Act) (q : Queue) (h : Phone) → Waits owner plan (h .saved) q → NeverAgain owner acts → InStep q h acts
+  pub in-step : (acts : List Act) (q : Queue) (h : Phone) → Waits owner plan (h .saved) q → NeverAgain v owner q acts → InStep q h acts
   unfolding history ownEvents ownServices afterActs
   in-step [] q h w a = record { waits = w; served = sym (append-nil (servedIn h)) }
   in-step (merging behind ∷ acts) q h w a =
       let u = merge-unmoved h behind in
-      let i = in-step acts q (happens v plan h (merges behind)) (subst (λ (ws : List ℕ). Waits owner plan ws q) (sym (u .saved)) w) (a .1) in
+      let i = in-step acts q (happens v plan h (merges behind)) (subst (λ (ws : List ℕ). Waits owner plan ws q) (sym (u .saved)) w) a in
       record { waits = i .waits; served = i .served ∙ ap (λ (xs : List ServedTurn). xs ++ ownServices v owner q acts) (u .served) }
   in-step (joining ∷ acts) q h w a =
       let u = join-unmoved h in
-      let i = in-step acts q (happens v plan h joins) (subst (λ (ws : List ℕ). Waits owner plan ws q) (sym (u .saved)) w) (a .1) in
+      let i = in-step acts q (happens v plan h joins) (subst (λ (ws : List ℕ). Waits owner plan ws q) (sym (u .saved)) w) a in
       record { waits = i .waits; served = i .served ∙ ap (λ (xs : List ServedTurn). xs ++ ownServices v owner q acts) (u .served) }
   in-step (calls m ∷ acts) q h w a =
       let q′ = afterCall v q (lentTo q m) (m .call) in

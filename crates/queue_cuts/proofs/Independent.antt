@@ -2,37 +2,33 @@
 use Prim.Native.Nat.{ℕ, _+_, _-_, _≤_}
 use native.Mathlib.Omega.{arith}
 use mathlib.Core.Path.{_≡_, refl, sym, _∙_, ap, subst}
-use mathlib.Core.Bool.{Bool, true, false, cond, not}
+use mathlib.Core.Bool.{Bool, true, false, cond}
 use mathlib.Core.Option.{none}
 use mathlib.Core.List.{List, [], _∷_, _++_}
 use lib.ListN.{length, length-append}
 use lib.Seq.{take-append-seam}
 use lib.Dec.{eqb}
 use borrow.Author.Tests.{le-leb}
-use Rattle.words.specs.Sequences.{member, keep}
-use Rattle.words.specs.Tests.{Test, firstFailing}
-use Rattle.words.proofs.Numbering.{both-pass}
-use Rattle.words.proofs.Booleans.{and-right, or-left, or-right}
-use Rattle.words.proofs.Testing.{none-some}
+use Rattle.words.specs.Tests.{firstFailing}
 use Rattle.words.proofs.Orders.{less, same, more, three}
-use Rattle.tables.specs.Tables.{Tables, tableTests}
-use Rattle.plans.specs.Plans.{Plan, planOf, planTests}
+use Rattle.tables.specs.Tables.{Tables}
+use Rattle.plans.specs.Plans.{Plan, planOf}
 use Rattle.steps.specs.Steps.{after}
 use Rattle.turns.specs.Surveys.{Survey}
 use Rattle.turns.specs.Opening.{openOf, Opens}
-use Rattle.cuts.specs.Histories.{turns, Phone, stepsIn}
-use Rattle.cuts.specs.Histories.{fresh}
+use Rattle.cuts.specs.Histories.{Event, Phone, servedIn, stepsIn, happens, history, fresh}
 use Rattle.cuts.specs.Premises.{Premises}
 use Rattle.cuts.specs.Uncut.{EndsAt, AsUncut, runList}
 use Rattle.cuts.proofs.AnyCut.{any-cut}
 use Rattle.queues.specs.declared.Entry.{Entry}
-use Rattle.queues.specs.Lists.{entryPlanRoom, filled, LentLists, lineOf, asideOf, ownersIn, owners, entriesRight}
+use Rattle.queues.specs.Lists.{entryPlanRoom, filled, LentLists, lineOf, asideOf}
 use Rattle.queues.specs.Joining.{Joining, newEntry, joinTests, joinQueueOf, QueuedResult, listsWith}
 use Rattle.queues.specs.Calls.{Queue, join, MadeCall, lentTo, afterQueued, afterCall}
 use Rattle.queue_cuts.specs.Owners.{Act, joining, ownEvents}
 use Rattle.queue_cuts.specs.Owners.{NeverAgain, NoneOf, HoldsQuery, Waits, in-line, set-aside}
-use Rattle.queues.proofs.Moving.{line-lent, aside-lent, both-taken, first-passes}
-use Rattle.queue_cuts.proofs.FrontTurns.{none-of-no-one, on}
+use Rattle.queues.proofs.Moving.{line-lent, aside-lent, both-taken}
+use Rattle.queue_cuts.proofs.FrontTurns.{none-of-no-one}
+use Rattle.queue_cuts.proofs.Arrivals.{comes-new}
 use Rattle.queue_cuts.proofs.InStep.{in-step}
 use Rattle.queue_cuts.specs.Owners.{Independent, Finished}
 
@@ -50,14 +46,23 @@ entry-holds j =
     fits : length (j .plan) ≤ length (filled entryPlanRoom (j .plan))
     fits = simp length-append (omega arith)
 
-pub independent : (v : Survey) (plan state : List ℕ) → Opens v plan state → (owner : ℕ) (q : Queue)
-    → Waits owner plan (fresh (openOf v plan state) .saved) q → (acts : List Act) → NeverAgain owner acts
-    → Premises v plan (fresh (openOf v plan state)) (ownEvents v owner q acts)
-    → Independent v owner plan (fresh (openOf v plan state)) q acts
-independent v plan state o owner q w acts never p =
+history-both : (v : Survey) (plan : List ℕ) (es fs : List Event) (h : Phone)
+    → history v plan h (es ++ fs) ≡ history v plan (history v plan h es) fs
+unfolding history
+history-both v plan [] fs h = refl
+history-both v plan (e ∷ es) fs h = history-both v plan es fs (happens v plan h e)
+
+-- whatever the query went through before its entry came to wait, turns and takings
+pub independent : (v : Survey) (plan state : List ℕ) → Opens v plan state → (before : List Event) (owner : ℕ) (q : Queue)
+    → Waits owner plan (history v plan (fresh (openOf v plan state)) before .saved) q → (acts : List Act) → NeverAgain v owner q acts
+    → Premises v plan (fresh (openOf v plan state)) (before ++ ownEvents v owner q acts)
+    → Independent v owner plan (fresh (openOf v plan state)) before q acts
+independent v plan state o before owner q w acts never p =
+    let start = fresh (openOf v plan state) in
     record {
-      turns = in-step v owner plan acts q (fresh (openOf v plan state)) w never .served;
-      uncut = any-cut v plan state o (ownEvents v owner q acts) p;
+      turns = ap servedIn (history-both v plan before (ownEvents v owner q acts) start)
+          ∙ in-step v owner plan acts q (history v plan start before) w never .served;
+      uncut = any-cut v plan state o (before ++ ownEvents v owner q acts) p;
     }
 
 -- the uncut run ends once
@@ -73,23 +78,6 @@ same-list v plan h k a b f g =
     (ends-once (v .tables) (planOf plan) (stepsIn (h .taken)) (stepsIn (k .taken)) (x .0) (y .0)) ∙ sym (y .1)
 
 -- ---- a served join
-not-there : (owner : ℕ) (xs ys : List ℕ) → member owner (xs ++ ys) ≡ false → (member owner xs ≡ false) × (member owner ys ≡ false)
-unfolding member
-not-there owner [] ys h = (refl, h)
-not-there owner (x ∷ xs) ys h =
-    let a = or-left (eqb owner x) (member owner (xs ++ ys)) h in
-    let r = not-there owner xs ys (or-right (eqb owner x) (member owner (xs ++ ys)) h) in
-    (rw (a, r .0), r .1)
-
-not-true : (b : Bool) → not b ≡ true → b ≡ false
-not-true true h = sym h
-not-true false h = refl
-
-after-first : (x : ℕ) (b : Bool) (xs : List Test) → firstFailing ((x, b) ∷ xs) ≡ none → firstFailing xs ≡ none
-unfolding firstFailing
-after-first x true xs h = h
-after-first x false xs h = absurd (none-some (sym h))
-
 pub joined-waits : (v : Survey) (q : Queue) (m : MadeCall) (j : Joining) → firstFailing (joinTests v (lentTo q m) j) ≡ none
     → Waits (j .owner) (j .plan) (j .state) (afterCall v q (lentTo q m) (join j))
 unfolding joinQueueOf
@@ -101,18 +89,11 @@ joined-waits v q m j passed = rw passed (by-steps (eqb (j .allowance) 0))
     d : Entry
     d = newEntry j
 
-    free : member (j .owner) (owners l) ≡ false
-    free =
-        let behind-tables = both-pass (tableTests (v .tables)) _ passed .1 in
-        let behind-plan = both-pass (planTests (j .plan)) _ behind-tables .1 in
-        let seventeen = first-passes _ 17 _ (after-first 10 _ _ (after-first 22 _ _ (after-first 9 _ _ behind-plan))) in
-        not-true (member (j .owner) (owners l)) (and-right (entriesRight l) (not (member (j .owner) (owners l))) seventeen)
-
     line-free : NoneOf (j .owner) (q .line)
-    line-free = subst (NoneOf (j .owner)) (line-lent q m) (not-there (j .owner) (ownersIn (lineOf l)) (ownersIn (asideOf l)) free .0)
+    line-free = comes-new v q m j passed .0
 
     aside-free : NoneOf (j .owner) (q .aside)
-    aside-free = subst (NoneOf (j .owner)) (aside-lent q m) (not-there (j .owner) (ownersIn (lineOf l)) (ownersIn (asideOf l)) free .1)
+    aside-free = comes-new v q m j passed .1
 
     choose : Bool → QueuedResult
     choose b = cond b (listsWith l (lineOf l) (asideOf l ++ (d ∷ []))) (listsWith l (lineOf l ++ (d ∷ [])) (asideOf l))

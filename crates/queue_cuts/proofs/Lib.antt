@@ -1,3 +1,4 @@
 pub mod FrontTurns
+pub mod Arrivals
 pub mod InStep
 pub mod Independent

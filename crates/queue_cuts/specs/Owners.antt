@@ -2,9 +2,11 @@
 use Prim.Native.Nat.{ℕ, min}
 use mathlib.Core.Path.{_≡_}
 use mathlib.Core.Bool.{Bool, true, false, cond, not}
+use mathlib.Core.Option.{none}
 use mathlib.Core.List.{List, [], _∷_, _++_}
 use lib.ListN.{length, take, drop}
 use Rattle.words.specs.Sequences.{all, member}
+use Rattle.words.specs.Tests.{firstFailing}
 use Rattle.turns.specs.Surveys.{Survey}
 use Rattle.turns.specs.declared.TurnEnding.{TurnEnding}
 use Rattle.turns.specs.declared.TurnEnding.the-variants as ending
@@ -13,7 +15,8 @@ use Rattle.cuts.specs.Uncut.{AsUncut}
 use Rattle.cuts.specs.Histories.{Phone, servedIn, doneIn, history, Event, turns, merges, joins, ServedTurn}
 use Rattle.queries.specs.Stepping.{isServed}
 use Rattle.queues.specs.declared.Entry.{Entry}
-use Rattle.queues.specs.Lists.{hasOwner, ownersIn, entryPlan}
+use Rattle.queues.specs.Lists.{LentLists, hasOwner, ownersIn, entryPlan}
+use Rattle.queues.specs.Joining.{joinTests}
 use Rattle.queues.specs.Serving.{Serving, ServeResult, serveOf}
 use Rattle.queues.specs.Calls.{Queue, QueueCall, join, serve, topUp, MadeCall, lentTo, afterCall}
 
@@ -73,24 +76,24 @@ afterActs v q (merging behind ∷ acts) = afterActs v q acts
 afterActs v q (joining ∷ acts) = afterActs v q acts
 
 -- ---- the owner's entry
--- the owner does not join again: one query, from joining to leaving
-abbrev pub notJoined : ℕ → QueueCall → Type 0
-notJoined owner (join j) = j .owner ≡ owner → ⊥
-notJoined owner (serve s) = Unit {0}
-notJoined owner (topUp o n) = Unit {0}
-
-abbrev pub joinsNot : ℕ → Act → Type 0
-joinsNot owner (calls m) = notJoined owner (m .call)
-joinsNot owner (merging behind) = Unit {0}
-joinsNot owner joining = Unit {0}
-
-abbrev pub NeverAgain : ℕ → List Act → Type 0
-NeverAgain owner [] = Unit {0}
-NeverAgain owner (a ∷ acts) = joinsNot owner a × NeverAgain owner acts
-
 -- no entry is the owner's
 abbrev pub NoneOf : ℕ → List Entry → Type 0
 NoneOf owner es = member owner (ownersIn es) ≡ false
+
+-- a call starts no other query of the owner's: it is no join of its own that is served when it has no entry. So the owner may make joins that
+-- are refused, and any while its entry is there
+abbrev pub NotAnother : Survey → ℕ → Queue → LentLists → QueueCall → Type 0
+NotAnother v owner q l (join j) = NoneOf owner (q .line) → NoneOf owner (q .aside) → firstFailing (joinTests v l j) ≡ none → j .owner ≡ owner → ⊥
+NotAnother v owner q l (serve s) = Unit {0}
+NotAnother v owner q l (topUp o n) = Unit {0}
+
+-- one query of the owner's, from joining to leaving
+abbrev pub NeverAgain : Survey → ℕ → Queue → List Act → Type 0
+NeverAgain v owner q [] = Unit {0}
+NeverAgain v owner q (calls m ∷ acts) =
+    NotAnother v owner q (lentTo q m) (m .call) × NeverAgain v owner (afterCall v q (lentTo q m) (m .call)) acts
+NeverAgain v owner q (merging behind ∷ acts) = NeverAgain v owner q acts
+NeverAgain v owner q (joining ∷ acts) = NeverAgain v owner q acts
 
 -- an entry is the owner's, with that plan and those saved words
 pub record HoldsQuery (owner : ℕ) (plan saved : List ℕ) (e : Entry) : Type 0 where
@@ -108,10 +111,12 @@ pub data Waits (owner : ℕ) (plan saved : List ℕ) (q : Queue) : Type 0 where
       → NoneOf owner (q .line) → NoneOf owner before → NoneOf owner behind → Waits owner plan saved q
 
 -- ---- what is promised
--- the owner's cut: its turns are those that the calls answered, and it is as the uncut run
-pub record Independent (v : Survey) (owner : ℕ) (plan : List ℕ) (start : Phone) (q : Queue) (acts : List Act) : Type 0 where
-  pub turns : servedIn (history v plan start (ownEvents v owner q acts)) ≡ ownServices v owner q acts
-  pub uncut : AsUncut v (planOf plan) (history v plan start (ownEvents v owner q acts))
+-- the owner's cut, of the events before it joined and its own in the queue: its turns in the queue are those that the calls answered, and
+-- it is as the uncut run
+pub record Independent (v : Survey) (owner : ℕ) (plan : List ℕ) (start : Phone) (before : List Event) (q : Queue) (acts : List Act) : Type 0 where
+  pub turns : servedIn (history v plan start (before ++ ownEvents v owner q acts))
+      ≡ servedIn (history v plan start before) ++ ownServices v owner q acts
+  pub uncut : AsUncut v (planOf plan) (history v plan start (before ++ ownEvents v owner q acts))
 
 -- done was answered, and every list is taken
 abbrev pub Finished : Phone → Type 0

@@ -1,10 +1,9 @@
 // Membership: which rows say of their subject that it belongs to something granted. They are the range of the membership predicate in POS,
 // where their objects ascend, so that the grant is walked beside them once.
-use table_ranges::range_start;
+use table_ranges::halved;
 use tables::OBJECT;
 use tables::Order;
 use tables::PREDICATE;
-use tables::Place;
 use tables::Prefix;
 use tables::RowNumber;
 use tables::field;
@@ -47,7 +46,7 @@ pub fn flag_members(
         count: 1,
         words: [membership, 0, 0],
     };
-    let start = range_start(rows, pos, osp, members, Place(0));
+    let start = halved(rows, pos, osp, members);
     let mut place: usize = words::wide(start.0);
     let mut from: usize = 0;
     while place < pos.len() {

@@ -1,5 +1,5 @@
 -- Non-interference, whole: accepted tables that differ only in rows that are hidden where they stand are the same to an adviser, for every
--- plan, state, quantum, threshold and buffer, under one survey's number.
+-- plan, state, quantum, threshold and buffer, and for every owner and both lists of a queue, under one survey's number.
 use Prim.Native.Nat.{ℕ}
 use mathlib.Core.Path.{_≡_, ap}
 use mathlib.Core.Option.{none}
@@ -9,6 +9,8 @@ use Rattle.tables.specs.Tables.{Tables, tableTests}
 use Rattle.turns.specs.Surveys.{underNumber}
 use Rattle.turns.specs.Opening.{openOf}
 use Rattle.turns.specs.Turns.{turnOf}
+use Rattle.queues.specs.Joining.{joinQueueOf}
+use Rattle.queues.specs.Serving.{serveOf}
 use Rattle.views.specs.Viewing.{ViewBuffers}
 use Rattle.views.specs.Exactness.{tablesIn}
 use Rattle.views.specs.Hidden.{DifferHidden, lending}
@@ -20,6 +22,8 @@ same-queries v w e =
     record {
       opens = λ number plan state. ap (λ t. openOf (underNumber number t) plan state) e;
       turns = λ number plan state given quantum threshold output. ap (λ t. turnOf (turnOver number plan state given quantum threshold output t)) e;
+      joins = λ number l j. ap (λ t. joinQueueOf (underNumber number t) l j) e;
+      serves = λ number l s. ap (λ t. serveOf (underNumber number t) l s) e;
     }
 
 pub same-to-adviser : (grant : List ℕ) (membership : ℕ) (b : ViewBuffers) (t u : Tables) → firstFailing (tableTests t) ≡ none

@@ -54,8 +54,8 @@ has : (c : tie.Else1 Inv-loop μ-loop) → let l = c .before .before .before .be
     fieldOf (start l .args .rows .now) (row l) predicateColumn ≡ membership l
 has c = sym (c .before .field .ensures) ∙ c .if1 .left
 
-range-start-requires : tie.Need-range-start-requires Inv-loop μ-loop
-range-start-requires c κs = (c .before .before .before .before .before .pre .0, omega arith)
+halved-requires : tie.Need-halved-requires Inv-loop μ-loop
+halved-requires c κs = (c .before .before .before .before .before .pre .0, omega arith)
 
 wide-requires : tie.Need-wide-requires Inv-loop μ-loop
 wide-requires c κs = tt
@@ -64,7 +64,7 @@ loop-holds : tie.Need-loop-holds Inv-loop μ-loop
 loop-holds c =
     let s = c .before .before .before .before .before .before .before in
     let m = s .args .membership in
-    let e = c .wide .ensures ∙ c .before .range-start .ensures ∙ start-is (tables s) m in (
+    let e = c .wide .ensures ∙ c .before .halved .ensures ∙ start-is (tables s) m in (
       refl,
       subst (λ p. Upto (tables s) (s .args .grant .now) m (s .args .flags .now) p 0) (sym e)
           (upto-start (tables s) (s .pre .0) (s .args .grant .now) m (s .args .flags .now) (s .pre .1 .1)),
@@ -156,7 +156,7 @@ flag-members-spec =
     (tie.spec
     Inv-loop
     μ-loop
-    range-start-requires
+    halved-requires
     wide-requires
     loop-holds
     mul-row
