@@ -1,4 +1,2 @@
 pub mod Refusals
 pub mod Writes
-pub mod Tested
-pub mod Pieces

@@ -1,4 +1,3 @@
 pub mod Merging
 pub mod Refusals
 pub mod Computing
-pub mod Answering

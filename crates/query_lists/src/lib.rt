@@ -63,5 +63,5 @@ pub fn take_list(
     if is_rows(plan) {
         return take_rows(kept, used, list, keeping);
     }
-    merges::merge(plan, kept, used, list)
+    merge_calls::merge(plan, kept, used, list)
 }

@@ -2,6 +2,7 @@
 use queries::Keeping;
 use queries::Played;
 use queries::Went;
+use query_answers::play_answer;
 use query_turns::advance;
 use words::Written;
 ghost use mathlib.Core.Path.{_≡_};
@@ -51,8 +52,8 @@ fn go_on(
                 used = words;
                 n += 1;
             }
-            Went::Over(words) => return Played::Finished(words),
-            Went::Stopped(x) => return Played::Stopped(x),
+            Went::Over(_) => return play_answer(went),
+            Went::Stopped(_) => return play_answer(went),
         }
     }
     Played::Unfinished {

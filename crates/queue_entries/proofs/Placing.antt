@@ -131,3 +131,7 @@ module _ (ys : List Entry) (e : Entry) where
 
       more : length (p ++ (e ∷ [])) ≡ n
       more = length-append p (e ∷ []) ∙ ap (λ (m : ℕ). m + 1) counted ∙ (let z : n - 1 + 1 ≡ n = omega arith in z)
+
+-- a list over whose front its own first entries are written
+pub stays : (es : List Entry) (n : ℕ) → n ≤ length es → entriesOver (take n es) es ≡ es
+stays es n h = ap (λ (k : ℕ). take n es ++ drop k es) (length-take-le n es h) ∙ take-append-drop n es

@@ -27,10 +27,11 @@ use Rattle.queues.specs.ToppingUp.{topUpTestsBy}
 use Rattle.queue_entries.specs.declared.Seen.{Seen}
 use Rattle.queue_entries.specs.Seeing.{SeenOf}
 use Rattle.queue_entries.proofs.Standing.{member-both}
-use Rattle.queue_entries.proofs.Placing.{settled-added}
-use Rattle.queue_tests.specs.Changes.{roomBy, firstNumber, queryTests, queueingRefused, admittedBy, Decides}
-use Rattle.queue_tests.proofs.Following.{numbers-follow}
-use Rattle.queue_tests.proofs.Seeing.{seen-entries, seen-room, seen-line, seen-aside, Roomy, roomy}
+use Rattle.queue_entries.proofs.Placing.{settled-added, stays}
+use Rattle.queue_changes.specs.Changes.{roomBy, firstNumber, queueingRefused, admittedBy, Decides}
+use Rattle.queue_changes.proofs.Following.{numbers-follow}
+use Rattle.queue_changes.proofs.Seeing.{seen-entries, seen-room, seen-line, seen-aside, Roomy, roomy}
+use Rattle.queue_tests.specs.Queries.{queryTests}
 
 -- ---- an entry's words
 drop-zeros : (k n : ℕ) → drop {A = ℕ} k (replicate n 0) ≡ replicate (n - k) 0
@@ -130,9 +131,6 @@ module _ (v : Survey) (plan state : List ℕ) (entries : Bool) (seen : Seen) (gi
       (plan-short plan form, omega arith)
 
 -- ---- where the entry goes
-pub stays : (es : List Entry) (n : ℕ) → n ≤ length es → entriesOver (take n es) es ≡ es
-stays es n h = ap (λ (k : ℕ). take n es ++ drop k es) (length-take-le n es h) ∙ take-append-drop n es
-
 module _ (line : List Entry) (given : ℕ) (aside : List Entry) (kept : ℕ) (e : Entry) (line-long : given < length line)
     (aside-long : kept < length aside) where
   abbrev lent : LentLists

@@ -23,9 +23,9 @@ use Rattle.queue_entries.specs.Entries.{nobody}
 use Rattle.queue_entries.specs.Seeing.{SeenOf}
 use Rattle.queue_entries.proofs.Finding.{there-is}
 use Rattle.queue_entries.proofs.Placing.{settled-added, settled-gone}
-use Rattle.queue_tests.specs.Changes.{roomBy, queueingRefused, toppedBy, Decides}
-use Rattle.queue_tests.proofs.Numbering.{both-passed}
-use Rattle.queue_tests.proofs.Seeing.{seen-entries, seen-room, seen-aside, Roomy, roomy}
+use Rattle.queue_changes.specs.Changes.{roomBy, queueingRefused, toppedBy, Decides}
+use Rattle.queue_changes.proofs.Numbering.{both-passed}
+use Rattle.queue_changes.proofs.Seeing.{seen-entries, seen-room, seen-aside, Roomy, roomy}
 
 -- ---- the owner's one entry
 not-so : (b : Bool) → not b ≡ true → b ≡ false

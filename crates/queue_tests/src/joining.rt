@@ -1,20 +1,19 @@
 // Joining: tests 1 to 6, 9, 22, 10, 17 and 18, and the new entry to the end of one of the lists.
-use crate::Queueing;
-use crate::changes::appended;
-use crate::changes::first_of;
-use crate::changes::lists_number;
-use crate::changes::refused;
-use crate::changes::room_right;
-use crate::changes::unchanged;
+use queue_changes::Queueing;
+use queue_changes::appended;
+use queue_changes::first_of;
+use queue_changes::join_right;
+use queue_changes::lists_number;
+use queue_changes::refused;
+use queue_changes::room_right;
+use queue_changes::unchanged;
 use queue_entries::Seen;
 use queues::Entry;
 use queues::Queued;
 use words::Term;
 ghost use mathlib.Core.Path.{_≡_};
-ghost use mathlib.Core.Bool.{_&&_, not};
 ghost use mathlib.Core.List.{List};
 ghost use Prim.Native.Nat.{_+_, _<_, _≤_};
-ghost use lib.Dec.{ltb};
 ghost use lib.ListN.{length};
 ghost use Rattle.words.specs.Tests.{firstFailing, numberOf};
 ghost use Rattle.turns.specs.Surveys.{surveyOf};
@@ -22,7 +21,8 @@ ghost use Rattle.queues.specs.declared.Entry.{Entry};
 ghost use Rattle.queues.specs.Lists.{mostEntries, entryPlanRoom, entryStateRoom, lentAs};
 ghost use Rattle.queues.specs.Joining.{newEntry, joinQueueOf};
 ghost use Rattle.queue_entries.specs.Seeing.{SeenOf};
-ghost use Rattle.queue_tests.specs.Changes.{Decides, queryTests, admittedBy};
+ghost use Rattle.queue_changes.specs.Changes.{Decides, admittedBy};
+ghost use Rattle.queue_tests.specs.Queries.{queryTests};
 
 // The number of the first of tests 1 to 6, 9, 22 and 10 that a query fails, or 0.
 fn query_number(
@@ -42,22 +42,6 @@ fn query_number(
     }
     let mut bound = [Term::UNBOUND; 16];
     state_loading::load(rows, pos, osp, survey, plan, state, &mut bound).refused
-}
-
-// Test 17 with the joining entry.
-fn join_right(seen: Seen) -> bool
-    ensures { λ r. ⌜ r ≡ (seen .lined && seen .rested) && (not (ltb (seen .place) (seen .waiting)) && not (ltb (seen .found) (seen .resting))) ⌝ }
-{
-    if !seen.lined {
-        return false;
-    }
-    if !seen.rested {
-        return false;
-    }
-    if seen.place < seen.waiting {
-        return false;
-    }
-    seen.found >= seen.resting
 }
 
 // The entry of a query that joins.

@@ -1,63 +1,23 @@
 // Topping up: tests 17 and 18, and the owner's entry from the list set aside to the end of the line.
-use crate::Queueing;
-use crate::changes::appended;
-use crate::changes::lists_number;
-use crate::changes::refused;
-use crate::changes::removed;
-use crate::changes::room_right;
+use queue_changes::Queueing;
+use queue_changes::lists_number;
+use queue_changes::refused;
+use queue_changes::room_right;
+use queue_changes::top_up_right;
+use queue_changes::topped;
+use queue_changes::with_allowance;
 use queue_entries::Seen;
 use queues::Entry;
-use queues::Queued;
 ghost use mathlib.Core.Path.{_≡_};
-ghost use mathlib.Core.Bool.{_&&_};
 ghost use mathlib.Core.List.{List};
-ghost use Prim.Native.Nat.{_<_, _≤_};
-ghost use lib.Dec.{leb, ltb};
+ghost use Prim.Native.Nat.{_≤_};
 ghost use lib.ListN.{getD};
 ghost use Rattle.queues.specs.declared.Entry.{Entry};
-ghost use Rattle.queues.specs.Lists.{mostEntries, lentAs};
-ghost use Rattle.queues.specs.ToppingUp.{withAllowance, topUpOf};
+ghost use Rattle.queues.specs.Lists.{lentAs};
+ghost use Rattle.queues.specs.ToppingUp.{topUpOf};
 ghost use Rattle.queue_entries.specs.Entries.{nobody};
 ghost use Rattle.queue_entries.specs.Seeing.{SeenOf};
-ghost use Rattle.queue_tests.specs.Changes.{toppedBy, Decides};
-
-// Test 17 of a top-up.
-fn top_up_right(seen: Seen, amount: u64) -> bool
-    ensures { λ r. ⌜ r ≡ (seen .lined && seen .rested) && (leb 1 amount && ltb (seen .found) (seen .resting)) ⌝ }
-{
-    if !seen.lined {
-        return false;
-    }
-    if !seen.rested {
-        return false;
-    }
-    if amount == 0 {
-        return false;
-    }
-    seen.found < seen.resting
-}
-
-// The entry with its new allowance.
-fn with_allowance(e: Entry, amount: u64) -> Entry
-    ensures { λ r. ⌜ r ≡ withAllowance amount e ⌝ }
-{
-    let mut next = e;
-    next.allowance = amount;
-    next
-}
-
-// An entry goes from a place of the list set aside to the end of the line.
-fn topped(found: usize, given: usize, kept: usize, e: Entry) -> Queueing
-    requires { ⌜ (given < mostEntries) × (1 ≤ kept) ⌝ }
-    ensures { λ r. ⌜ r ≡ toppedBy found given kept e ⌝ }
-{
-    Queueing {
-        answer: Queued::Lists(given + 1, kept - 1),
-        line: appended(given),
-        aside: removed(found, kept),
-        entry: e,
-    }
-}
+ghost use Rattle.queue_changes.specs.Changes.{Decides};
 
 // How both lists change by a top-up of the owner's entry, which stands at the place found.
 pub fn top_up(seen: Seen, given: usize, kept: usize, owner: u32, amount: u64, e: Entry) -> Queueing

@@ -14,12 +14,11 @@ use Rattle.turns.specs.Turns.{TurnResult}
 use Rattle.queues.specs.declared.Entry.{Entry}
 use Rattle.queues.specs.Lists.{LentLists, lentAs, asideOf, entriesOver}
 use Rattle.queues.specs.Serving.{Serving, entryAfter, serviceWith, turnedTo}
-use Rattle.queue_entries.proofs.Placing.{settled-added, settled-gone, settled-back}
-use Rattle.queue_tests.specs.Changes.{unchanged, appended, removed, rotated, changed}
-use Rattle.queue_tests.proofs.Joins.{stays}
-use Rattle.queue_turns.specs.declared.Ended.{Ended}
-use Rattle.queue_turns.specs.declared.ServeChanges.{ServeChanges}
-use Rattle.queue_turns.specs.Services.{answeredBy, leavesBy, goesBy, Settles}
+use Rattle.queue_entries.proofs.Placing.{settled-added, settled-gone, settled-back, stays}
+use Rattle.queue_changes.specs.Changes.{unchanged, appended, removed, rotated, changed}
+use Rattle.queue_goings.specs.declared.Ended.{Ended}
+use Rattle.queue_goings.specs.declared.ServeChanges.{ServeChanges}
+use Rattle.queue_goings.specs.Services.{answeredBy, leavesBy, goesBy, Settles}
 
 module _ (s : Serving) (line : List Entry) (given : ℕ) (aside : List Entry) (kept : ℕ) (e : Entry) (r : TurnResult) (some-wait : 0 < given)
     (line-long : given ≤ length line) (aside-long : kept < length aside) where

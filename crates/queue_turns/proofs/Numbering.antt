@@ -13,8 +13,8 @@ use Rattle.tables.specs.Tables.{Tables, tableTests}
 use Rattle.steps.specs.Saved.{numberRight}
 use Rattle.turns.specs.Turns.{mostSteps}
 use Rattle.queues.specs.Serving.{quantumTests, numberTests, queueTestsBy}
-use Rattle.queue_tests.specs.Changes.{firstNumber}
-use Rattle.queue_tests.proofs.Following.{numbers-follow}
+use Rattle.queue_changes.specs.Changes.{firstNumber}
+use Rattle.queue_changes.proofs.Following.{numbers-follow}
 
 -- ---- 17, 18, 19
 module _ (n : ℕ) where

@@ -25,11 +25,11 @@ use Rattle.queues.specs.Serving.{entryAfter, turnedTo, frontServed, servedAs, s
 use Rattle.queue_entries.specs.declared.Seen.{Seen}
 use Rattle.queue_entries.specs.Entries.{nobody}
 use Rattle.queue_entries.specs.Seeing.{SeenOf}
-use Rattle.queue_tests.specs.Changes.{unchanged, roomBy, firstNumber}
-use Rattle.queue_tests.proofs.Following.{numbers-follow}
-use Rattle.queue_tests.proofs.Seeing.{seen-entries, seen-room, Roomy, roomy}
-use Rattle.queue_turns.specs.declared.Ended.{Ended}
-use Rattle.queue_turns.specs.Services.{EndedBy, servingRefused, goesBy, frontBy, Settles}
+use Rattle.queue_changes.specs.Changes.{unchanged, roomBy, firstNumber}
+use Rattle.queue_changes.proofs.Following.{numbers-follow}
+use Rattle.queue_changes.proofs.Seeing.{seen-entries, seen-room, Roomy, roomy}
+use Rattle.queue_goings.specs.declared.Ended.{Ended}
+use Rattle.queue_goings.specs.Services.{EndedBy, servingRefused, goesBy, frontBy, Settles}
 use Rattle.queue_turns.proofs.Goings.{goes-so}
 
 -- ---- the front entry

@@ -1,5 +1,5 @@
 // The numbers that refuse serving: by the front entry, by an empty line, and by both lists.
-use queue_tests::first_of;
+use queue_changes::first_of;
 use queues::Entry;
 use state_forms::number_right;
 use words::Term;
@@ -14,7 +14,7 @@ ghost use Rattle.turns.specs.Surveys.{surveyOf};
 ghost use Rattle.turns.specs.Turns.{turnTests};
 ghost use Rattle.queues.specs.Serving.{entryTurn, frontTests, quantumTests, numberTests, queueTestsBy};
 ghost use Rattle.queues.specs.Lists.{entryPlanRoom, entryStateRoom};
-ghost use Rattle.queue_turns.specs.Services.{plannedIn};
+ghost use Rattle.queue_goings.specs.Services.{plannedIn};
 
 // The tests that serving makes besides those of a turn, by their numbers.
 pub const ENTRIES: u32 = 17;

@@ -1,15 +1,15 @@
 // Serving: the tests of the front entry and of both lists, one turn of the entry, and where it goes.
-use crate::ServeChanges;
-use crate::going::goes;
-use crate::going::refused;
 use crate::numbers::empty_number;
 use crate::numbers::front_number;
 use crate::numbers::list_number;
 use crate::numbers::quantum_number;
 use crate::turning::turn_entry;
+use queue_changes::first_of;
+use queue_changes::room_right;
 use queue_entries::Seen;
-use queue_tests::first_of;
-use queue_tests::room_right;
+use queue_goings::ServeChanges;
+use queue_goings::goes;
+use queue_goings::refused;
 use queues::Entry;
 ghost use mathlib.Core.Path.{_≡_};
 ghost use mathlib.Core.Bool.{_&&_};
@@ -23,8 +23,8 @@ ghost use Rattle.queues.specs.Lists.{lentAs};
 ghost use Rattle.queues.specs.Serving.{serveOf};
 ghost use Rattle.queue_entries.specs.Entries.{nobody};
 ghost use Rattle.queue_entries.specs.Seeing.{SeenOf};
-ghost use Rattle.queue_tests.specs.Changes.{firstNumber};
-ghost use Rattle.queue_turns.specs.Services.{frontBy, Settles};
+ghost use Rattle.queue_changes.specs.Changes.{firstNumber};
+ghost use Rattle.queue_goings.specs.Services.{frontBy, Settles};
 
 // Test 17 of both lists.
 fn lists_right(seen: Seen) -> bool

@@ -1,27 +1,13 @@
 // One turn of an entry: what it answers, and the entry after it.
-use crate::Ended;
 use crate::numbers::planned;
+use queue_goings::Ended;
+use queue_goings::entry_with;
 use queues::Entry;
-ghost use mathlib.Core.Path.{_≡_};
-ghost use mathlib.Core.List.{List};
-ghost use Prim.Native.Nat.{_-_, _≤_};
-ghost use lib.ListN.{length};
+ghost use Prim.Native.Nat.{_≤_};
 ghost use Rattle.turns.specs.Surveys.{surveyOf};
 ghost use Rattle.turns.specs.Turns.{turnOf};
 ghost use Rattle.queues.specs.Serving.{entryTurn};
-ghost use Rattle.queue_turns.specs.Services.{entryWith, EndedBy};
-
-// An entry after so many steps, with the words of its new state.
-fn entry_with(e: Entry, steps: u32, saved: u32, state: [u32; 11]) -> Entry
-    requires { ⌜ steps ≤ e .allowance ⌝ }
-    ensures { λ r. ⌜ r ≡ entryWith e steps saved state ⌝ }
-{
-    let mut next = e;
-    next.allowance = e.allowance - (steps as u64);
-    next.saved = saved;
-    next.state = state;
-    next
-}
+ghost use Rattle.queue_goings.specs.Services.{EndedBy};
 
 // A turn of an entry, for at most so many steps.
 pub fn turn_entry(

@@ -16,7 +16,8 @@ use Rattle.turns.specs.Turns.{Progress, endingOf, stepsOf, leftOf, progress, fi
 use Rattle.turns.specs.Turns.{turnTests, turnedAs, turnOf}
 use Rattle.turns.specs.Refusals.{TurnAnswers}
 use Rattle.turns.proofs.Refusals.{turn-refusals}
-use Rattle.turn_runs.specs.Running.{Runnable, Runs, leftAt, answerOf}
+use Rattle.turn_savings.specs.Leaving.{leftAt}
+use Rattle.turn_runs.specs.Running.{Runnable, Runs, answerOf}
 use Rattle.turns.proofs.Follows.{by-parts}
 use Rattle.turn_tests.proofs.Numbering.{AcceptedTurn}
 

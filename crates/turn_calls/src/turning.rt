@@ -1,7 +1,7 @@
 // A turn: its tests, its steps, and the words that it writes.
-use step_cursors::Cursor;
 use turn_runs::Ran;
 use turn_runs::run;
+use turn_savings::save_left;
 use turn_tests::ACCEPTED;
 use turn_tests::prepare;
 use turns::TurnEnding;
@@ -17,21 +17,8 @@ ghost use Rattle.state_saving.specs.Loading.{Storable};
 ghost use Rattle.turns.specs.declared.TurnEnding.{TurnEnding};
 ghost use Rattle.turns.specs.Turns.{turnOf, turnInput};
 ghost use Rattle.turns.specs.Refusals.{TurnAnswers};
-ghost use Rattle.turn_runs.specs.Running.{leftAt, answerOf};
-
-// Writes the state that a turn's steps leave, under the survey's number, and answers its words: none when done.
-fn save_left(survey: u32, ending: TurnEnding, next: Cursor, state: &mut [u32]) -> usize
-    requires { ⌜ (survey < lowNumbers) × (leastStateWords ≤ length (now state)) × ((ending ≡ TurnEnding.Done → ⊥) → Storable next) ⌝ }
-    ensures { λ r. ⌜ (r ≡ length (savedWords survey (leftAt ending next)))
-        × (now (state .exit) ≡ over (savedWords survey (leftAt ending next)) (now (state .entry))) ⌝ }
-{
-    match ending {
-        TurnEnding::Done => 0,
-        TurnEnding::Spent => state_saving::save(survey, next, state),
-        TurnEnding::Full => state_saving::save(survey, next, state),
-        TurnEnding::Refused(_) => 0,
-    }
-}
+ghost use Rattle.turn_savings.specs.Leaving.{leftAt};
+ghost use Rattle.turn_runs.specs.Running.{answerOf};
 
 // The answer of a turn whose steps are made.
 fn finish(survey: u32, ran: Ran, state: &mut [u32]) -> Turned

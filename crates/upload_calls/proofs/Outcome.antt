@@ -17,7 +17,7 @@ use Rattle.uploads.specs.Uploads.{uploadCount, keptCount, droppedCount, entryWo
 use Rattle.uploads.specs.Making.{MadeBuffers, buffersOf, MakeInput, MakeResult, uploadRight, roomRight, madeWith, makeOf}
 use Rattle.uploads.proofs.Lengths.{all-rows, made-length, numbers-made, report-length}
 use Rattle.uploads.proofs.Writes.{room-right}
-use Rattle.upload_calls.specs.Writing.{roomFor}
+use Rattle.upload_rooms.specs.Rooms.{roomFor}
 
 -- ---- 15
 module _ (up : List ℕ) where
@@ -53,46 +53,6 @@ module _ (i : MakeInput) where
         ≡ true → madeWith (madeTables (i .upload)) (reportOf (i .upload)) (i .buffers) ≡ makeOf i
     unfolding makeOf firstFailing
     served e = rw (u, sym room-is ∙ e)
-
--- ---- the room, length by length
-module _ (kept dropped rows pos osp report : ℕ) where
-  pub no-rows : rows < kept * columnCount → roomFor kept dropped rows pos osp report ≡ false
-  unfolding roomFor
-  no-rows h = rw (lt-leb (kept * columnCount) rows h)
-
-  module _ (r : kept * columnCount ≤ rows) where
-    pub no-pos : pos < kept → roomFor kept dropped rows pos osp report ≡ false
-    unfolding roomFor
-    no-pos h = rw (le-leb (kept * columnCount) rows r, lt-leb kept pos h)
-
-    module _ (p : kept ≤ pos) where
-      pub no-osp : osp < kept → roomFor kept dropped rows pos osp report ≡ false
-      unfolding roomFor
-      no-osp h = rw (le-leb (kept * columnCount) rows r, le-leb kept pos p, lt-leb kept osp h)
-
-      pub by-report : kept ≤ osp → roomFor kept dropped rows pos osp report ≡ leb (dropped * entryWords) report
-      unfolding roomFor
-      by-report o = rw (le-leb (kept * columnCount) rows r, le-leb kept pos p, le-leb kept osp o)
-
--- what there is room for
-pub record RoomParts (kept dropped rows pos osp report : ℕ) : Type 0 where
-  pub for-rows : kept * columnCount ≤ rows
-  pub for-pos : kept ≤ pos
-  pub for-osp : kept ≤ osp
-  pub for-report : dropped * entryWords ≤ report
-
-pub room-parts : (kept dropped rows pos osp report : ℕ) → roomFor kept dropped rows pos osp report ≡ true
-    → RoomParts kept dropped rows pos osp report
-unfolding roomFor
-room-parts kept dropped rows pos osp report e =
-    let a = and-right (leb (kept * columnCount) rows) _ e in
-    let b = and-right (leb kept pos) _ a in
-    record {
-      for-rows = leb-true _ _ (and-left (leb (kept * columnCount) rows) _ e);
-      for-pos = leb-true _ _ (and-left (leb kept pos) _ a);
-      for-osp = leb-true _ _ (and-left (leb kept osp) _ b);
-      for-report = leb-true _ _ (and-right (leb kept osp) _ b);
-    }
 
 -- ---- a result with the words of what is made
 abbrev results : ℕ → ℕ → ℕ → ℕ → List ℕ → List ℕ → List ℕ → List ℕ → MakeResult

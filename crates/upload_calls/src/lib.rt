@@ -1,6 +1,4 @@
 // Making tables from an upload: the call.
-mod reports;
-mod rows;
 mod within;
 
 use tables::COLUMNS;

@@ -1,11 +1,11 @@
 // Making tables with lent places to work in: the room is tested before the first word is written.
 use crate::ROOM;
-use crate::reports::count_kept;
-use crate::reports::write_report;
-use crate::rows::write_tables;
 use tables::COLUMNS;
 use upload_fates::judge;
-use uploads::ENTRY_WORDS;
+use upload_rooms::has_room;
+use upload_tables::write_tables;
+use upload_writes::count_kept;
+use upload_writes::write_report;
 use uploads::Made;
 ghost use mathlib.Core.Path.{_≡_};
 ghost use mathlib.Core.Bool.{true};
@@ -13,24 +13,6 @@ ghost use Prim.Native.Nat.{_+_, _≤_};
 ghost use lib.ListN.{length};
 ghost use Rattle.tables.specs.Tables.{mostRows};
 ghost use Rattle.uploads.specs.Making.{makeInput, buffersOf, uploadRight, makeOf};
-ghost use Rattle.upload_calls.specs.Writing.{roomFor};
-
-// Whether buffers of these lengths have room for the kept rows, for both lists and for the report.
-fn has_room(kept: usize, dropped: usize, rows: usize, pos: usize, osp: usize, report: usize) -> bool
-    requires { ⌜ (kept ≤ mostRows) × (dropped ≤ mostRows) ⌝ }
-    ensures { λ r. ⌜ r ≡ roomFor kept dropped rows pos osp report ⌝ }
-{
-    if rows < kept * COLUMNS {
-        return false;
-    }
-    if pos < kept {
-        return false;
-    }
-    if osp < kept {
-        return false;
-    }
-    dropped * ENTRY_WORDS <= report
-}
 
 // Makes the tables of an upload of whole rows that are not too many.
 pub fn make_within(

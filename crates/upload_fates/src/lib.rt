@@ -1,5 +1,5 @@
 // The fates of an upload's rows, and the list of those of right kinds in the rows' own order.
-use table_sorts::comes_before;
+use table_row_orders::comes_before;
 use table_sorts::sort;
 use tables::COLUMNS;
 use tables::Order;

@@ -20,7 +20,7 @@ use Rattle.tables.specs.declared.Order.the-variants.{Spo}
 use Rattle.tables.specs.Tables.{columnCount, mostRows, fieldsOf}
 use Rattle.views.specs.Views.{visible, visibleNumbers, viewCount, viewRows}
 use Rattle.views.specs.Renumbered.{passedBefore, newNumber}
-use Rattle.upload_calls.specs.Writing.{writtenFor}
+use Rattle.upload_writes.specs.Writing.{writtenFor}
 use Rattle.view_marks.specs.Marks.{hiddenMark, markOf, marksOf}
 use Rattle.view_marks.proofs.Marking.{marks-length, number-most}
 use Rattle.view_writes.specs.Writing.{shownBy, shownWords, shownNumbers}

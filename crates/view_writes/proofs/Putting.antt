@@ -10,8 +10,8 @@ use lib.Seq.{take-suc, take-suc-set, take-set-le, take-all}
 use Rattle.words.specs.Sequences.{over}
 use Rattle.words.proofs.Booleans.{Decided, yes, no, decided}
 use Rattle.words.proofs.Orders.{Three, less, same, more, three}
-use Rattle.upload_calls.specs.Writing.{writtenFor}
-use Rattle.upload_calls.proofs.Written.{written-append, written-yes, written-no}
+use Rattle.upload_writes.specs.Writing.{writtenFor}
+use Rattle.upload_writes.proofs.Written.{written-append, written-yes, written-no}
 use Rattle.view_writes.specs.Writing.{shownBy, shownNumbers}
 
 -- what is nothing has no words

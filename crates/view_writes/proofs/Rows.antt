@@ -17,8 +17,8 @@ use Rattle.tables.specs.declared.Order.the-variants.{Spo}
 use Rattle.tables.specs.Tables.{columnCount, fieldsOf}
 use Rattle.tables.proofs.Columns.{fields-length}
 use Rattle.views.specs.Renumbered.{passedBefore}
-use Rattle.upload_calls.specs.Writing.{writtenFor}
-use Rattle.upload_calls.proofs.Written.{written-yes, written-no}
+use Rattle.upload_writes.specs.Writing.{writtenFor}
+use Rattle.upload_writes.proofs.Written.{written-yes, written-no}
 use Rattle.view_writes.specs.Writing.{shownBy, shownWords}
 use Rattle.view_writes.proofs.Putting.{part-all}
 

@@ -7,7 +7,7 @@ use lib.ListN.{length, getD}
 use Rattle.words.specs.Sequences.{numbers}
 use Rattle.tables.specs.declared.Order.the-variants.{Spo}
 use Rattle.tables.specs.Tables.{columnCount, fieldsOf}
-use Rattle.upload_calls.specs.Writing.{writtenFor}
+use Rattle.upload_writes.specs.Writing.{writtenFor}
 use Rattle.view_marks.specs.Marks.{hiddenMark}
 
 -- a row is not marked as hidden

@@ -1,14 +1,3 @@
 pub mod Holds
 pub mod Finished
 pub mod ByOutcomes
-pub mod ConditionsHold
-pub mod FormatsHold
-pub mod LimitsHold
-pub mod FaultsHold
-pub mod ClosingsHold
-pub mod SurveysHold
-pub mod SizesHold
-pub mod StepsHold
-pub mod UploadsHold
-pub mod OwnersHold
-pub mod ViewsHold

@@ -5,15 +5,3 @@ pub mod Refusals
 pub mod Misreadings
 pub mod FinishedCut
 pub mod Literals
-pub mod Comparing
-pub mod Kinds
-pub mod Orders
-pub mod States
-pub mod Limits
-pub mod Faults
-pub mod Closings
-pub mod SurveyNumbers
-pub mod Sizes
-pub mod Uploads
-pub mod Owners
-pub mod Views

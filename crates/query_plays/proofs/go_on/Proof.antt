@@ -7,7 +7,7 @@ use lib.ListN.{length}
 use Rattle.turns.specs.Surveys.{surveyOf}
 use Rattle.queries.specs.declared.Keeping.the-variants.{All}
 use Rattle.queries.specs.declared.Went.the-variants.{On}
-use Rattle.queries.specs.Rounds.{firstPosition, rounds, resultAt}
+use Rattle.queries.specs.Rounds.{firstPosition, rounds, playAnswer, resultAt}
 use Rattle.queries.proofs.Rounds.{rounds-none, rounds-next, rounds-made, rounds-over, rounds-stopped}
 use Rattle.query_plays.proofs.go_on.Statement.{statement}
 use Rattle.query_plays.proofs.go_on.Tie as tie
@@ -48,8 +48,11 @@ loop-again c =
       e,
     )
 
-enum-known-went-2 : tie.Need-enum-known-went-2 Inv-loop μ-loop
-enum-known-went-2 c = search needs
+enum-told : tie.Need-enum-told Inv-loop μ-loop
+enum-told c = search needs
+
+play-answer-requires : tie.Need-play-answer-requires Inv-loop μ-loop
+play-answer-requires c κs = search needs
 
 same-length : tie.Need-same-length Inv-loop μ-loop
 same-length c =
@@ -70,11 +73,15 @@ returns : tie.Need-returns Inv-loop μ-loop
 returns c =
     let d = c .before .before .before .before .before .before .before .before .before in
     let l = d .before .before .before .before .before .loop in
-    let e = rounds-next All _ _ _ _ (l .n) (l .saved) (l .used) _ (l .inv .4) (d .advance .result) _ (d .advance .ensures) _ (c .before .went2 .given .1) in
-    sym (ap resultAt (rounds-over All _ _ _ _ (l .n + 1) _ (omega arith) _ _ e))
+    let w = c .before .enum-told .given .1 in
+    let e = rounds-next All _ _ _ _ (l .n) (l .saved) (l .used) _ (l .inv .4) (d .advance .result) _ (d .advance .ensures) _ w in
+    rw (c .play-answer .ensures ∙ ap playAnswer w) (sym (ap resultAt (rounds-over All _ _ _ _ (l .n + 1) _ (omega arith) _ _ e)))
 
-enum-known-went-3 : tie.Need-enum-known-went-3 Inv-loop μ-loop
-enum-known-went-3 c = search needs
+enum-told-2 : tie.Need-enum-told-2 Inv-loop μ-loop
+enum-told-2 c = search needs
+
+play-answer-requires-2 : tie.Need-play-answer-requires-2 Inv-loop μ-loop
+play-answer-requires-2 c κs = search needs
 
 same-length-4 : tie.Need-same-length-4 Inv-loop μ-loop
 same-length-4 c =
@@ -95,8 +102,9 @@ returns-2 : tie.Need-returns-2 Inv-loop μ-loop
 returns-2 c =
     let d = c .before .before .before .before .before .before .before .before .before in
     let l = d .before .before .before .before .before .loop in
-    let e = rounds-next All _ _ _ _ (l .n) (l .saved) (l .used) _ (l .inv .4) (d .advance .result) _ (d .advance .ensures) _ (c .before .went3 .given .1) in
-    sym (ap resultAt (rounds-stopped All _ _ _ _ (l .n + 1) _ (omega arith) _ _ e))
+    let w = c .before .enum-told2 .given .1 in
+    let e = rounds-next All _ _ _ _ (l .n) (l .saved) (l .used) _ (l .inv .4) (d .advance .result) _ (d .advance .ensures) _ w in
+    rw (c .play-answer2 .ensures ∙ ap playAnswer w) (sym (ap resultAt (rounds-stopped All _ _ _ _ (l .n + 1) _ (omega arith) _ _ e)))
 
 same-length-7 : tie.Need-same-length-7 Inv-loop μ-loop
 same-length-7 c = c .before .loop .inv .1
@@ -125,12 +133,14 @@ go-on-spec =
     add-n
     loop-less
     loop-again
-    enum-known-went-2
+    enum-told
+    play-answer-requires
     same-length
     same-length-2
     same-length-3
     returns
-    enum-known-went-3
+    enum-told-2
+    play-answer-requires-2
     same-length-4
     same-length-5
     same-length-6

@@ -1,4 +1,4 @@
--- `sotjarn_join` meets its contract: a walk of its MIR, by hand. Both lists go to `queue_calls::join` for good, and what it answers to the
+-- `sotjarn_join` meets its contract: a walk of its MIR, by hand. Both lists go to `queue_joins::join` for good, and what it answers to the
 -- function that says it in numbers. Assumes nothing.
 use mathlib.Core.Path.{_≡_, refl, _∙_, ap}
 use Prim.Native.Nat.{ℕ, _<_, _-_, _^_}
@@ -48,18 +48,18 @@ use Rattle.queues.specs.Joining.{QueuedResult, joinQueueOf}
 use Rattle.queues.proofs.Queued as Q
 use Rattle.queues.proofs.Queued.Laws as Q′
 use Rattle.turns.specs.Surveys.{surveyOf as lent-survey}
-use Rattle.sotjarn.specs.Numbers.{queuedNumbers}
-use Rattle.sotjarn.specs.declared.QueuedNumbers.{QueuedNumbers}
-use Rattle.sotjarn.proofs.QueuedNumbers as N
-use Rattle.sotjarn.proofs.QueuedNumbers.Laws as N′
-use Rattle.queue_calls.proofs.join as callee
-use Rattle.queue_calls.proofs.join.Symbol as callee-def
-use Rattle.queue_calls.proofs.join.Symbol.{name as #callee}
-use Rattle.queue_calls.proofs.join.Met as callee-thm
-use Rattle.sotjarn.proofs.queued_numbers as numbers
-use Rattle.sotjarn.proofs.queued_numbers.Symbol as numbers-def
-use Rattle.sotjarn.proofs.queued_numbers.Symbol.{name as #numbers}
-use Rattle.sotjarn.proofs.queued_numbers.Met as numbers-thm
+use Rattle.call_numbers.specs.Numbers.{queuedNumbers}
+use Rattle.call_numbers.specs.declared.QueuedNumbers.{QueuedNumbers}
+use Rattle.call_numbers.proofs.QueuedNumbers as N
+use Rattle.call_numbers.proofs.QueuedNumbers.Laws as N′
+use Rattle.queue_joins.proofs.join as callee
+use Rattle.queue_joins.proofs.join.Symbol as callee-def
+use Rattle.queue_joins.proofs.join.Symbol.{name as #callee}
+use Rattle.queue_joins.proofs.join.Met as callee-thm
+use Rattle.call_numbers.proofs.queued_numbers as numbers
+use Rattle.call_numbers.proofs.queued_numbers.Symbol as numbers-def
+use Rattle.call_numbers.proofs.queued_numbers.Symbol.{name as #numbers}
+use Rattle.call_numbers.proofs.queued_numbers.Met as numbers-thm
 use Rattle.sotjarn.proofs.sotjarn_join.Key.{name as #sotjarn·sotjarn-join}
 use Rattle.sotjarn.proofs.sotjarn_join as f
 use Rattle.sotjarn.proofs.sotjarn_join.Statement as stated
@@ -570,7 +570,7 @@ sotjarn-join-spec 𝓤 H 𝓜 𝓖 𝓡 =
     entered 𝓤 H (tripleOf 𝓤 H (𝓖 .A) f.signature (f.spec 𝓤 H (𝓖 .A) (𝓜 .mem) (𝓡 .run)))
     (tables 𝓤 H 𝓜 𝓡 code.env .C) (tables 𝓤 H 𝓜 𝓡 code.env .Λ) #sotjarn·sotjarn-join code.function (code.unfolded 𝓤 H 𝓜 𝓡)
     (sotjarn-join-meets 𝓤 H (𝓖 .A) (givenOf 𝓤 H 𝓜 𝓖) (𝓜 .mem) (𝓡 .run) (tablesOf 𝓤 H 𝓜 (tables 𝓤 H 𝓜 𝓡 code.env))
-    (cited 𝓤 H (Call 𝓤 H (𝓖 .A) (𝓜 .mem) (𝓡 .run)) 𝓜 𝓡 code.env #callee callee-def.routine code.calls-queue-calls·join
+    (cited 𝓤 H (Call 𝓤 H (𝓖 .A) (𝓜 .mem) (𝓡 .run)) 𝓜 𝓡 code.env #callee callee-def.routine code.calls-queue-joins·join
     (callee-thm.met 𝓤 H 𝓜 𝓖 𝓡))
-    (cited 𝓤 H (Numbers 𝓤 H (𝓖 .A) (𝓜 .mem) (𝓡 .run)) 𝓜 𝓡 code.env #numbers numbers-def.routine code.calls-sotjarn·queued-numbers
+    (cited 𝓤 H (Numbers 𝓤 H (𝓖 .A) (𝓜 .mem) (𝓡 .run)) 𝓜 𝓡 code.env #numbers numbers-def.routine code.calls-call-numbers·queued-numbers
     (numbers-thm.met 𝓤 H 𝓜 𝓖 𝓡)))

@@ -1,7 +1,7 @@
 -- `sotjarn_least_output` meets its contract: the numbers of what a plan asks of an output.
 use borrow.Author.Needs.{needs}
 use mathlib.Core.Path.{ap, _∙_}
-use Rattle.sotjarn.specs.Numbers.{writtenNumbers}
+use Rattle.call_numbers.specs.Numbers.{writtenNumbers}
 use Rattle.sotjarn.proofs.sotjarn_least_output.Statement.{statement}
 use Rattle.sotjarn.proofs.sotjarn_least_output.Tie as tie
 

@@ -2,7 +2,7 @@
 use borrow.Author.Needs.{needs}
 use mathlib.Core.Path.{ap, _∙_}
 use Rattle.uploads.specs.Making.{MakeResult}
-use Rattle.sotjarn.specs.Numbers.{madeNumbers}
+use Rattle.call_numbers.specs.Numbers.{madeNumbers}
 use Rattle.sotjarn.proofs.sotjarn_make.Statement.{statement}
 use Rattle.sotjarn.proofs.sotjarn_make.Tie as tie
 

@@ -2,7 +2,7 @@
 use borrow.Author.Needs.{needs}
 use mathlib.Core.Path.{ap, _∙_}
 use Rattle.merges.specs.Merging.{MergeResult}
-use Rattle.sotjarn.specs.Numbers.{writtenNumbers}
+use Rattle.call_numbers.specs.Numbers.{writtenNumbers}
 use Rattle.sotjarn.proofs.sotjarn_merge.Statement.{statement}
 use Rattle.sotjarn.proofs.sotjarn_merge.Tie as tie
 

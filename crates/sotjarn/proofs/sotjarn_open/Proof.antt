@@ -2,7 +2,7 @@
 use borrow.Author.Needs.{needs}
 use mathlib.Core.Path.{ap, _∙_}
 use Rattle.turns.specs.Opening.{Opened}
-use Rattle.sotjarn.specs.Numbers.{writtenNumbers}
+use Rattle.call_numbers.specs.Numbers.{writtenNumbers}
 use Rattle.sotjarn.proofs.sotjarn_open.Statement.{statement}
 use Rattle.sotjarn.proofs.sotjarn_open.Tie as tie
 

@@ -1,4 +1,4 @@
--- `sotjarn_serve` meets its contract: a walk of its MIR, by hand. Both lists and the output go to `queue_calls::serve` for good, and what it answers to the
+-- `sotjarn_serve` meets its contract: a walk of its MIR, by hand. Both lists and the output go to `queue_serves::serve` for good, and what it answers to the
 -- function that says it in numbers. Assumes nothing.
 use mathlib.Core.Path.{_≡_, refl, _∙_, ap}
 use Prim.Native.Nat.{ℕ, _<_, _-_, _^_}
@@ -47,18 +47,18 @@ use Rattle.queues.specs.Serving.{ServeResult, serveOf}
 use Rattle.queues.proofs.Service as Y
 use Rattle.queues.proofs.Service.Laws as Y′
 use Rattle.turns.specs.Surveys.{surveyOf as lent-survey}
-use Rattle.sotjarn.specs.Numbers.{serviceNumbers}
-use Rattle.sotjarn.specs.declared.ServiceNumbers.{ServiceNumbers}
-use Rattle.sotjarn.proofs.ServiceNumbers as N
-use Rattle.sotjarn.proofs.ServiceNumbers.Laws as N′
-use Rattle.queue_calls.proofs.serve as callee
-use Rattle.queue_calls.proofs.serve.Symbol as callee-def
-use Rattle.queue_calls.proofs.serve.Symbol.{name as #callee}
-use Rattle.queue_calls.proofs.serve.Met as callee-thm
-use Rattle.sotjarn.proofs.service_numbers as numbers
-use Rattle.sotjarn.proofs.service_numbers.Symbol as numbers-def
-use Rattle.sotjarn.proofs.service_numbers.Symbol.{name as #numbers}
-use Rattle.sotjarn.proofs.service_numbers.Met as numbers-thm
+use Rattle.call_numbers.specs.Numbers.{serviceNumbers}
+use Rattle.call_numbers.specs.declared.ServiceNumbers.{ServiceNumbers}
+use Rattle.call_numbers.proofs.ServiceNumbers as N
+use Rattle.call_numbers.proofs.ServiceNumbers.Laws as N′
+use Rattle.queue_serves.proofs.serve as callee
+use Rattle.queue_serves.proofs.serve.Symbol as callee-def
+use Rattle.queue_serves.proofs.serve.Symbol.{name as #callee}
+use Rattle.queue_serves.proofs.serve.Met as callee-thm
+use Rattle.call_numbers.proofs.service_numbers as numbers
+use Rattle.call_numbers.proofs.service_numbers.Symbol as numbers-def
+use Rattle.call_numbers.proofs.service_numbers.Symbol.{name as #numbers}
+use Rattle.call_numbers.proofs.service_numbers.Met as numbers-thm
 use Rattle.sotjarn.proofs.sotjarn_serve.Key.{name as #sotjarn·sotjarn-serve}
 use Rattle.sotjarn.proofs.sotjarn_serve as f
 use Rattle.sotjarn.proofs.sotjarn_serve.Statement as stated
@@ -542,7 +542,7 @@ sotjarn-serve-spec 𝓤 H 𝓜 𝓖 𝓡 =
     entered 𝓤 H (tripleOf 𝓤 H (𝓖 .A) f.signature (f.spec 𝓤 H (𝓖 .A) (𝓜 .mem) (𝓡 .run)))
     (tables 𝓤 H 𝓜 𝓡 code.env .C) (tables 𝓤 H 𝓜 𝓡 code.env .Λ) #sotjarn·sotjarn-serve code.function (code.unfolded 𝓤 H 𝓜 𝓡)
     (sotjarn-serve-meets 𝓤 H (𝓖 .A) (givenOf 𝓤 H 𝓜 𝓖) (𝓜 .mem) (𝓡 .run) (tablesOf 𝓤 H 𝓜 (tables 𝓤 H 𝓜 𝓡 code.env))
-    (cited 𝓤 H (Call 𝓤 H (𝓖 .A) (𝓜 .mem) (𝓡 .run)) 𝓜 𝓡 code.env #callee callee-def.routine code.calls-queue-calls·serve
+    (cited 𝓤 H (Call 𝓤 H (𝓖 .A) (𝓜 .mem) (𝓡 .run)) 𝓜 𝓡 code.env #callee callee-def.routine code.calls-queue-serves·serve
     (callee-thm.met 𝓤 H 𝓜 𝓖 𝓡))
-    (cited 𝓤 H (Numbers 𝓤 H (𝓖 .A) (𝓜 .mem) (𝓡 .run)) 𝓜 𝓡 code.env #numbers numbers-def.routine code.calls-sotjarn·service-numbers
+    (cited 𝓤 H (Numbers 𝓤 H (𝓖 .A) (𝓜 .mem) (𝓡 .run)) 𝓜 𝓡 code.env #numbers numbers-def.routine code.calls-call-numbers·service-numbers
     (numbers-thm.met 𝓤 H 𝓜 𝓖 𝓡)))

@@ -2,7 +2,7 @@
 use borrow.Author.Needs.{needs}
 use mathlib.Core.Path.{ap, _∙_}
 use Rattle.turns.specs.Turns.{TurnResult}
-use Rattle.sotjarn.specs.Numbers.{turnedNumbers}
+use Rattle.call_numbers.specs.Numbers.{turnedNumbers}
 use Rattle.sotjarn.proofs.sotjarn_turn.Statement.{statement}
 use Rattle.sotjarn.proofs.sotjarn_turn.Tie as tie
 

@@ -2,7 +2,7 @@
 use borrow.Author.Needs.{needs}
 use mathlib.Core.Path.{ap, _∙_}
 use Rattle.views.specs.Viewing.{ViewResult}
-use Rattle.sotjarn.specs.Numbers.{viewedNumbers}
+use Rattle.call_numbers.specs.Numbers.{viewedNumbers}
 use Rattle.sotjarn.proofs.sotjarn_view.Statement.{statement}
 use Rattle.sotjarn.proofs.sotjarn_view.Tie as tie
 

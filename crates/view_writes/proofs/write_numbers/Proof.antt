@@ -11,7 +11,7 @@ use lib.ListN.{set, length-set, take-append-drop}
 use lib.Seq.{drop-set-lt}
 use borrow.Author.Tests.{ltb-true}
 use Rattle.words.proofs.Elements.{all-at}
-use Rattle.upload_calls.proofs.Written.{written-none, written-part}
+use Rattle.upload_writes.proofs.Written.{written-none, written-part}
 use Rattle.view_marks.specs.Marks.{hiddenMark}
 use Rattle.view_writes.specs.Writing.{shownBy, shownNumbers}
 use Rattle.view_writes.proofs.Putting.{part-all, used-next, front-next, place-left}

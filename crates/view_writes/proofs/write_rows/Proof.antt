@@ -17,8 +17,8 @@ use Rattle.tables.specs.Tables.{columnCount, mostRows, fieldsOf}
 use Rattle.tables.proofs.Columns.{fields-length}
 use Rattle.views.specs.Renumbered.{passedBefore}
 use Rattle.views.proofs.Renumbering.{passed-none}
-use Rattle.upload_calls.specs.Writing.{writtenFor}
-use Rattle.upload_calls.proofs.Written.{written-none}
+use Rattle.upload_writes.specs.Writing.{writtenFor}
+use Rattle.upload_writes.proofs.Written.{written-none}
 use Rattle.view_marks.specs.Marks.{hiddenMark}
 use Rattle.view_marks.proofs.Marking.{number-most, number-next}
 use Rattle.view_writes.specs.Writing.{shownBy, shownWords}

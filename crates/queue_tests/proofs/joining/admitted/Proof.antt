@@ -5,8 +5,8 @@ use mathlib.Core.Path.{sym, _∙_, ap}
 use mathlib.Core.Bool.{Bool, cond}
 use borrow.Author.Tests.{eq-eqb, ne-eqb}
 use Rattle.queues.specs.declared.Queued.the-variants.{Lists}
-use Rattle.queue_tests.specs.declared.Queueing.{Queueing}
-use Rattle.queue_tests.specs.Changes.{unchanged, appended}
+use Rattle.queue_changes.specs.declared.Queueing.{Queueing}
+use Rattle.queue_changes.specs.Changes.{unchanged, appended}
 use Rattle.queue_tests.proofs.joining.admitted.Statement.{statement}
 use Rattle.queue_tests.proofs.joining.admitted.Tie as tie
 

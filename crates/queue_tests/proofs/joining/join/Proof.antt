@@ -10,8 +10,8 @@ use Rattle.queues.specs.declared.Entry.{Entry}
 use Rattle.queues.specs.Lists.{lentAs}
 use Rattle.queues.specs.Joining.{Joining, joinQueueOf}
 use Rattle.queues.specs.ToppingUp.{topUpTestsBy}
-use Rattle.queue_tests.specs.declared.Queueing.{Queueing}
-use Rattle.queue_tests.specs.Changes.{roomBy, admittedBy, Decides}
+use Rattle.queue_changes.specs.declared.Queueing.{Queueing}
+use Rattle.queue_changes.specs.Changes.{roomBy, admittedBy, Decides}
 use Rattle.queue_tests.proofs.Joins.{join-number, join-refuses, join-accepts, joined-room, joined-short}
 use Rattle.queue_tests.proofs.joining.join.Statement.{statement}
 use Rattle.queue_tests.proofs.joining.join.Tie as tie

@@ -5,8 +5,8 @@ use mathlib.Core.Path.{sym, _∙_, ap, subst}
 use Rattle.words.specs.Tests.{firstFailing, numberOf}
 use Rattle.queues.specs.Lists.{lentAs}
 use Rattle.queues.specs.ToppingUp.{topUpTestsBy, topUpOf}
-use Rattle.queue_tests.specs.declared.Queueing.{Queueing}
-use Rattle.queue_tests.specs.Changes.{toppedBy, Decides}
+use Rattle.queue_changes.specs.declared.Queueing.{Queueing}
+use Rattle.queue_changes.specs.Changes.{toppedBy, Decides}
 use Rattle.queue_tests.proofs.TopUps.{top-up-refuses, top-up-accepts, passed-entries, passed-room}
 use Rattle.queue_tests.proofs.topping.top_up.Statement.{statement}
 use Rattle.queue_tests.proofs.topping.top_up.Tie as tie

@@ -2,7 +2,7 @@
 use borrow.Author.Needs.{needs}
 use mathlib.Core.Path.{_∙_}
 use Rattle.tables.specs.Tables.{tablesOf}
-use Rattle.queue_tests.specs.Changes.{firstNumber}
+use Rattle.queue_changes.specs.Changes.{firstNumber}
 use Rattle.queue_turns.proofs.Numbering.{tables-then}
 use Rattle.queue_turns.proofs.numbers.empty_number.Statement.{statement}
 use Rattle.queue_turns.proofs.numbers.empty_number.Tie as tie

@@ -8,7 +8,7 @@ use borrow.Author.Tests.{eq-eqb, ne-eqb}
 use Rattle.words.specs.Tests.{firstFailing, numberOf}
 use Rattle.turns.specs.Surveys.{surveyOf}
 use Rattle.queues.specs.Serving.{Serving, frontTests}
-use Rattle.queue_tests.specs.Changes.{firstNumber}
+use Rattle.queue_changes.specs.Changes.{firstNumber}
 use Rattle.queue_turns.proofs.serving.serve_number.Statement.{statement}
 use Rattle.queue_turns.proofs.serving.serve_number.Tie as tie
 

@@ -16,9 +16,10 @@ use Rattle.uploads.proofs.Kept.{kept-most}
 use Rattle.uploads.proofs.Lengths.{report-length}
 use Rattle.uploads.proofs.Writes.{upload-few}
 use Rattle.upload_fates.specs.Judging.{Judged}
-use Rattle.upload_calls.specs.Writing.{roomFor}
-use Rattle.upload_calls.proofs.Tables.{kept-counted, report-words}
-use Rattle.upload_calls.proofs.Outcome.{dropped-is, RoomParts, room-parts, no-room, served, same-result}
+use Rattle.upload_rooms.specs.Rooms.{roomFor}
+use Rattle.upload_writes.proofs.Tables.{kept-counted, report-words}
+use Rattle.upload_rooms.proofs.Rooms.{RoomParts, room-parts}
+use Rattle.upload_calls.proofs.Outcome.{dropped-is, no-room, served, same-result}
 use Rattle.upload_calls.proofs.within.make_within.Statement.{statement}
 use Rattle.upload_calls.proofs.within.make_within.Tie as tie
 

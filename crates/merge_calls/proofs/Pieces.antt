@@ -1,0 +1,43 @@
+-- The ending of an accepted plan: its pieces are right, and it is made of those that were read.
+use Prim.Native.Nat.{ℕ}
+use mathlib.Core.Path.{_≡_, sym, _∙_}
+use mathlib.Core.Bool.{Bool, true}
+use mathlib.Core.Option.{none}
+use mathlib.Core.List.{List}
+use Rattle.words.specs.Sequences.{all}
+use Rattle.words.specs.Tests.{firstFailing}
+use Rattle.words.proofs.Booleans.{and-right}
+use Rattle.plans.specs.declared.Last.{Last}
+use Rattle.plans.specs.declared.Last.the-variants.{Rows, Top, Group}
+use Rattle.plans.specs.Branches.{branchRight, binds}
+use Rattle.plans.specs.Endings.{Ending, rows, top, group, endingRight}
+use Rattle.plans.specs.Plans.{readPlan, planOf, planTests}
+use Rattle.plans.specs.Reading.{lastIn, variablesIn, keysIn, bestIn, measuredIn}
+use Rattle.plans.proofs.Bounds.{EndingForm, plan-form, was-read}
+use Rattle.plan_tests.proofs.Checked.{accepted}
+use Rattle.plans.proofs.EndingRead.{is-rows, is-top, is-group}
+use Rattle.list_best.proofs.DeliveredBest.{top-parts}
+use Rattle.merge_lists.specs.Answering.{PiecesRight}
+
+pieces : (bound : ℕ → Bool) (e : Ending) → EndingForm e → endingRight bound e ≡ true → PiecesRight e
+pieces bound (rows vs) f h = tt
+pieces bound (top k vs keys) f h = top-parts bound k vs keys f h
+pieces bound (group vs m) f h = f .most
+
+pub pieces-right : (plan : List ℕ) → firstFailing (planTests plan) ≡ none → PiecesRight (planOf plan .ending)
+pieces-right plan h =
+    let a = accepted plan h in
+    let q = planOf plan in
+    pieces (binds (q .branches)) (q .ending) (plan-form plan q (was-read (readPlan plan) (a .0)) .ending)
+    (and-right (all branchRight (q .branches)) _ (a .1))
+
+-- ---- by what was read of it
+module _ (e : Ending) {t : Last} (et : t ≡ lastIn e) where
+  pub rows-of : t ≡ Rows → e ≡ rows (variablesIn e)
+  rows-of h = is-rows e (sym et ∙ h)
+
+  pub top-of : t ≡ Top → {k : ℕ} {vs keys : List ℕ} → k ≡ bestIn e → vs ≡ variablesIn e → keys ≡ keysIn e → e ≡ top k vs keys
+  top-of h ek ev es = rw (ek, ev, es) (is-top e (sym et ∙ h))
+
+  pub group-of : t ≡ Group → {vs : List ℕ} → vs ≡ variablesIn e → e ≡ group vs (measuredIn e)
+  group-of h ev = rw ev (is-group e (sym et ∙ h))

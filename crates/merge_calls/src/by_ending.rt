@@ -1,0 +1,68 @@
+// Merging by the ending of a plan: test 12 of both lists, then 13 and 14, and only then the first write.
+use merge_lists::are_best;
+use merge_lists::are_groups;
+use merge_lists::written;
+use merges::LISTS;
+use merges::ROOM;
+use plans::Last;
+use words::Written;
+ghost use mathlib.Core.Path.{_≡_};
+ghost use mathlib.Core.Bool.{true};
+ghost use mathlib.Core.List.{List};
+ghost use Prim.Native.Nat.{ℕ, _≤_};
+ghost use lib.ListN.{length};
+ghost use Rattle.plans.specs.Endings.{top, group, mostGroupVariables, endingForm, endingAt};
+ghost use Rattle.list_best.specs.BestLists.{TopParts};
+ghost use Rattle.merge_lists.specs.Answering.{PiecesRight, MergedFor};
+
+// The best k rows of both lists.
+fn merge_top(
+    vars: &[u32],
+    keys: &[u32],
+    k: usize,
+    kept: &mut [u32],
+    given: usize,
+    list: &[u32],
+) -> Written
+    requires { ⌜ TopParts k (now vars) (now keys) × (given ≤ length (now kept)) ⌝ }
+    ensures { λ r. ⌜ MergedFor (top k (now (vars .entry)) (now (keys .entry))) (now (kept .entry)) given (now (list .entry))
+        (record { answer = r; kept = now (kept .exit) }) ⌝ }
+{
+    if !are_best(vars, keys, k, &kept[..given], list) {
+        return Written::Refused(LISTS);
+    }
+    if !list_best_tests::has_best_room(vars, k, &kept[..], given, list) {
+        return Written::Refused(ROOM);
+    }
+    Written::Words(list_best::merge_best(vars, keys, k, kept, given, list))
+}
+
+// The groups of both lists added up; they have g keys.
+fn merge_groups(g: usize, kept: &mut [u32], given: usize, list: &[u32]) -> Written
+    requires { ⌜ (g ≤ mostGroupVariables) × (given ≤ length (now kept)) ⌝ }
+    ensures { λ r. ⌜ ((vs : List ℕ) (m : ℕ) → length vs ≡ g
+        → MergedFor (group vs m) (now (kept .entry)) given (now (list .entry)) (record { answer = r; kept = now (kept .exit) })) ⌝ }
+{
+    if !are_groups(g, &kept[..given], list) {
+        return Written::Refused(LISTS);
+    }
+    written(list_group_merges::merge_groups(g, kept, given, list))
+}
+
+// Merges by an ending, the words from it on: no list of rows is merged.
+pub fn merge_ending(e: &[u32], kept: &mut [u32], given: usize, list: &[u32]) -> Written
+    requires { ⌜ (endingForm (now e) ≡ true) × PiecesRight (endingAt (now e)) × (given ≤ length (now kept)) ⌝ }
+    ensures { λ r. ⌜ MergedFor (endingAt (now (e .entry))) (now (kept .entry)) given (now (list .entry))
+        (record { answer = r; kept = now (kept .exit) }) ⌝ }
+{
+    match plans::ending_kind(e) {
+        Last::Rows => Written::Refused(LISTS),
+        Last::Top => {
+            let vars = plans::variables(e);
+            let keys = plans::keys(e);
+            merge_top(vars, keys, plans::best_count(e), kept, given, list)
+        }
+        Last::Group => merge_groups(plans::variables(e).len(), kept, given, list),
+        Last::Neither => Written::Refused(LISTS),
+    }
+}

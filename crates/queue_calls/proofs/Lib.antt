@@ -1,4 +1,0 @@
-pub mod Shared
-pub mod Lending
-pub mod Decided
-pub mod ServeChanges

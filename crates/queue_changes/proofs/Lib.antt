@@ -1,0 +1,4 @@
+pub mod Rooms
+pub mod Numbering
+pub mod Following
+pub mod Seeing

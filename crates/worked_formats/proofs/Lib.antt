@@ -1,0 +1,2 @@
+pub mod ConditionsHold
+pub mod FormatsHold

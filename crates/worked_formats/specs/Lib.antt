@@ -1,0 +1,4 @@
+pub mod Comparing
+pub mod Kinds
+pub mod Orders
+pub mod States

@@ -1,0 +1,104 @@
+-- The record of no rows, in literal words: the turn that is done writes it where the group has no variable and the turn no row of its own, and
+-- no other turn does. Merged, it leaves what was kept as it was.
+use Prim.Native.Nat.{ℕ}
+use mathlib.Core.List.{List, [], _∷_, _++_}
+use mathlib.Core.Option.{none, some}
+use lib.ListN.{length, replicate}
+use Rattle.words.specs.declared.Written.the-variants.{Words}
+use Rattle.words.specs.Sequences.{over}
+use Rattle.tables.specs.Tables.{Tables}
+use Rattle.turns.specs.declared.TurnEnding.the-variants.{Done, Spent}
+use Rattle.turns.specs.Opening.{openOf}
+use Rattle.cuts.specs.Histories.{Event, turns, merges, Phone, fresh, history}
+use Rattle.worked_cases.specs.Calls.{merging, merged, running, ran, Case, surveyed, turnCall, turnCase, mergeCall, keptBuffer}
+use Rattle.worked_cases.specs.Literals.{stems, atPlace, opensTo, wholeFrom}
+use Rattle.worked_limits.specs.Faults.{nothing}
+
+-- ---- tables and plans
+abbrev pub bare : Tables
+bare = record { rows = []; pos = []; osp = [] }
+
+-- plan A's patterns, ?0 n10 n100, ?0 n12 ?1, with a condition and an ending
+abbrev pub stemsWith : List ℕ → List ℕ → List ℕ
+stemsWith condition ending =
+    0x10000001
+    ∷ 0x20000002 ∷ 0xC0000000 ∷ 0x0000000A ∷ 0x00000064 ∷ 0xC0000000 ∷ 0x0000000C ∷ 0xC0000001
+    ∷ (condition ++ ending)
+
+-- "true"; ?1 ≥ i1000, which no stem is
+abbrev pub anyStem : List ℕ
+anyStem = 0x30000000 ∷ []
+
+abbrev pub noStem : List ℕ
+noStem = 0x70000005 ∷ 0xC0000001 ∷ 0x400003E8 ∷ []
+
+-- one group measuring ?1; a group for each ?0
+abbrev pub oneGroup : List ℕ
+oneGroup = 0xC0000000 ∷ 0xC0000001 ∷ []
+
+abbrev pub groups0 : List ℕ
+groups0 = 0xC0000001 ∷ 0xC0000000 ∷ 0xC0000001 ∷ []
+
+-- rows 3, numbers 3, sum 665, least i45, greatest i310
+abbrev pub threeStems : List ℕ
+threeStems = 3 ∷ 0 ∷ 3 ∷ 0 ∷ 0x00000299 ∷ 0 ∷ 0x4000002D ∷ 0x40000136 ∷ []
+
+-- a list merged into a kept one, and what is then kept
+abbrev pub adds : List ℕ → List ℕ → List ℕ → Case
+adds kept list result = (
+  merging (mergeCall (stemsWith anyStem oneGroup) kept 12 list),
+  merged (record { answer = Words (length result); kept = over result (keptBuffer 12 kept) }),
+)
+
+abbrev pub closings : List Case
+closings =
+    -- a wood without rows: done after 1 step, with the record, in an output of just its words; the uncut run has it at its end and not before
+    opensTo bare (stemsWith anyStem oneGroup) (atPlace 0xF0000000)
+    ∷ turnCase (turnCall bare (stemsWith anyStem oneGroup) (atPlace 0xF0000000) 1 [] 8) Done 1 [] nothing
+    ∷ (running bare (stemsWith anyStem oneGroup) 0, ran (some (record { branch = 0; upper = []; place = 0 })) [])
+    ∷ (running bare (stemsWith anyStem oneGroup) 1, ran none nothing)
+    -- by one variable there is no group; nor is there a row or a best row
+    ∷ wholeFrom bare (stemsWith anyStem groups0) (atPlace 0xF0000000) 1 []
+    ∷ wholeFrom bare (stemsWith anyStem (0x80000001 ∷ 0xC0000001 ∷ [])) (atPlace 0xF0000000) 1 []
+    ∷ wholeFrom bare (stemsWith anyStem (0x90000001 ∷ 0x80000001 ∷ 0xC0000001 ∷ 0xA0000001 ∷ [])) (atPlace 0xF0000000) 1 []
+    -- no stem passes: whole in 10 steps; cut at 9 the first turn has no list, and the last one the record
+    ∷ wholeFrom stems (stemsWith noStem oneGroup) (atPlace 0xF0000000) 10 nothing
+    ∷ turnCase (turnCall stems (stemsWith noStem oneGroup) (atPlace 0xF0000000) 9 [] 8) Spent 9 (atPlace 0xF0000003) []
+    ∷ turnCase (turnCall stems (stemsWith noStem oneGroup) (atPlace 0xF0000003) 1 [] 8) Done 1 [] nothing
+    ∷ wholeFrom stems (stemsWith noStem groups0) (atPlace 0xF0000000) 10 []
+    -- all stems pass: whole in 10 steps, one record; cut at 9 the first turn has it, and the last one, without a row of its own, that of no rows
+    ∷ wholeFrom stems (stemsWith anyStem oneGroup) (atPlace 0xF0000000) 10 threeStems
+    ∷ turnCase (turnCall stems (stemsWith anyStem oneGroup) (atPlace 0xF0000000) 9 [] 8) Spent 9 (atPlace 0xF0000003) threeStems
+    ∷ turnCase (turnCall stems (stemsWith anyStem oneGroup) (atPlace 0xF0000003) 1 [] 8) Done 1 [] nothing
+    -- merged: alone it is kept, twice it is the same, and beside another record it adds nothing
+    ∷ adds [] nothing nothing
+    ∷ adds nothing nothing nothing
+    ∷ adds threeStems nothing threeStems
+    ∷ adds nothing threeStems threeStems
+    ∷ []
+
+-- ---- two queries cut at 9 of their 10 steps, each turn's list merged
+abbrev pub cutAtNine : List Event
+cutAtNine =
+    turns (replicate 7 1) 9 [] (replicate 8 9)
+    ∷ merges (replicate 8 4)
+    ∷ turns (replicate 7 1) 9 [] (replicate 8 9)
+    ∷ merges (replicate 8 4)
+    ∷ []
+
+abbrev pub playedBy : List ℕ → Phone
+playedBy condition =
+    history (surveyed stems) (stemsWith condition oneGroup) (fresh (openOf (surveyed stems) (stemsWith condition oneGroup) (replicate 10 7))) cutAtNine
+
+-- done: two served turns of 9 steps and 1, their lists taken
+abbrev pub doneWith : List ℕ → List ℕ → Phone
+doneWith list kept =
+    record {
+      saved = [];
+      taken =
+          record { quantum = 9; ending = Spent; steps = 9; list = list }
+          ∷ record { quantum = 9; ending = Done; steps = 1; list = nothing }
+          ∷ [];
+      waiting = [];
+      kept = kept;
+    }

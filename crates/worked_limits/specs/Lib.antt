@@ -1,0 +1,5 @@
+pub mod Limits
+pub mod Faults
+pub mod Closings
+pub mod SurveyNumbers
+pub mod Sizes

@@ -1,0 +1,1 @@
+// The worked cases of limits, of faults, of the record of no rows and of survey numbers: tables in specs/, proved by computation.

@@ -1,0 +1,3 @@
+pub mod UploadsHold
+pub mod ViewsHold
+pub mod OwnersHold

@@ -1,0 +1,3 @@
+pub mod Uploads
+pub mod Views
+pub mod Owners
