@@ -1,30 +1,21 @@
 -- The place of a row among the rows of a best-of list, searched from the back: the rows behind the place are passed.
-use Prim.Native.Nat.{ℕ, _-_, _*_, _/_, _%_, _≤_, _<_}
+use Prim.Native.Nat.{ℕ, _+_, _-_, _*_, _/_, _%_, _≤_, _<_}
 use native.Mathlib.Omega.{arith}
 use native.Mathlib.Nat.{div-add-mod', zero-mul}
 use mathlib.Core.Path.{_≡_, sym, _∙_, ap, subst}
 use mathlib.Core.Bool.{Bool, true, false}
 use mathlib.Core.List.{List, [], _∷_, _++_}
-use lib.ListN.{length, take, drop, length-drop}
+use lib.ListN.{length, take, drop, length-drop, take-append-drop}
 use lib.Seq.{take-length, length-take-le}
 use Rattle.lists.specs.Rows.{rowBefore}
 use Rattle.lists.specs.Gathering.{recordsIn}
-use Rattle.list_best.specs.BestLists.{Searchable, placeIn}
+use Rattle.list_best.specs.BestLists.{Searchable, placeIn, rowPlace, Placed}
 use Rattle.lists.proofs.Records.{length-records, records-nil}
 use Rattle.words.proofs.Sorting.{Sorted, sorted-take}
-use Rattle.list_best.proofs.Placing.{place-le, place-back, place-front, sorted-neighbours}
+use Rattle.list_best.proofs.Placing.{place-le, place-back, place-behind, place-front, sorted-neighbours}
 use Rattle.lists.proofs.RowOrder.{rows-ordered}
-use Rattle.list_best.proofs.RowWords.{records-snoc, records-take, whole-room, whole-less, last-row}
-
--- the place of a row among those of a list
-abbrev pub rowPlace : List ℕ → List ℕ → List ℕ → List ℕ → ℕ
-rowPlace vs keys row list = placeIn (rowBefore vs keys) row (recordsIn (length vs) list)
-
--- up to some words, of whole rows: the place is that among these rows
-pub record Placed (vs keys row list : List ℕ) (at : ℕ) : Type 0 where
-  pub up-to : at ≤ length list
-  pub whole : at % length vs ≡ 0
-  pub same : rowPlace vs keys row list ≡ rowPlace vs keys row (take at list)
+use Rattle.list_best.proofs.RowWords.{records-snoc, records-append, records-take, whole-room, whole-less, whole-rest, last-row}
+use Rattle.list_best.proofs.RowWords.{rowAt, row-records}
 
 -- the row that ends at some words
 abbrev pub rowBack : ℕ → List ℕ → ℕ → List ℕ
@@ -33,6 +24,25 @@ rowBack w list at = take (at - (at - w)) (drop (at - w) list)
 module _ {vs keys row list : List ℕ} (s : Searchable vs keys row list) where
   pub placed-start : Placed vs keys row list (length list)
   placed-start = record { up-to = omega arith; whole = s .whole; same = rw take-length }
+
+  -- what code found of a row, wherever it is: the row comes before it, so its place is not behind that one
+  module _ {at : ℕ} (h : at + length vs ≤ length list) (m : at % length vs ≡ 0) {t : Bool}
+      (e : t ≡ rowBefore vs keys row (rowAt (length vs) list at)) where
+    pub placed-at : t ≡ true → Placed vs keys row list at
+    placed-at p =
+        let front = recordsIn (length vs) (take at list) in
+        let rest = recordsIn (length vs) (drop (at + length vs) list) in
+        let n : length (take at list) ≡ at = length-take-le at list (omega arith) in
+        let split : recordsIn (length vs) list ≡ front ++ (rowAt (length vs) list at ∷ rest) =
+        ap (recordsIn (length vs)) (sym (take-append-drop at list))
+        ∙ records-append (length vs) (s .some) (take at list) (drop at list) (ap (λ x. x % length vs) n ∙ m)
+        (ap (λ x. x % length vs) (length-drop at list) ∙ whole-rest (length vs) at (length list) m (s .whole))
+        ∙ ap (λ l. front ++ l) (row-records (length vs) list at h (s .some)) in
+        record {
+          up-to = omega arith;
+          whole = m;
+          same = ap (placeIn (rowBefore vs keys) row) split ∙ place-behind (rowBefore vs keys) row (rowAt (length vs) list at) rest front (sym e ∙ p);
+        }
 
   module _ {at : ℕ} (inv : Placed vs keys row list at) where
     pub placed-end : at ≡ 0 → at ≡ rowPlace vs keys row list * length vs

@@ -51,14 +51,17 @@ module _ {A : Type 0} (before : A → A → Bool) (x : A) where
       ap length (insert-place ys) ∙ simp (length-append, length-take, length-drop) (omega (arith, place-le ys))
 
   -- ---- from the back
-  -- a last element that x comes before is behind its place
-  pub place-back : (z : A) (ys : List A) → before x z ≡ true → placeIn before x (ys ++ (z ∷ [])) ≡ placeIn before x ys
-  place-back z [] h = place-here z [] h ∙ sym place-nil
-  place-back z (y ∷ ys) h =
+  -- one that x comes before is behind its place, and so is whatever stands behind that one
+  pub place-behind : (z : A) (zs ys : List A) → before x z ≡ true → placeIn before x (ys ++ (z ∷ zs)) ≡ placeIn before x ys
+  place-behind z zs [] h = place-here z zs h ∙ sym place-nil
+  place-behind z zs (y ∷ ys) h =
       elim (decided (before x y)) [
-        | yes e ↦ place-here y (ys ++ (z ∷ [])) e ∙ sym (place-here y ys e)
-        | no e ↦ place-later y (ys ++ (z ∷ [])) e ∙ ap suc (place-back z ys h) ∙ sym (place-later y ys e)
+        | yes e ↦ place-here y (ys ++ (z ∷ zs)) e ∙ sym (place-here y ys e)
+        | no e ↦ place-later y (ys ++ (z ∷ zs)) e ∙ ap suc (place-behind z zs ys h) ∙ sym (place-later y ys e)
       ]
+
+  pub place-back : (z : A) (ys : List A) → before x z ≡ true → placeIn before x (ys ++ (z ∷ [])) ≡ placeIn before x ys
+  place-back z ys h = place-behind z [] ys h
 
   none-before : (ys : List A) → Each (λ y. before x y ≡ false) ys → placeIn before x ys ≡ length ys
   none-before [] n = place-nil

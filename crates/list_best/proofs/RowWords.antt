@@ -1,7 +1,7 @@
 -- Rows of one width as words: the first rows are the first words, a row in front or behind is one row more.
 use Prim.Native.Nat.{ℕ, zero, suc, _+_, _-_, _*_, _/_, _%_, _≤_, _<_}
 use native.Mathlib.Omega.{arith}
-use native.Mathlib.Nat.{zero-mul, suc-mul, add-div-left, div-add-mod', mod-eq-of-lt, mod-eq-sub-mod}
+use native.Mathlib.Nat.{zero-mul, suc-mul, mul-sub, mul-mod-left, mul-mod-right, add-div-left, div-add-mod, div-add-mod', mod-eq-of-lt, mod-eq-sub-mod}
 use native.Mathlib.Decide.{decLt}
 use native.Mathlib.Numerals.{add-one}
 use mathlib.Core.Path.{_≡_, sym, _∙_, ap, ap₂}
@@ -48,6 +48,13 @@ module _ (w : ℕ) where
         (ap₂ _++_ (sym (flatten-records w ws e)) (sym (append-nil y)) ∙ sym (flatten-append R (y ∷ [])))
         ∙ records-flatten w pos (R ++ (y ∷ [])) (wide-append w R (y ∷ []) (wide-records w ws) (h, tt))
 
+    pub records-append : (xs ys : List ℕ) → length xs % w ≡ 0 → length ys % w ≡ 0 → recordsIn w (xs ++ ys) ≡ recordsIn w xs ++ recordsIn w ys
+    records-append xs ys e f =
+        let R = recordsIn w xs in
+        let S = recordsIn w ys in
+        ap (recordsIn w) (ap₂ _++_ (sym (flatten-records w xs e)) (sym (flatten-records w ys f)) ∙ sym (flatten-append R S))
+        ∙ records-flatten w pos (R ++ S) (wide-append w R S (wide-records w xs) (wide-records w ys))
+
     -- the first words, of whole rows, are the first rows
     pub records-take : (n : ℕ) (ws : List ℕ) → n % w ≡ 0 → length ws % w ≡ 0
         → recordsIn w (take n ws) ≡ take (n / w) (recordsIn w ws)
@@ -69,6 +76,14 @@ whole-room w n e p =
 
 pub whole-less : (w n : ℕ) → n % w ≡ 0 → w ≤ n → (n - w) % w ≡ 0
 whole-less w n e h = sym (mod-eq-sub-mod h) ∙ e
+
+pub whole-rest : (w a n : ℕ) → a % w ≡ 0 → n % w ≡ 0 → (n - a) % w ≡ 0
+whole-rest w a n e h =
+    let m : n - a ≡ w * (n / w - a / w) = omega (arith, mul-sub w (n / w) (a / w), div-add-mod n w, div-add-mod a w) in
+    ap (λ x. x % w) m ∙ mul-mod-right w (n / w - a / w)
+
+pub far-whole : (w n at : ℕ) → at % w ≡ 0 → (at - n * w) % w ≡ 0
+far-whole w n at e = whole-rest w (n * w) at (mul-mod-left n w) e
 
 -- the row that ends at a place
 pub last-row : (w at : ℕ) (ws : List ℕ) → w ≤ at → take at ws ≡ take (at - w) ws ++ take (at - (at - w)) (drop (at - w) ws)

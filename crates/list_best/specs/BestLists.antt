@@ -59,3 +59,13 @@ pub record Mergeable (k : ℕ) (vs keys buffer : List ℕ) (used : ℕ) (list : 
 unfoldable pub placeIn : {A : Type 0} → (A → A → Bool) → A → List A → ℕ
 placeIn before x [] = 0
 placeIn before x (y ∷ ys) = cond (before x y) 0 (suc (placeIn before x ys))
+
+-- the place of a row among those of a list
+abbrev pub rowPlace : List ℕ → List ℕ → List ℕ → List ℕ → ℕ
+rowPlace vs keys row list = placeIn (rowBefore vs keys) row (recordsIn (length vs) list)
+
+-- up to some words, of whole rows: the place is that among these rows
+pub record Placed (vs keys row list : List ℕ) (at : ℕ) : Type 0 where
+  pub up-to : at ≤ length list
+  pub whole : at % length vs ≡ 0
+  pub same : rowPlace vs keys row list ≡ rowPlace vs keys row (take at list)

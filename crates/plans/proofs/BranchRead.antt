@@ -1,17 +1,19 @@
 -- What stands where in the words of a branch that was read.
 use Prim.Native.Nat.{ℕ, _+_, _-_, _*_, _≤_}
 use native.Mathlib.Omega.{arith}
-use mathlib.Core.Path.{_≡_, sym, _∙_, ap}
-use mathlib.Core.Bool.{true}
+use mathlib.Core.Path.{_≡_, refl, sym, _∙_, ap}
+use mathlib.Core.Bool.{Bool, true, false, cond}
 use mathlib.Core.Option.{none, some}
 use mathlib.Core.List.{List}
 use lib.Dec.{eqb, leb, ltb}
 use lib.ListN.{length, getD, take, drop, length-drop}
-use borrow.Author.Tests.{ltb-false}
+use borrow.Author.Tests.{eq-eqb, leb-true, ltb-false}
+use Rattle.words.specs.Words.{kind, low, branchKind}
+use Rattle.words.proofs.Booleans.{absurd-true}
 use Rattle.words.proofs.Walking.{rest-of}
 use Rattle.words.proofs.Testing.{none-some, some-injective}
 use Rattle.plans.specs.Conditions.{Condition, Read, readCondition, nodes, mostDepth, mostNodes}
-use Rattle.plans.specs.Branches.{Branch, patternWidth, patternCount, withCondition, readBranch, noBranch}
+use Rattle.plans.specs.Branches.{Branch, patternWidth, patternCount, mostPatterns, withCondition, readBranch, noBranch}
 use Rattle.plans.specs.Reading.{isRead, wordsRead, Gives, branchIn}
 use Rattle.plans.proofs.Given.{gives, cond-some, cond-none}
 use Rattle.plans.proofs.Trees.{Fits, fits}
@@ -54,6 +56,22 @@ branch-read ws x e =
 
 pub branch-in : (ws : List ℕ) → isRead (readBranch ws) ≡ true → BranchRead ws (branchIn ws) (wordsRead (readBranch ws))
 branch-in ws h = branch-read ws (branchIn ws, wordsRead (readBranch ws)) (gives noBranch (readBranch ws) h)
+
+-- ---- its first word
+count-low : (k l : Bool) (n : ℕ) → eqb (cond k (cond l n 0) 0) 0 ≡ false → (cond k (cond l n 0) 0 ≡ n) × (l ≡ true)
+count-low true true n e = (refl, refl)
+count-low true false n e = absurd-true (eq-eqb 0 0 refl) e
+count-low false l n e = absurd-true (eq-eqb 0 0 refl) e
+
+-- the word names as many patterns as it has in its low bits, and not too many
+pub patterns-low : (ws : List ℕ) → isRead (readBranch ws) ≡ true
+    → (low (getD ws 0 0) ≡ patternCount (getD ws 0 0)) × (low (getD ws 0 0) ≤ mostPatterns)
+unfolding readBranch
+patterns-low ws h =
+    let w = getD ws 0 0 in
+    let a = cond-none (eqb (patternCount w) 0) _ _ (gives noBranch (readBranch ws) h) in
+    let c = count-low (eqb (kind w) branchKind) (leb (low w) mostPatterns) (low w) (a .0) in
+    (sym (c .0), leb-true (low w) mostPatterns (c .1))
 
 -- ---- the parts of a branch, as they are lent
 -- the terms of n patterns, as they are lent

@@ -30,12 +30,20 @@ pub fn pattern_count(p: &[u32]) -> usize
     words::wide(count_in(p, PlanWord::BRANCH, MOST_PATTERNS))
 }
 
+// The patterns of a branch that was read, which its first word names: its kind and their number are right.
+fn patterns_read(p: &[u32]) -> usize
+    requires { ⌜ isRead (readBranch (now p)) ≡ true ⌝ }
+    ensures { λ r. ⌜ (r ≡ patternCount (getD (now (p .entry)) 0 0)) × (r ≤ mostPatterns) ⌝ }
+{
+    words::wide(PlanWord(p[0]).low())
+}
+
 // The terms of the patterns of the branch that p starts with.
 pub fn terms(p: &[u32]) -> &[u32]
     requires { ⌜ isRead (readBranch (now p)) ≡ true ⌝ }
     ensures { λ r. ⌜ now r ≡ branchIn (now (p .entry)) .terms ⌝ }
 {
-    let end = 1 + PATTERN_WIDTH * pattern_count(p);
+    let end = 1 + PATTERN_WIDTH * patterns_read(p);
     &p[1..end]
 }
 
@@ -44,7 +52,7 @@ pub fn condition_part(p: &[u32]) -> &[u32]
     requires { ⌜ isRead (readBranch (now p)) ≡ true ⌝ }
     ensures { λ r. ⌜ Gives (readCondition mostDepth (now r)) (branchIn (now (p .entry)) .condition) ⌝ }
 {
-    let end = 1 + PATTERN_WIDTH * pattern_count(p);
+    let end = 1 + PATTERN_WIDTH * patterns_read(p);
     &p[end..]
 }
 

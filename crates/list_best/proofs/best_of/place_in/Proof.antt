@@ -1,92 +1,78 @@
--- `place_in` meets its contract: the row comes before each row that was passed.
+-- `place_in` meets its contract: no row, a row that is not before the last, or one whose place is in front of it.
+use mathlib.Core.Path.{sym, _∙_}
 use native.Mathlib.Omega.{arith}
-use Rattle.list_best.proofs.BestSearching.{Placed, placed-start, placed-back, placed-front, placed-end, row-room, length-back}
+use Rattle.list_best.proofs.BestSearching.{placed-start, placed-back, placed-front, placed-end, row-room, length-back}
 use Rattle.list_best.proofs.best_of.place_in.Statement.{statement}
 use Rattle.list_best.proofs.best_of.place_in.Tie as tie
 
-abbrev Inv-loop : tie.InvT-loop
-Inv-loop vars keys row list w at₀ at = Placed vars keys row list at
+returns : tie.Need-returns
+returns c =
+    let s = c .before .before .before .before .before in
+    let z = c .if1 .taken in
+    sym z ∙ placed-end (s .pre) (placed-start (s .pre)) z
 
-abbrev μ-loop : tie.MeasureT-loop
-μ-loop vars keys row list w at₀ at = at
+sub-last : tie.Need-sub-last
+sub-last c =
+    let s = c .before .before .before .before .before in
+    omega (arith, row-room (s .pre) (placed-start (s .pre)) (let n = c .if1 .left in omega arith))
 
-loop-holds : tie.Need-loop-holds Inv-loop μ-loop
-loop-holds c =
-    let s = c .before .before .before .before in
-    placed-start (s .pre)
-
-sub-from : tie.Need-sub-from Inv-loop μ-loop
-sub-from c =
-    let l = c .before in
-    let s = l .before .before .before .before .before in
-    omega (arith, row-room (s .pre) (l .loop .inv) (omega arith))
-
-mul-comes-before : tie.Need-mul-comes-before Inv-loop μ-loop
+mul-comes-before : tie.Need-mul-comes-before
 mul-comes-before c =
-    let l = c .before in
-    let s = l .before .before .before .before .before in
-    omega (arith, row-room (s .pre) (l .loop .inv) (omega arith))
+    let s = c .before .before .before .before .before in
+    omega (arith, row-room (s .pre) (placed-start (s .pre)) (let n = c .if1 .left in omega arith))
 
-sub-comes-before : tie.Need-sub-comes-before Inv-loop μ-loop
+sub-comes-before : tie.Need-sub-comes-before
 sub-comes-before c =
-    let l = c .before in
-    let s = l .before .before .before .before .before in
-    omega (arith, row-room (s .pre) (l .loop .inv) (omega arith))
+    let s = c .before .before .before .before .before in
+    omega (arith, row-room (s .pre) (placed-start (s .pre)) (let n = c .if1 .left in omega arith))
 
-part-comes-before-start : tie.Need-part-comes-before-start Inv-loop μ-loop
+part-comes-before-start : tie.Need-part-comes-before-start
 part-comes-before-start c =
-    let l = c .before in
-    let s = l .before .before .before .before .before in
-    omega (arith, row-room (s .pre) (l .loop .inv) (omega arith))
+    let s = c .before .before .before .before .before in
+    omega (arith, row-room (s .pre) (placed-start (s .pre)) (let n = c .if1 .left in omega arith))
 
-part-comes-before-end : tie.Need-part-comes-before-end Inv-loop μ-loop
+part-comes-before-end : tie.Need-part-comes-before-end
 part-comes-before-end c = omega arith
 
-comes-before-requires : tie.Need-comes-before-requires Inv-loop μ-loop
+comes-before-requires : tie.Need-comes-before-requires
 comes-before-requires c κs =
-    let l = c .before .before in
-    let s = l .before .before .before .before .before in
-    let back = length-back (s .pre) (l .loop .inv) (omega arith) in
-    (s .pre .among, omega arith, omega arith)
+    let f = c .before in
+    let s = f .before .before .before .before .before in
+    let back = length-back (s .pre) (placed-start (s .pre)) (let n = f .if1 .left in omega arith) in
+    (s .pre .among, omega (arith, s .pre .width), omega arith)
 
-loop-less : tie.Need-loop-less Inv-loop μ-loop
-loop-less c =
-    let l = c .before .before .before .before in
-    let s = l .before .before .before .before .before in
-    omega (arith, s .pre .some, row-room (s .pre) (l .loop .inv) (omega arith))
+far-back-requires : tie.Need-far-back-requires
+far-back-requires c κs =
+    let f = c .before .before .before in
+    let s = f .before .before .before .before .before in
+    (s .pre, placed-back (s .pre) (placed-start (s .pre)) (let n = f .if1 .left in omega arith) (c .before .comes-before .ensures) (c .if2 .taken))
 
-loop-again : tie.Need-loop-again Inv-loop μ-loop
-loop-again c =
-    let l = c .before .before .before .before in
-    let s = l .before .before .before .before .before in
-    placed-back (s .pre) (l .loop .inv) (omega arith) (c .before .comes-before .ensures) (c .if1 .taken)
+near-back-requires : tie.Need-near-back-requires
+near-back-requires c κs =
+    let s = c .before .before .before .before .before .before .before .before .before in
+    (s .pre, c .far-back .ensures)
 
-returns : tie.Need-returns Inv-loop μ-loop
-returns c =
-    let l = c .before .before .before .before in
-    let s = l .before .before .before .before .before in
-    placed-front (s .pre) (l .loop .inv) (omega arith) (c .before .comes-before .ensures) (c .if1 .left)
+returns-2 : tie.Need-returns-2
+returns-2 c = c .near-back .ensures
 
-returns-2 : tie.Need-returns-2 Inv-loop μ-loop
-returns-2 c =
-    let l = c .before in
-    let s = l .before .before .before .before .before in
-    placed-end (s .pre) (l .loop .inv) (omega arith)
+returns-3 : tie.Need-returns-3
+returns-3 c =
+    let f = c .before .before .before in
+    let s = f .before .before .before .before .before in
+    placed-front (s .pre) (placed-start (s .pre)) (let n = f .if1 .left in omega arith) (c .before .comes-before .ensures) (c .if2 .left)
 
 pub place-in-spec : {M : Type 1} → statement M
 place-in-spec =
     tie.close
     (tie.spec
-    Inv-loop
-    μ-loop
-    loop-holds
-    sub-from
+    returns
+    sub-last
     mul-comes-before
     sub-comes-before
     part-comes-before-start
     part-comes-before-end
     comes-before-requires
-    loop-less
-    loop-again
-    returns
-    returns-2)
+    far-back-requires
+    near-back-requires
+    returns-2
+    returns-3)

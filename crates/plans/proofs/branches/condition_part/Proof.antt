@@ -5,8 +5,8 @@ use Rattle.plans.proofs.BranchRead.{branch-room, condition-in}
 use Rattle.plans.proofs.branches.condition_part.Statement.{statement}
 use Rattle.plans.proofs.branches.condition_part.Tie as tie
 
-pattern-count-requires : tie.Need-pattern-count-requires
-pattern-count-requires c κs = search needs
+patterns-read-requires : tie.Need-patterns-read-requires
+patterns-read-requires c κs = search needs
 
 mul-end : tie.Need-mul-end
 mul-end c = omega arith
@@ -19,14 +19,14 @@ mul-result c = omega arith
 
 sub-result : tie.Need-sub-result
 sub-result c =
-    let n = c .pattern-count in
+    let n = c .patterns-read in
     let args = c .before .before .args in
     let pre = c .before .before .pre in
     omega (arith, branch-room (args .p .now) pre (n .result) (n .ensures .0))
 
 part-result-start : tie.Need-part-result-start
 part-result-start c =
-    let n = c .pattern-count in
+    let n = c .patterns-read in
     let args = c .before .before .args in
     let pre = c .before .before .pre in
     omega (arith, branch-room (args .p .now) pre (n .result) (n .ensures .0))
@@ -36,7 +36,7 @@ part-result-end c = omega arith
 
 returns : tie.Need-returns
 returns c =
-    let n = c .before .pattern-count in
+    let n = c .before .patterns-read in
     let args = c .before .before .before .args in
     let pre = c .before .before .before .pre in
     condition-in (args .p .now) pre (n .result) (n .ensures .0)
@@ -45,7 +45,7 @@ pub condition-part-spec : {M : Type 1} → statement M
 condition-part-spec =
     tie.close
     (tie.spec
-    pattern-count-requires
+    patterns-read-requires
     mul-end
     add-end
     mul-result

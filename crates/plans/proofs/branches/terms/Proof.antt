@@ -5,8 +5,8 @@ use Rattle.plans.proofs.BranchRead.{branch-room, terms-in}
 use Rattle.plans.proofs.branches.terms.Statement.{statement}
 use Rattle.plans.proofs.branches.terms.Tie as tie
 
-pattern-count-requires : tie.Need-pattern-count-requires
-pattern-count-requires c κs = search needs
+patterns-read-requires : tie.Need-patterns-read-requires
+patterns-read-requires c κs = search needs
 
 mul-end : tie.Need-mul-end
 mul-end c = omega arith
@@ -22,14 +22,14 @@ part-result-start c = omega arith
 
 part-result-end : tie.Need-part-result-end
 part-result-end c =
-    let n = c .pattern-count in
+    let n = c .patterns-read in
     let args = c .before .before .args in
     let pre = c .before .before .pre in
     omega (arith, branch-room (args .p .now) pre (n .result) (n .ensures .0))
 
 returns : tie.Need-returns
 returns c =
-    let n = c .before .pattern-count in
+    let n = c .before .patterns-read in
     let args = c .before .before .before .args in
     let pre = c .before .before .before .pre in
     terms-in (args .p .now) pre (n .result) (n .ensures .0)
@@ -38,7 +38,7 @@ pub terms-spec : {M : Type 1} → statement M
 terms-spec =
     tie.close
     (tie.spec
-    pattern-count-requires
+    patterns-read-requires
     mul-end
     add-end
     sub-result
