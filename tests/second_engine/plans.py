@@ -87,10 +87,10 @@ def large_plan():
 # Patterns.
 
 class Draft:
-    """A plan in the making: the wood's rows and terms, and the numbers of the plan's variables."""
+    """A plan in the making: the wood's rows and terms, and the numbers of the plan's variables. Short sides have draws of their own, or there are none."""
 
-    def __init__(self, rng, rows):
-        self.rng, self.rows = rng, rows
+    def __init__(self, rng, rows, sides=None):
+        self.rng, self.rows, self.sides = rng, rows, sides
         self.terms = sorted({word for row in rows for word in row}) or [name(1), number(1), text(1)]
         self.numbers = rng.sample(range(16), 16)
         self.pool = rng.randint(2, 6)
@@ -176,7 +176,24 @@ class Draft:
         never = [plan_word(COMPARISON, UNEQUAL), same, same]
         return self.rng.choice([never, [plan_word(AND, 0)] + self.condition(variables, 2) + never])
 
+    def short_sided(self, variables):
+        """A long tree joined by "and" to a lone comparison on the right; in some, under the tree's first word, once more."""
+        rng, self.rng = self.rng, self.sides
+        try:
+            lone, nodes = self.comparison(variables), self.rng.choice([3, 9, 17, MOST_NODES - 2])
+            if nodes > 3 and self.rng.random() < .4:
+                left = [plan_word(AND, 0)] + self.sized(variables, nodes - 2, MOST_DEPTH - 2) + self.comparison(variables)
+            else:
+                left = self.sized(variables, nodes, MOST_DEPTH - 1)
+            return [plan_word(AND, 0)] + left + lone
+        finally:
+            self.rng = rng
+
     def some_condition(self, variables):
+        drawn = self.drawn_condition(variables)
+        return self.short_sided(variables) if self.sides is not None and self.sides.random() < .15 else drawn
+
+    def drawn_condition(self, variables):
         if self.felled:
             return self.felled_condition(variables)
         chance = self.rng.random()
@@ -224,10 +241,10 @@ class Draft:
         return tuple(words) if len(words) <= MOST_PLAN_WORDS else None
 
 
-def plan(rng, tables, evaluation):
+def plan(rng, tables, evaluation, sides=None):
     """A plan's words whose uncut run the evaluation finds short enough."""
     while True:
-        words = Draft(rng, rows_of(tables)).plan()
+        words = Draft(rng, rows_of(tables), sides).plan()
         try:
             if words is not None and evaluation.walk(tables, words):
                 return words

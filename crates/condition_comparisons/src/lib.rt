@@ -1,16 +1,18 @@
 // Comparisons of two terms.
+use conditions::Evaluated;
 use conditions::Truth;
-use conditions::Value;
 use conditions::negation;
 use conditions::of_test;
-use plans::COMPARISON_WORDS;
 use words::PlanWord;
 use words::Term;
 use words::value_of;
 ghost use mathlib.Core.Path.{_≡_};
+ghost use Prim.Native.Nat.{_≤_};
 ghost use lib.Dec.{ltb, leb};
+ghost use lib.ListN.{length};
+ghost use Rattle.plans.specs.Conditions.{comparisonWords};
 ghost use Rattle.conditions.specs.Truth.{kindsAre, equality, inequality, comparison};
-ghost use Rattle.conditions.specs.Values.{haveOrder, areMixed, comparisonAt};
+ghost use Rattle.conditions.specs.Values.{haveOrder, areMixed, comparisonRead};
 
 // Whether two terms are of two kinds, in that order.
 fn kinds_are(j: u32, k: u32, a: u32, b: u32) -> bool
@@ -79,19 +81,17 @@ fn compare(operator: u32, a: u32, b: u32) -> Truth
     }
 }
 
-// The value of the comparison at the start of p.
-pub fn compared(p: &[u32], bound: &[u32; 16]) -> Value
-    ensures { λ r. ⌜ r ≡ comparisonAt (now (bound .entry)) (now (p .entry)) ⌝ }
+// The comparison at the start of p evaluated: one comparison is read.
+pub fn compared(p: &[u32], bound: &[u32; 16]) -> Evaluated
+    requires { ⌜ comparisonWords ≤ length (now p) ⌝ }
+    ensures { λ r. ⌜ r ≡ comparisonRead (now (bound .entry)) (now (p .entry)) ⌝ }
 {
-    if p.len() < COMPARISON_WORDS {
-        return Value::Unread;
-    }
-    Value::Is {
+    Evaluated {
         truth: compare(
             PlanWord(p[0]).low(),
             value_of(p[1], bound),
             value_of(p[2], bound),
         ),
-        words: COMPARISON_WORDS,
+        reads: 1,
     }
 }

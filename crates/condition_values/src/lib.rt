@@ -1,71 +1,66 @@
-// The value of a condition in code: true, false or error.
+// Conditions evaluated in code: true, false or error, and how many comparisons were read.
+mod lefts;
+mod values;
+
 use condition_comparisons::compared;
+use conditions::Evaluated;
 use conditions::Truth;
-use conditions::Value;
+use conditions::is_false;
 use conditions::is_true;
-use conditions::join;
-use conditions::negation;
-use plans::MOST_DEPTH;
+pub use lefts::find_lefts;
 use plans::Node;
+use values::is_short;
+use values::joined;
+use values::negated;
 ghost use mathlib.Core.Path.{_≡_};
 ghost use mathlib.Core.Bool.{true};
-ghost use Rattle.words.specs.Bindings.{Bindings};
-ghost use Rattle.plans.specs.Conditions.{readCondition, mostDepth};
-ghost use Rattle.conditions.specs.Values.{valueAt, keepsAt};
+ghost use Rattle.conditions.specs.Truth.{keepsRow};
+ghost use Rattle.conditions.specs.Evaluated.{evaluated};
+ghost use Rattle.conditions.specs.Values.{Readable, conditionIn, leftsOf};
+ghost use Rattle.plans.specs.Conditions.{always};
 
-// The value of the condition at the start of p, at most `left` deep. Both operands of a pair are evaluated.
-pub fn evaluate(p: &[u32], left: u32, bound: &[u32; 16]) -> Value
-    ensures { λ r. ⌜ r ≡ valueAt (now (bound .entry)) (readCondition left (now (p .entry))) ⌝ }
+// The condition that p starts with, evaluated, with the words of every pair's left operand at hand. A lone comparison on the right of an "and" is
+// read first, and where it is false the left operand is skipped: nothing of it is looked at. Both orders are written out, and each call is handed parts
+// of both lists: an operand chosen by its number, or a list handed on as it is, would have each call wait for memory.
+pub fn evaluate(p: &[u32], lefts: &[u32], bound: &[u32; 16]) -> Evaluated
+    requires { ⌜ Readable (now p) ⌝ }
+    requires { ⌜ now lefts ≡ leftsOf (now p) ⌝ }
+    ensures { λ r. ⌜ r ≡ evaluated (now (bound .entry)) (conditionIn (now (p .entry))) ⌝ }
 {
-    if left == 0 {
-        return Value::Unread;
-    }
-    if p.len() == 0 {
-        return Value::Unread;
-    }
     let word = p[0];
     match plans::node_of(word) {
-        Node::Wrong => Value::Unread,
-        Node::Always => Value::Is {
+        Node::Wrong => Evaluated {
             truth: Truth::True,
-            words: 1,
+            reads: 0,
+        },
+        Node::Always => Evaluated {
+            truth: Truth::True,
+            reads: 0,
         },
         Node::Compared => compared(p, bound),
-        Node::Negated => match evaluate(&p[1..], left - 1, bound) {
-            Value::Unread => Value::Unread,
-            Value::Is { truth, words } => Value::Is {
-                truth: negation(truth),
-                words: 1 + words,
-            },
-        },
-        Node::Pair => match evaluate(&p[1..], left - 1, bound) {
-            Value::Unread => Value::Unread,
-            Value::Is { truth, words } => {
-                let skip = 1 + words;
-                match evaluate(&p[skip..], left - 1, bound) {
-                    Value::Unread => Value::Unread,
-                    Value::Is {
-                        truth: other,
-                        words: more,
-                    } => Value::Is {
-                        truth: join(word, truth, other),
-                        words: skip + more,
-                    },
+        Node::Negated => negated(evaluate(&p[1..], &lefts[1..], bound)),
+        Node::Pair => {
+            let right = 1 + words::wide(lefts[0]);
+            if is_short(word, p[right]) {
+                let lone = evaluate(&p[right..], &lefts[right..], bound);
+                let truth = lone.truth;
+                if is_false(truth) {
+                    return lone;
                 }
+                return joined(word, lone, evaluate(&p[1..], &lefts[1..], bound));
             }
-        },
+            let first = evaluate(&p[1..], &lefts[1..], bound);
+            joined(word, first, evaluate(&p[right..], &lefts[right..], bound))
+        }
     }
 }
 
-// Whether the condition at the start of p is the one that keeps every row: most plans have it.
+// Whether p starts with the condition that keeps every row: most plans have it.
 fn always(p: &[u32]) -> bool
-    ensures { λ r. ⌜ (r ≡ true → (b : Bindings) → keepsAt b (readCondition mostDepth (now (p .entry))) ≡ true) ⌝ }
+    requires { ⌜ Readable (now p) ⌝ }
+    ensures { λ r. ⌜ (r ≡ true → conditionIn (now (p .entry)) ≡ always) ⌝ }
 {
-    if p.len() == 0 {
-        return false;
-    }
-    let word = p[0];
-    match plans::node_of(word) {
+    match plans::node_of(p[0]) {
         Node::Wrong => false,
         Node::Always => true,
         Node::Compared => false,
@@ -74,15 +69,15 @@ fn always(p: &[u32]) -> bool
     }
 }
 
-// Whether the condition at the start of p is true: only then is a row kept.
-pub fn keeps(p: &[u32], bound: &[u32; 16]) -> bool
-    ensures { λ r. ⌜ r ≡ keepsAt (now (bound .entry)) (readCondition mostDepth (now (p .entry))) ⌝ }
+// Whether the condition that p starts with is true: only then is a row kept.
+pub fn keeps(p: &[u32], lefts: &[u32], bound: &[u32; 16]) -> bool
+    requires { ⌜ Readable (now p) ⌝ }
+    requires { ⌜ now lefts ≡ leftsOf (now p) ⌝ }
+    ensures { λ r. ⌜ r ≡ keepsRow (now (bound .entry)) (conditionIn (now (p .entry))) ⌝ }
 {
     if always(p) {
         return true;
     }
-    match evaluate(p, MOST_DEPTH, bound) {
-        Value::Unread => false,
-        Value::Is { truth, words } => is_true(truth),
-    }
+    let truth = evaluate(p, lefts, bound).truth;
+    is_true(truth)
 }

@@ -1,5 +1,7 @@
 pub mod ComparisonCases
 pub mod ComparisonLaws
 pub mod Reading
+pub mod Places
+pub mod Skipping
 pub mod Evaluating
 pub mod Logic

@@ -1,3 +1,4 @@
 pub mod Truth
+pub mod Evaluated
 pub mod Values
 pub mod Computing

@@ -1,28 +1,29 @@
--- What the code answers of a condition that was read: its value and its words, and whether it keeps a row; and of the pieces
--- that it is made of. Assumes nothing: these are definitions.
-use Prim.Native.Nat.{ℕ}
-use mathlib.Core.Bool.{Bool, false, cond, _||_}
-use mathlib.Core.Option.{none, some}
+-- What the code answers of a condition and of the pieces that it is made of, and where it finds them. Assumes nothing: these are definitions.
+use Prim.Native.Nat.{ℕ, _+_, _<_}
+use mathlib.Core.Path.{_≡_}
+use mathlib.Core.Bool.{Bool, true, false, cond, _&&_, _||_}
 use mathlib.Core.List.{List, [], _∷_}
 use lib.Dec.{eqb}
-use Rattle.words.specs.Words.{numberKind, textKind, kind, low, andKind}
+use lib.ListN.{getD}
+use Rattle.words.specs.Words.{numberKind, textKind, kind, low, andKind, comparisonKind}
 use Rattle.words.specs.Bindings.{Bindings, valueOf}
-use Rattle.plans.specs.Conditions.{Condition, Read, comparisonWords}
-use Rattle.conditions.specs.declared.Value.{Value}
-use Rattle.conditions.specs.declared.Value.the-variants.{Is, Unread}
+use Rattle.plans.specs.declared.Node.{Node}
+use Rattle.plans.specs.declared.Node.the-variants.{Always, Pair, Negated, Compared, Wrong}
+use Rattle.plans.specs.Conditions.{Condition, always, nodeOf, readCondition, mostDepth}
+use Rattle.plans.specs.Reading.{isRead, wordsRead, readOr}
+use Rattle.conditions.specs.declared.Evaluated.{Evaluated}
 use Rattle.conditions.specs.declared.Truth.{Truth}
-use Rattle.conditions.specs.Truth.{conjunction, disjunction, kindsAre, comparison, truthOf, keepsRow}
+use Rattle.conditions.specs.Truth.{conjunction, disjunction, kindsAre, comparison}
+use Rattle.conditions.specs.Evaluated.{isFalse}
 
--- the value of the condition that was read, with the words that it takes
-abbrev pub valueAt : Bindings → Read Condition → Value
-valueAt b none = Unread
-valueAt b (some x) = Is (truthOf b (x .0)) (x .1)
+-- ---- the condition that some words start with
+abbrev pub Readable : List ℕ → Type 0
+Readable ws = isRead (readCondition mostDepth ws) ≡ true
 
--- a row is kept where a condition was read and is true
-abbrev pub keepsAt : Bindings → Read Condition → Bool
-keepsAt b none = false
-keepsAt b (some x) = keepsRow b (x .0)
+abbrev pub conditionIn : List ℕ → Condition
+conditionIn ws = readOr always (readCondition mostDepth ws)
 
+-- ---- comparisons
 -- two terms that have an order: two numbers or two texts
 abbrev pub haveOrder : ℕ → ℕ → Bool
 haveOrder a b = kindsAre numberKind numberKind a b || kindsAre textKind textKind a b
@@ -31,13 +32,40 @@ haveOrder a b = kindsAre numberKind numberKind a b || kindsAre textKind textKind
 abbrev pub areMixed : ℕ → ℕ → Bool
 areMixed a b = kindsAre numberKind textKind a b || kindsAre textKind numberKind a b
 
+-- a comparison evaluated: its word and two terms
+abbrev pub comparisonRead : Bindings → List ℕ → Evaluated
+comparisonRead b ws = record { truth = comparison (low (getD ws 0 0)) (valueOf b (getD ws 1 0)) (valueOf b (getD ws 2 0)); reads = 1 }
+
+-- ---- pairs
 -- two truths joined by a word: kind 4 is and, another or
 abbrev pub joinedBy : ℕ → Truth → Truth → Truth
 joinedBy w a b = cond (eqb (kind w) andKind) (conjunction a b) (disjunction a b)
 
--- the value of a comparison: its word and two terms
-abbrev pub comparisonAt : Bindings → List ℕ → Value
-comparisonAt b [] = Unread
-comparisonAt b (w ∷ []) = Unread
-comparisonAt b (w ∷ l ∷ []) = Unread
-comparisonAt b (w ∷ l ∷ r ∷ ws) = Is (comparison (low w) (valueOf b l) (valueOf b r)) comparisonWords
+-- comparisons that can be added up: no slice has as many words
+abbrev pub Few : Evaluated → Type 0
+Few x = x .reads < 0x2000_0000_0000_0000
+
+-- the words of the left operand, where some words start with a pair; 0 where they do not
+abbrev pub leftUnder : Node → ℕ → ℕ
+leftUnder Always m = 0
+leftUnder Pair m = m
+leftUnder Negated m = 0
+leftUnder Compared m = 0
+leftUnder Wrong m = 0
+
+abbrev pub leftWords : List ℕ → ℕ
+leftWords [] = 0
+leftWords (w ∷ ws) = leftUnder (nodeOf w) (wordsRead (readCondition mostDepth ws))
+
+-- the same from each place of some words on: what a turn finds once in its plan
+unfoldable pub leftsOf : List ℕ → List ℕ
+leftsOf [] = []
+leftsOf (w ∷ ws) = leftWords (w ∷ ws) ∷ leftsOf ws
+
+-- whether the right operand of a pair, which starts with another word, is its short side: a comparison under "and"
+abbrev pub isShort : ℕ → ℕ → Bool
+isShort w other = eqb (kind w) andKind && eqb (kind other) comparisonKind
+
+-- whether the operand that was read first settles the pair: it is the short side, and false
+abbrev pub settles : Bool → Evaluated → Bool
+settles short x = short && isFalse (x .truth)

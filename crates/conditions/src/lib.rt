@@ -1,6 +1,7 @@
 // Truths: the three values of a condition, and the tables of and, or and not in code.
 mod truths;
 
+pub use truths::is_false;
 pub use truths::is_true;
 pub use truths::join;
 pub use truths::negation;
@@ -13,8 +14,8 @@ pub enum Truth {
     Error,
 }
 
-// The value of the condition that some words begin with, and how many words it takes; unread where they have not the form.
-pub enum Value {
-    Is { truth: Truth, words: usize },
-    Unread,
+// A condition evaluated: its value, and how many of its comparisons were read.
+pub struct Evaluated {
+    pub truth: Truth,
+    pub reads: usize,
 }

@@ -3,6 +3,7 @@ use crate::Truth;
 use words::PlanWord;
 ghost use mathlib.Core.Path.{_≡_};
 ghost use Rattle.conditions.specs.Truth.{conjunction, disjunction, negation, ofTest, isTrue};
+ghost use Rattle.conditions.specs.Evaluated.{isFalse};
 ghost use Rattle.conditions.specs.Values.{joinedBy};
 
 fn conjunction(a: Truth, b: Truth) -> Truth
@@ -66,6 +67,17 @@ pub fn is_true(truth: Truth) -> bool
     match truth {
         Truth::True => true,
         Truth::False => false,
-        Truth::Error => false,
+        Truth::Error => false, // an error keeps none
+    }
+}
+
+// Only a right operand that is false settles an "and" before its left one is read.
+pub fn is_false(truth: Truth) -> bool
+    ensures { λ r. ⌜ r ≡ isFalse truth ⌝ }
+{
+    match truth {
+        Truth::True => false,
+        Truth::False => true,
+        Truth::Error => false, // and(x, error) is false where x is
     }
 }

@@ -1,4 +1,5 @@
 pub mod Comparing
+pub mod ShortSides
 pub mod Kinds
 pub mod Orders
 pub mod States

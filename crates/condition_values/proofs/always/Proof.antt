@@ -1,20 +1,14 @@
--- `always` meets its contract: where the first word is that node, the condition is read and true whatever is bound.
+-- `always` meets its contract: where the first word is that node, the condition is it.
 use borrow.Author.Needs.{needs}
 use native.Mathlib.Omega.{arith}
-use mathlib.Core.Path.{_≡_, refl, sym}
-use mathlib.Core.Bool.{true, false}
+use mathlib.Core.Path.{_≡_, refl}
 use Rattle.words.proofs.Booleans.{absurd-true}
-use Rattle.plans.specs.Conditions.{readCondition, mostDepth}
-use Rattle.conditions.proofs.Reading.{Begins}
-use Rattle.conditions.proofs.Evaluating.{at-always, keeps-is}
+use Rattle.conditions.proofs.Evaluating.{begins-at, starts-inside, is-always}
 use Rattle.condition_values.proofs.always.Statement.{statement}
 use Rattle.condition_values.proofs.always.Tie as tie
 
-returns : tie.Need-returns
-returns c = λ e b. absurd-true e refl
-
-shared-slice-read-word : tie.Need-shared-slice-read-word
-shared-slice-read-word c = omega arith
+shared-slice-read-node-of : tie.Need-shared-slice-read-node-of
+shared-slice-read-node-of c = let s = c .before .before in omega (arith, starts-inside (s .args .p .now) 0 (s .pre))
 
 node-of-requires : tie.Need-node-of-requires
 node-of-requires c κs = search needs
@@ -34,40 +28,38 @@ enum-told-4 c = search needs
 enum-told-5 : tie.Need-enum-told-5
 enum-told-5 c = search needs
 
+returns : tie.Need-returns
+returns c = λ e. absurd-true e refl
+
 returns-2 : tie.Need-returns-2
-returns-2 c = λ e b. absurd-true e refl
+returns-2 c = λ e.
+    let n = c .before .before in
+    let s = n .before .before .before in
+    let p = s .args .p .now in
+    is-always p 0 (begins-at p 0 (starts-inside p 0 (s .pre)) (n .node-of .ensures)) (s .pre) (c .enum-told2 .given .1)
 
 returns-3 : tie.Need-returns-3
-returns-3 c = λ e b.
-    let n = c .before .before in
-    let s = n .before .before .before .before in
-    let h : Begins mostDepth (s .args .p .now) (n .node-of .result)
-    = record { deep = λ z. absurd (omega arith); there = n .before .before .if1 .left; node = n .node-of .ensures } in
-    keeps-is b (readCondition mostDepth (s .args .p .now)) _ _ (sym (at-always b h (c .enum-told2 .given .1)))
+returns-3 c = λ e. absurd-true e refl
 
 returns-4 : tie.Need-returns-4
-returns-4 c = λ e b. absurd-true e refl
+returns-4 c = λ e. absurd-true e refl
 
 returns-5 : tie.Need-returns-5
-returns-5 c = λ e b. absurd-true e refl
-
-returns-6 : tie.Need-returns-6
-returns-6 c = λ e b. absurd-true e refl
+returns-5 c = λ e. absurd-true e refl
 
 pub always-spec : {M : Type 1} → statement M
 always-spec =
     tie.close
     (tie.spec
-    returns
-    shared-slice-read-word
+    shared-slice-read-node-of
     node-of-requires
     enum-told
     enum-told-2
     enum-told-3
     enum-told-4
     enum-told-5
+    returns
     returns-2
     returns-3
     returns-4
-    returns-5
-    returns-6)
+    returns-5)

@@ -1,0 +1,39 @@
+// Values put together: what is known of a condition from its operands, and which right operand is read first.
+use conditions::Evaluated;
+use conditions::join;
+use conditions::negation;
+use words::PlanWord;
+ghost use mathlib.Core.Path.{_≡_};
+ghost use Rattle.conditions.specs.Evaluated.{negatedRead, pairRead};
+ghost use Rattle.conditions.specs.Values.{joinedBy, Few, isShort};
+
+// A condition under "not".
+pub fn negated(v: Evaluated) -> Evaluated
+    ensures { λ r. ⌜ r ≡ negatedRead v ⌝ }
+{
+    let truth = v.truth;
+    Evaluated {
+        truth: negation(truth),
+        reads: v.reads,
+    }
+}
+
+// Two conditions under a word, both read.
+pub fn joined(word: u32, first: Evaluated, second: Evaluated) -> Evaluated
+    requires { ⌜ Few first × Few second ⌝ }
+    ensures { λ r. ⌜ r ≡ pairRead (joinedBy word) first second ⌝ }
+{
+    let a = first.truth;
+    let b = second.truth;
+    Evaluated {
+        truth: join(word, a, b),
+        reads: first.reads + second.reads,
+    }
+}
+
+// Whether the right operand of a pair, which starts with another word, is its short side: a comparison under "and".
+pub fn is_short(word: u32, other: u32) -> bool
+    ensures { λ r. ⌜ r ≡ isShort word other ⌝ }
+{
+    PlanWord(word).kind() == PlanWord::AND && PlanWord(other).kind() == PlanWord::COMPARISON
+}
