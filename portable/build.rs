@@ -6,6 +6,7 @@
 //!   - plain data is copied there without being asked: each struct and enum gets `#[derive(Clone, Copy)]`, and those for C what lets Rust
 //!     compare and show them;
 //!   - crates are modules here: `crate::` and the names of the crates that a crate may use become paths to modules, all public;
+//!   - `std::` becomes a path to src/standard.rs, which has what the engine takes of Rattle's standard library;
 //!   - a function that is exported for C takes slices there, which rustc passes otherwise than Rattle does. Here it is a plain
 //!     function, and exports.rs gets one of the same name that takes addresses and lengths.
 //!
@@ -264,6 +265,7 @@ impl<'a> Source<'a> {
                 is_module || self.imported.contains(head) || SCALARS.contains(&head) || ["self", "super"].contains(&head);
             match roots.get(head) {
                 _ if head == "crate" => self.put(at, format!("crate::{own}")),
+                _ if head == "std" => self.put(at, "crate::standard".to_string()),
                 Some(_) if is_module => self.stop(at, &format!("{head} is both a module and a crate that is used")),
                 Some(root) => self.put(at, format!("{root}::{head}")),
                 None if is_known || head.starts_with(char::is_uppercase) => {}

@@ -26,6 +26,9 @@ enum { SOTJARN_KIND_NAME = 0, SOTJARN_KIND_NUMBER = 1, SOTJARN_KIND_TEXT = 2, SO
 #define SOTJARN_VARIABLE(number) SOTJARN_TERM(SOTJARN_KIND_VARIABLE, number)
 #define SOTJARN_UNBOUND UINT32_C(0xC0000000) /* in a delivered row: the variable has no value */
 
+/* A number's 30 bits are two's complement: SOTJARN_NUMBER takes one from -536870912 to 536870911, and this gives it back. */
+#define SOTJARN_NUMBER_VALUE(word) ((int32_t)(SOTJARN_TERM_VALUE(word) ^ UINT32_C(0x20000000)) - INT32_C(0x20000000))
+
 /* ---- Words of plans and states: four bits of kind, and a count or number of 28. */
 #define SOTJARN_WORD(kind, low) ((uint32_t)(kind) << 28 | ((uint32_t)(low) & UINT32_C(0x0FFFFFFF)))
 #define SOTJARN_WORD_KIND(word) ((uint32_t)(word) >> 28)
@@ -74,6 +77,13 @@ enum { SOTJARN_TOTALS_WORDS = 8 };
 static inline uint64_t sotjarn_wide(const uint32_t *words)
 {
     return (uint64_t)words[1] << 32 | words[0];
+}
+
+/* Two words of a sum, which may be below zero: two's complement, the low word first. */
+static inline int64_t sotjarn_sum(const uint32_t *words)
+{
+    uint64_t sum = sotjarn_wide(words);
+    return sum >> 63 ? -(int64_t)~sum - 1 : (int64_t)sum;
 }
 
 /* ---- Reports of making tables: two words for each dropped row, its place in the upload from 0 and a code. */
@@ -145,7 +155,7 @@ static inline const char *sotjarn_refusal_text(uint32_t refused)
         "plan",
         "a list is not one that this plan makes, or the plan delivers plain rows; merge whole lists of turns of the "
         "same plan; join the lists of a row query end to end instead",
-        "a total would pass 2^64 - 1; merge each list once; such totals no survey reaches",
+        "a count would pass 2^64 - 1, or a sum leave -2^63 to 2^63 - 1; merge each list once; such totals no survey reaches",
         "the kept buffer is too short for the merged list; lend a longer buffer: the words of both lists are always "
         "enough",
         "the length of the upload is no multiple of 3, or it has more than 65,536 rows; send three words a row, and at "

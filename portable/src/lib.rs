@@ -24,6 +24,8 @@
 #![no_std]
 #![deny(unsafe_code)]
 
+mod standard;
+
 include!(concat!(env!("OUT_DIR"), "/library/modules.rs"));
 
 pub use queues::Entry;

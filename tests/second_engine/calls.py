@@ -6,7 +6,7 @@ from inputs import state_words
 from plan_reader import Marked, read_plan, width
 from plans import Draft
 from running import TooLong
-from words import (FALLING, GROUP, MOST_VALUE, MOST_WORD, NOT, PLACE, RISING, ROWS, STATE, SURVEY, SURVEYS, TOP, UNBOUND, is_variable,
+from words import (FALLING, GROUP, MOST_VALUE, MOST_WORD, NOT, NUMBERS, PLACE, RISING, ROWS, STATE, SURVEY, SURVEYS, TOP, UNBOUND, is_variable,
                    kind, low, number, plan_word, term, two_words, variable)
 
 Open = namedtuple('Open', 'tables survey words state')
@@ -116,8 +116,8 @@ class Script:
         numbers = self.rng.choice([0, count, self.rng.randint(0, count)])
         if numbers == 0:
             return two_words(count) + [0, 0, 0, 0, UNBOUND, UNBOUND]
-        bounds = sorted(number(self.rng.choice([0, 1, 45, MOST_VALUE])) for _ in range(2))
-        total = self.rng.choice([0, 45, MOST_WORD, MOST_WORD - 1, 1 << 32, 1 << 63, (1 << 64) - 1])
+        bounds = sorted((number(self.rng.choice([0, 1, 45, -1, -5, NUMBERS - 1, -NUMBERS])) for _ in range(2)), key=self.right.value)
+        total = self.rng.choice([0, 45, -1, -5, MOST_WORD, MOST_WORD - 1, 1 << 32, -1 << 32, -1 << 62, (1 << 63) - 1, (1 << 63) - 2, -1 << 63, 1 - (1 << 63)])
         return two_words(count) + two_words(numbers) + two_words(total) + bounds
 
     def wild_list(self, pool):
@@ -277,7 +277,7 @@ class Script:
             return call._replace(made=call.made * self.rng.choice([2, 2, 12]))
         if way == 2:
             return call._replace(kept=call.kept[:call.given])
-        word = self.rng.choice([0, 1, UNBOUND, UNBOUND + 1, MOST_WORD, number(5), number(MOST_VALUE), self.some_term()])
+        word = self.rng.choice([0, 1, UNBOUND, UNBOUND + 1, MOST_WORD, number(5), number(-1), number(-NUMBERS), self.some_term()])
         words = getattr(call, field)
         if way == 3 and words and self.plan.kind == GROUP:
             at = self.rng.randrange(len(words))

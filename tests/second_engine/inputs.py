@@ -2,7 +2,7 @@
 from collections import namedtuple
 
 from plan_reader import width
-from words import NAME, NUMBER, PLACE, STATE, SURVEY, UNBOUND, VARIABLE, kind, low, plan_word, term_kind
+from words import NAME, NUMBER, PLACE, STATE, SURVEY, UNBOUND, VARIABLE, kind, low, number_value, plan_word, term_kind
 
 MOST_ROWS = 65536
 
@@ -80,13 +80,18 @@ def in_parts(plan, words):
 def split_record(record):
     """A record's keys and its totals."""
     *keys, r, r_high, n, n_high, s, s_high, least, greatest = record
-    return tuple(keys), Totals(r | r_high << 32, n | n_high << 32, s | s_high << 32, least, greatest)
+    return tuple(keys), Totals(r | r_high << 32, n | n_high << 32, signed(s | s_high << 32), least, greatest)
 
 
-def totals_right(totals):
+def signed(total):
+    """64 bits as a number that may be below zero."""
+    return total - (1 << 64) if total >> 63 else total
+
+
+def totals_right(totals, value=number_value):
     """Test 12 on a record's totals, but for what it asks of rows 0."""
     if totals.numbers > totals.rows:
         return False
     if totals.numbers == 0:
         return totals.sum == 0 and totals.least == totals.greatest == UNBOUND
-    return term_kind(totals.least) == term_kind(totals.greatest) == NUMBER and totals.least <= totals.greatest
+    return term_kind(totals.least) == term_kind(totals.greatest) == NUMBER and value(totals.least) <= value(totals.greatest)

@@ -1,9 +1,10 @@
 """Best-of lists and groups: of delivered rows, and merged."""
 from inputs import NOTHING, Totals, ascend, delivered_term, in_parts, split_record, totals_right
 from plan_reader import width
-from words import GROUP, NUMBER, ROWS, TOP, UNBOUND, term_kind, term_value, two_words
+from words import GROUP, NUMBER, ROWS, TOP, UNBOUND, number_value, term_kind, term_value, two_words
 
-MOST_TOTAL = (1 << 64) - 1
+MOST_COUNT = (1 << 64) - 1
+SUMS = 1 << 63                       # sums lie from -SUMS to SUMS - 1
 DEFAULT_BEST = 10                   # rows of a best-of list whose plan gives no number, k = 0
 
 
@@ -13,11 +14,15 @@ class Lists:
 
     def key(self, word):
         """A word's position among the values of a key: unbound first, then names, numbers, texts, each by value."""
-        return 0 if word == UNBOUND else word + 1
+        return (0, 0) if word == UNBOUND else (1 + term_kind(word), self.value(word))
+
+    def value(self, word):
+        """What a word counts for among those of its kind."""
+        return number_value(word) if term_kind(word) == NUMBER else term_value(word)
 
     def sort_key(self, plan, row):
         values = [(falling, self.key(row[plan.columns.index(v)])) for falling, v in plan.keys]
-        return tuple(-value if falling else value for falling, value in values)
+        return tuple((-kind, -value) if falling else (kind, value) for falling, (kind, value) in values)
 
     def best_count(self, plan):
         return plan.k or DEFAULT_BEST
@@ -32,7 +37,7 @@ class Lists:
     def counted(self, value):
         """The totals of one row."""
         if term_kind(value) == NUMBER:
-            return Totals(1, 1, term_value(value), value, value)
+            return Totals(1, 1, self.value(value), value, value)
         return Totals(1, 0, 0, UNBOUND, UNBOUND)
 
     def added(self, a, b):
@@ -40,7 +45,8 @@ class Lists:
             return a or b
         numbers = [t for t in (a, b) if t.numbers > 0]
         return Totals(a.rows + b.rows, a.numbers + b.numbers, self.sum(a.sum, b.sum),
-                      min((t.least for t in numbers), default=UNBOUND), max((t.greatest for t in numbers), default=UNBOUND))
+                      min((t.least for t in numbers), key=self.value, default=UNBOUND),
+                      max((t.greatest for t in numbers), key=self.value, default=UNBOUND))
 
     def sum(self, a, b):
         return a + b
@@ -86,7 +92,7 @@ class Lists:
         return not keys
 
     def record_right(self, keys, totals):
-        return (totals.rows > 0 or self.may_be_nothing(keys)) and totals_right(totals)
+        return (totals.rows > 0 or self.may_be_nothing(keys)) and totals_right(totals, self.value)
 
     def list_right(self, plan, words):
         """Test 12 on a list."""
@@ -108,7 +114,10 @@ class Lists:
         return groups
 
     def totals_fit(self, plan, kept, made):
-        return all(max(t.rows, t.numbers, t.sum) <= MOST_TOTAL for t in self.added_groups(plan, kept, made).values())
+        return all(max(t.rows, t.numbers) <= MOST_COUNT and self.sum_fits(t.sum) for t in self.added_groups(plan, kept, made).values())
+
+    def sum_fits(self, total):
+        return -SUMS <= total < SUMS
 
     def merged(self, plan, kept, made):
         if plan.kind == GROUP:

@@ -3,7 +3,7 @@ import struct
 
 from calls import Merge, Open, Turn
 from evaluation import DONE, FULL, LEAST_STATE_WORDS, Evaluation, Written, written
-from inputs import NOTHING, survey_of
+from inputs import NOTHING, in_parts, signed, split_record, survey_of
 from plan_reader import read_plan, variables_right
 from words import GROUP, MOST_WORD, NUMBER, ROWS, SURVEYS, TOP, UNBOUND, UNEQUAL, is_variable, number, term_kind, term_value
 
@@ -164,7 +164,7 @@ class RawWords(Misreading):
     calls = Turn, Merge
 
     def key(self, word):
-        return word
+        return 0, word
 
 
 class UnboundFirstFalling(Misreading):
@@ -173,7 +173,7 @@ class UnboundFirstFalling(Misreading):
     calls = Turn, Merge
 
     def sort_key(self, plan, row):
-        return tuple(-MOST_WORD if row[plan.columns.index(v)] == UNBOUND else value
+        return tuple((-MOST_WORD, 0) if row[plan.columns.index(v)] == UNBOUND else value
                      for (_, v), value in zip(plan.keys, super().sort_key(plan, row)))
 
 
@@ -183,8 +183,8 @@ class TextsBeforeNumbers(Misreading):
     calls = Turn, Merge
 
     def key(self, word):
-        kind = 0 if word == UNBOUND else (1, 3, 2, 4)[term_kind(word)]
-        return kind << 30 | term_value(word)
+        kind, value = super().key(word)
+        return {2: 3, 3: 2}.get(kind, kind), value
 
 
 class ZeroIsNone(Misreading):
@@ -232,6 +232,70 @@ class ThresholdNotAfter(Misreading):
         return not threshold or self.sort_key(plan, row) <= self.sort_key(plan, threshold)
 
 
+class BitsCompared(Misreading):
+    """a condition compares numbers by their bits, so that i-3 is above i2"""
+    def place(self, word):
+        return term_value(word)
+
+
+class BitsAsKeys(Misreading):
+    """keys order numbers by their bits, so that i-1 comes last"""
+    concerns, endings = 'calls', (TOP, GROUP)
+    calls = Turn, Merge
+
+    def key(self, word):
+        return super().key(word)[0], term_value(word)
+
+
+class LeastByBits(Misreading):
+    """least and greatest go by a number's bits"""
+    concerns, endings = 'calls', (GROUP,)
+    calls = Turn, Merge
+
+    def value(self, word):
+        return term_value(word)
+
+    def key(self, word):
+        return self.right.key(word)
+
+    def counted(self, value):
+        return self.right.counted(value)
+
+
+class SumOfBits(Misreading):
+    """a sum counts a number's bits"""
+    concerns, endings = 'calls', (GROUP,)
+    calls = (Turn,)
+
+    def counted(self, value):
+        totals = super().counted(value)
+        return totals._replace(sum=term_value(value)) if totals.numbers else totals
+
+
+class SumsUnsigned(Misreading):
+    """a sum may be up to 2^64 - 1, and is read without its sign"""
+    concerns, endings = 'calls', (GROUP,)
+    calls = (Merge,)
+
+    def added_groups(self, plan, kept, made):
+        groups = {}
+        for keys, totals in map(split_record, in_parts(plan, kept) + in_parts(plan, made)):
+            groups[keys] = self.added(groups.get(keys), totals._replace(sum=totals.sum % (1 << 64)))
+        return groups
+
+    def sum_fits(self, total):
+        return 0 <= total < 1 << 64
+
+
+class SumsWrap(Misreading):
+    """a sum that leaves its range wraps around"""
+    concerns, endings = 'calls', (GROUP,)
+    calls = (Merge,)
+
+    def sum_fits(self, total):
+        return True
+
+
 class LeastFromZero(Misreading):
     """least starts at 0"""
     concerns, endings = 'calls', (GROUP,)
@@ -248,7 +312,7 @@ class CarryDropped(Misreading):
     calls = Turn, Merge
 
     def sum(self, a, b):
-        return (a + b & MOST_WORD) | ((a >> 32) + (b >> 32)) << 32
+        return signed((a + b & MOST_WORD) | ((a >> 32) + (b >> 32) & MOST_WORD) << 32)
 
 
 class SingleFloats(Misreading):
@@ -566,8 +630,9 @@ def starts_wrong(words):
 ALL_MISREADINGS = [
     NamesOrdered, ErrorIsFalse, LeftErrorDecides, ErrorDecidesOr, ErrorDecidesAnd, KeepsErrors, NumberIsNoText, ErrorIsUnequal,
     RepeatsIgnored, EmptyAtZero, EndTooEarly, SubjectBeforeObject, BoundBefore, BranchDuplicates, AllDuplicates, RawWords,
-    UnboundFirstFalling, TextsBeforeNumbers, ZeroIsNone, ZeroIsMost, LaterPushesOut, TurnFirst, ThresholdNotAfter, LeastFromZero,
-    CarryDropped, SingleFloats, TextsCounted, NoNumberNoRow, UnboundLeftOut, NoTotal, TotalOfUnfinished, TotalOfWholeAlone, TotalFromStart,
-    TotalWithKey, NothingIsZero, NothingIsARow, NothingRefused, NothingWithKeyPasses, NothingNotMerged, FullTakesStep, FullLosesRow,
-    FullKnownGroup, FullAtOnce, DoneTakesStep, SavedEarly, BelowEnd, NumberNotCompared, NumberCut, NumberAfterPlaces, NumberBeforeShape,
-    SavedUnderZero, NineWords, NumberBeforeRoom, SixBeforeFive, EqualRowsPass, RefusalWrites]
+    UnboundFirstFalling, TextsBeforeNumbers, BitsCompared, BitsAsKeys, LeastByBits, SumOfBits, SumsUnsigned, SumsWrap, ZeroIsNone,
+    ZeroIsMost, LaterPushesOut, TurnFirst, ThresholdNotAfter, LeastFromZero, CarryDropped, SingleFloats, TextsCounted, NoNumberNoRow,
+    UnboundLeftOut, NoTotal, TotalOfUnfinished, TotalOfWholeAlone, TotalFromStart, TotalWithKey, NothingIsZero, NothingIsARow,
+    NothingRefused, NothingWithKeyPasses, NothingNotMerged, FullTakesStep, FullLosesRow, FullKnownGroup, FullAtOnce, DoneTakesStep,
+    SavedEarly, BelowEnd, NumberNotCompared, NumberCut, NumberAfterPlaces, NumberBeforeShape, SavedUnderZero, NineWords,
+    NumberBeforeRoom, SixBeforeFive, EqualRowsPass, RefusalWrites]

@@ -7,7 +7,7 @@ row, as a stand has that was clear-felled.
 from inputs import Tables, osp_key, pos_key, rows_of
 from plan_reader import MOST_DEPTH, MOST_NODES, MOST_PLAN_WORDS
 from running import TooLong
-from words import (AND, AT_LEAST, BRANCH, COMPARISON, EQUAL, FALLING, GROUP, HEAD, MOST_VALUE, NOT, OR, RISING, ROWS, TOP, TRUE,
+from words import (AND, AT_LEAST, BRANCH, COMPARISON, EQUAL, FALLING, GROUP, HEAD, MOST_VALUE, NOT, NUMBERS, OR, RISING, ROWS, TOP, TRUE,
                    UNEQUAL, is_variable, name, number, plan_word, term, term_kind, term_value, text, variable)
 
 
@@ -27,17 +27,17 @@ def stand_rows(rng, stems):
         yield name(stem), name(100), name(200 + rng.randrange(3))
         yield name(stem), name(101), rng.choice([name(300), name(301), text(7)])
         if rng.random() < .8:
-            yield name(stem), name(102), number(rng.choice([45, 310, 310, 0, 70]))
+            yield name(stem), name(102), number(rng.choice([45, 310, 310, 0, 70, -5]))
         if rng.random() < .6:
-            yield name(stem), name(103), number(rng.choice([MOST_VALUE, MOST_VALUE - 1, MOST_VALUE - 2, 900]))
+            yield name(stem), name(103), number(rng.choice([NUMBERS - 1, NUMBERS - 2, -NUMBERS, -3, 900]))
         if rng.random() < .5:
             yield name(stem), name(104), rng.choice([text(0), text(45), text(310), number(45), name(stem)])
 
 
 def mixed_rows(rng, count):
-    """Few names, numbers and texts of the same values, in every position they may have."""
+    """Few names, numbers and texts of the same values, and numbers below zero, in every position they may have."""
     for _ in range(count):
-        yield name(rng.randrange(4)), name(rng.randrange(3)), term(rng.randrange(3), rng.randrange(4))
+        yield name(rng.randrange(4)), name(rng.randrange(3)), rng.choice([term(rng.randrange(3), rng.randrange(4)), number(rng.randrange(-3, 3))])
 
 
 def graph_rows(rng, count):
@@ -51,15 +51,17 @@ def graph_rows(rng, count):
 
 def extreme_rows(rng, count):
     """The least and the greatest value of each kind."""
-    values = [0, 1, MOST_VALUE - 1, MOST_VALUE]
+    values = [0, 1, NUMBERS - 1, NUMBERS, MOST_VALUE - 1, MOST_VALUE]
     for _ in range(count):
         yield name(rng.choice(values)), name(rng.choice(values)), term(rng.choice([0, 1, 1, 2]), rng.choice(values))
 
 
 def measure_rows(rng, count):
-    """One predicate with many great numbers among texts and names, so that sums need more than a word."""
+    """One predicate with many great numbers among texts and names, above zero or below it, so that sums need more than a word."""
+    below = rng.choice([0, 0, 1, rng.random()])             # the share of numbers below zero
+    great = lambda at: at - NUMBERS if rng.random() < below else NUMBERS - 1 - at
     for at in range(count):
-        yield name(rng.randrange(count)), name(1), rng.choice([number(MOST_VALUE - at)] * 4 + [text(at % 3), name(at % 3)])
+        yield name(rng.randrange(count)), name(1), rng.choice([number(great(at))] * 4 + [text(at % 3), name(at % 3)])
         yield name(at), name(2), rng.choice([text(rng.randrange(3)), number(rng.randrange(3))])
 
 
@@ -105,7 +107,7 @@ class Draft:
         word = self.rng.choice(self.terms)
         beside = min(term_value(word) + 1, MOST_VALUE)
         return self.rng.choice([word, word, word, term(term_kind(word), beside), term(self.rng.randrange(3), term_value(word)),
-                                term(self.rng.randrange(3), self.rng.choice([0, MOST_VALUE]))])
+                                term(self.rng.randrange(3), self.rng.choice([0, NUMBERS - 1, NUMBERS, MOST_VALUE]))])
 
     def some_patterns(self, count):
         """Anything that the words allow."""

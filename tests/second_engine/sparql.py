@@ -13,8 +13,8 @@ import zipfile
 
 from inputs import Totals
 from lists import DEFAULT_BEST
-from words import (AND, COMPARISON, EQUAL, GROUP, MOST_VALUE, NAME, NOT, NUMBER, OPERATORS, ROWS, TEXT, TOP, TRUE, UNBOUND, UNEQUAL,
-                   VARIABLE, name, number, term_kind, term_value, text)
+from words import (AND, COMPARISON, EQUAL, GROUP, NAME, NOT, NUMBER, NUMBERS, OPERATORS, ROWS, TEXT, TOP, TRUE, UNBOUND, UNEQUAL,
+                   VARIABLE, name, number, number_value, term_kind, term_value, text)
 
 HERE = os.path.dirname(os.path.abspath(__file__))
 NAMES = 'http://wood/'
@@ -32,7 +32,7 @@ LIBRARIES = [
 
 def written_term(word):
     kind, value = term_kind(word), term_value(word)
-    return {NAME: f'<{NAMES}{value:010}>', NUMBER: str(value), TEXT: f'"{value:010}"', VARIABLE: f'?v{value}'}[kind]
+    return {NAME: f'<{NAMES}{value:010}>', NUMBER: str(number_value(word)), TEXT: f'"{value:010}"', VARIABLE: f'?v{value}'}[kind]
 
 
 def read_term(shown):
@@ -108,7 +108,7 @@ def measured(plan, function, number_as, other):
 def group_query(plan):
     value = f'?v{plan.measured}'
     totals = [('COUNT(*)', 'rows'), (measured(plan, 'SUM', 1, 0), 'numbers'), (measured(plan, 'SUM', value, 0), 'sum'),
-              (measured(plan, 'MIN', value, MOST_VALUE + 1), 'least'), (measured(plan, 'MAX', value, -1), 'greatest')]
+              (measured(plan, 'MIN', value, NUMBERS), 'least'), (measured(plan, 'MAX', value, -NUMBERS - 1), 'greatest')]
     by = f' GROUP BY {selected(plan.group)}' if plan.group else ''
     return f"SELECT {selected(plan.group)} {' '.join(f'({e} AS ?{n})' for e, n in totals)} {where(plan)}{by}"
 

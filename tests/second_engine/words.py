@@ -2,7 +2,8 @@
 
 NAME, NUMBER, TEXT, VARIABLE = range(4)
 UNBOUND = 0xC0000000
-MOST_VALUE = (1 << 30) - 1
+MOST_VALUE = (1 << 30) - 1   # of a name or a text; a number's 30 bits are two's complement
+NUMBERS = 1 << 29            # numbers lie from -NUMBERS to NUMBERS - 1
 MOST_WORD = (1 << 32) - 1
 
 HEAD, BRANCH, TRUE, AND, OR, NOT, COMPARISON, ROWS, TOP, RISING, FALLING, GROUP = range(1, 13)
@@ -21,7 +22,7 @@ def name(value):
 
 
 def number(value):
-    return term(NUMBER, value)
+    return term(NUMBER, value & MOST_VALUE)
 
 
 def text(value):
@@ -38,6 +39,12 @@ def term_kind(word):
 
 def term_value(word):
     return word & MOST_VALUE
+
+
+def number_value(word):
+    """What a number stands for, by its 30 bits."""
+    bits = word & MOST_VALUE
+    return bits if bits < NUMBERS else bits - (MOST_VALUE + 1)
 
 
 def is_variable(word):
@@ -57,9 +64,11 @@ def low(word):
 
 
 def shown(word):
-    return '-' if word == UNBOUND else 'nit?'[word >> 30] + str(word & MOST_VALUE)
+    if word == UNBOUND:
+        return '-'
+    return 'nit?'[word >> 30] + str(number_value(word) if term_kind(word) == NUMBER else term_value(word))
 
 
 def two_words(total):
-    """A 64-bit total as two words, low word first."""
-    return [total & MOST_WORD, total >> 32]
+    """A 64-bit total as two words, low word first; one below zero by two's complement."""
+    return [total & MOST_WORD, total >> 32 & MOST_WORD]

@@ -147,13 +147,13 @@ fn wood(stems: u32) -> TableWords {
             100 + stem.wrapping_mul(2_654_435_761) % 7,
             20 + stem.wrapping_mul(40_507) % 600,
         );
-        [[Name(stem), Name(10), Name(stand)], [Name(stem), Name(12), Number(size)]]
+        [[Name(stem), Name(10), Name(stand)], [Name(stem), Name(12), Number(size as i32)]]
     };
     TableWords::from_rows((0..stems).flat_map(stem)).expect("every value fits in 30 bits")
 }
 
 /// Stems with stand and diameter, from a diameter on.
-fn stems(least: u32) -> Branch {
+fn stems(least: i32) -> Branch {
     let condition = Condition::compare(SIZE, Comparison::AtLeast, Number(least));
     Branch::new()
         .pattern(STEM, Name(10), STAND)

@@ -35,12 +35,12 @@ pub struct Group {
     pub rows: u64,
     /// Those of them whose measured value is a number.
     pub numbers: u64,
-    /// The sum of these numbers.
-    pub sum: u64,
+    /// The sum of these numbers, which may be below zero.
+    pub sum: i64,
     /// The least of them, if there is one.
-    pub least: Option<u32>,
+    pub least: Option<i32>,
     /// The greatest of them, if there is one.
-    pub greatest: Option<u32>,
+    pub greatest: Option<i32>,
 }
 
 /// What a list holds, by the plan's ending.
@@ -65,7 +65,7 @@ fn values(words: &[u32]) -> Result<Vec<Value>, Unreadable> {
 }
 
 /// A group's least or greatest number.
-fn bound(word: u32) -> Result<Option<u32>, Unreadable> {
+fn bound(word: u32) -> Result<Option<i32>, Unreadable> {
     match Value::read(word) {
         Some(Value::Number(value)) => Ok(Some(value)),
         _ if word == UNBOUND => Ok(None),
@@ -79,7 +79,7 @@ fn group(record: &[u32]) -> Result<Group, Unreadable> {
         keys: values(keys)?,
         rows: wide(&totals[0..2]),
         numbers: wide(&totals[2..4]),
-        sum: wide(&totals[4..6]),
+        sum: wide(&totals[4..6]) as i64,
         least: bound(totals[6])?,
         greatest: bound(totals[7])?,
     })
@@ -114,6 +114,9 @@ pub fn read_rows(list: &[u32], columns: usize) -> Result<Vec<Row>, Unreadable> {
 /// let groups = read_groups(&[3, 0, 3, 0, 665, 0, 0x4000_002D, 0x4000_0136], 0)?;
 /// assert_eq!((groups[0].rows, groups[0].numbers, groups[0].sum), (3, 3, 665));
 /// assert_eq!((groups[0].least, groups[0].greatest), (Some(45), Some(310)));
+///
+/// let shrunk = read_groups(&[2, 0, 2, 0, 0xFFFF_FFFF, 0xFFFF_FFFF, 0x7FFF_FFFB, 0x4000_0004], 0)?; // i-5 and i4
+/// assert_eq!((shrunk[0].sum, shrunk[0].least, shrunk[0].greatest), (-1, Some(-5), Some(4)));
 ///
 /// let nothing = read_groups(&[0, 0, 0, 0, 0, 0, sotjarn::UNBOUND, sotjarn::UNBOUND], 0)?; // the total of a felled stand
 /// assert_eq!((nothing[0].rows, nothing[0].least, nothing[0].greatest), (0, None, None));

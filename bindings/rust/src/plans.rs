@@ -42,10 +42,7 @@ impl Words {
     /// Adds a plan word.
     fn word(mut self, kind: u32, count: usize) -> Words {
         if count >> COUNT_BITS != 0 {
-            self.fault(TooLarge {
-                value: count as u64,
-                bits: COUNT_BITS,
-            });
+            self.fault(TooLarge::of_bits(count as u64, COUNT_BITS));
         }
         self.words.push(kind << COUNT_BITS | count as u32 & ((1 << COUNT_BITS) - 1));
         self
@@ -291,9 +288,9 @@ impl PlanBuilder {
 /// ```
 /// use sotjarn::{Branch, Plan, Term, Variable};
 ///
-/// let large = Branch::new().pattern(Variable(0), Term::Name(10), Term::Number(1 << 30));
+/// let large = Branch::new().pattern(Variable(0), Term::Name(10), Term::Number(1 << 29));
 /// let fault = Plan::builder().branch(large).rows([Variable(0)]).unwrap_err();
-/// assert_eq!(fault.to_string(), "1073741824 does not fit in 30 bits: the greatest value is 1073741823");
+/// assert_eq!(fault.to_string(), "536870912 does not fit in its word: give a value from -536870912 to 536870911");
 ///
 /// let no_patterns = Plan::builder().branch(Branch::new()).rows([Variable(16)]);
 /// assert!(no_patterns.is_ok()); // opening it is refused by 5

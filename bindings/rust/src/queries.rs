@@ -88,7 +88,7 @@ impl<'a> Query<'a> {
     /// use sotjarn::Term::{Name, Number};
     /// use sotjarn::{Branch, Kept, Plan, Query, TableWords, Variable};
     ///
-    /// let wood = TableWords::from_rows([[1, 45], [2, 310], [3, 310]].map(|[stem, size]| [Name(stem), Name(12), Number(size)]))?;
+    /// let wood = TableWords::from_rows([(1, 45), (2, 310), (3, 310)].map(|(stem, size)| [Name(stem), Name(12), Number(size)]))?;
     /// let size = Variable(1);
     /// let plan = Plan::builder().branch(Branch::new().pattern(Variable(0), Name(12), size)).group([], size)?;
     ///

@@ -42,7 +42,7 @@ pub enum Refusal {
     Threshold = 11,
     /// Merge: a list that no turn or merge by this plan can have made; or the plan ends in rows.
     MergedLists = 12,
-    /// Merge: a total would pass 2^64 − 1.
+    /// Merge: a count would pass 2^64 − 1, or a sum leave −2^63 to 2^63 − 1.
     Totals = 13,
     /// Merge: the kept buffer is too short for the result.
     KeptLength = 14,
@@ -119,7 +119,7 @@ impl Refusal {
             Refusal::StateNotPassed => "the query never passes through this state",
             Refusal::Threshold => "the threshold is not one row of a best-of query",
             Refusal::MergedLists => "a list is not one that this plan makes, or the plan delivers plain rows",
-            Refusal::Totals => "a total would pass 2^64 - 1",
+            Refusal::Totals => "a count would pass 2^64 - 1, or a sum leave -2^63 to 2^63 - 1",
             Refusal::KeptLength => "the kept buffer is too short for the merged list",
             Refusal::UploadLength => "the length of the upload is no multiple of 3, or it has more than 65,536 rows",
             Refusal::MadeLengths => "a buffer is too short for the tables or the report",

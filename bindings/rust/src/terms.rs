@@ -6,24 +6,31 @@ use std::fmt;
 /// The word that means unbound in a delivered row.
 pub const UNBOUND: u32 = 0xC000_0000;
 
-/// A value that a word's low bits cannot hold: 30 of them in a term, 28 in a plan word.
+/// A value that a word's low bits cannot hold: 30 of them in a term, which for a number are two's complement, and 28 in a plan word.
 #[derive(Clone, Copy, Debug, PartialEq, Eq, Hash)]
 pub struct TooLarge {
     /// The value.
-    pub value: u64,
-    /// The low bits that it would have to fit in.
-    pub bits: u32,
+    pub value: i64,
+    /// The least value that the word can have.
+    pub least: i64,
+    /// The greatest value that the word can have.
+    pub most: i64,
+}
+
+impl TooLarge {
+    /// That a value from 0 on does not fit in so many bits.
+    pub(crate) fn of_bits(value: u64, bits: u32) -> TooLarge {
+        TooLarge {
+            value: i64::try_from(value).unwrap_or(i64::MAX),
+            least: 0,
+            most: (1 << bits) - 1,
+        }
+    }
 }
 
 impl fmt::Display for TooLarge {
     fn fmt(&self, f: &mut fmt::Formatter<'_>) -> fmt::Result {
-        write!(
-            f,
-            "{} does not fit in {} bits: the greatest value is {}",
-            self.value,
-            self.bits,
-            (1u64 << self.bits) - 1
-        )
+        write!(f, "{} does not fit in its word: give a value from {} to {}", self.value, self.least, self.most)
     }
 }
 
@@ -36,22 +43,26 @@ pub struct Variable(pub u32);
 
 /// A term: a name, a whole number, a text, or in a plan a variable. Names and texts are the dictionary's numbers.
 ///
-/// Any u32 can be put in; [`Term::word`] refuses what 30 bits do not hold.
+/// Anything can be put in; [`Term::word`] refuses what 30 bits do not hold. A number lies from −536,870,912 to 536,870,911, and its bits are
+/// two's complement.
 ///
 /// ```
 /// use sotjarn::{Term, Variable};
 ///
 /// assert_eq!(Term::Number(310).word(), Ok(0x4000_0136));
+/// assert_eq!(Term::Number(-3).word(), Ok(0x7FFF_FFFD));
+/// assert_eq!(Term::Number(-3).to_string(), "i-3");
 /// assert_eq!(Term::from(Variable(1)).word(), Ok(0xC000_0001));
 /// assert_eq!(Term::Text(7).to_string(), "t7");
 /// assert!(Term::Name(1 << 30).word().is_err());
+/// assert!(Term::Number(1 << 29).word().is_err());
 /// ```
 #[derive(Clone, Copy, Debug, PartialEq, Eq, Hash)]
 pub enum Term {
     /// A name (an IRI).
     Name(u32),
-    /// A whole number.
-    Number(u32),
+    /// A whole number, which may be below zero.
+    Number(i32),
     /// A text.
     Text(u32),
     /// A variable in a plan.
@@ -67,29 +78,50 @@ impl Term {
 
     pub(crate) const VALUE_BITS: u32 = 30;
 
-    /// Its word, unless the value is above 30 bits.
+    const VALUES: u32 = 1 << Term::VALUE_BITS;
+
+    /// The number after the greatest; the least is this below zero.
+    const NUMBERS: i32 = 1 << (Term::VALUE_BITS - 1);
+
+    /// Its word, unless 30 bits do not hold the value.
     pub fn word(self) -> Result<u32, TooLarge> {
-        let (kind, value) = match self {
-            Term::Name(value) => (Term::NAME, value),
-            Term::Number(value) => (Term::NUMBER, value),
-            Term::Text(value) => (Term::TEXT, value),
-            Term::Variable(Variable(number)) => (Term::VARIABLE, number),
-        };
-        if value >> Term::VALUE_BITS != 0 {
-            return Err(TooLarge {
-                value: value.into(),
-                bits: Term::VALUE_BITS,
-            });
+        match self {
+            Term::Name(value) => Term::with_kind(Term::NAME, value),
+            Term::Number(value) => Term::number(value),
+            Term::Text(value) => Term::with_kind(Term::TEXT, value),
+            Term::Variable(Variable(number)) => Term::with_kind(Term::VARIABLE, number),
+        }
+    }
+
+    fn with_kind(kind: u32, value: u32) -> Result<u32, TooLarge> {
+        if value >= Term::VALUES {
+            return Err(TooLarge::of_bits(value.into(), Term::VALUE_BITS));
         }
         Ok(kind << Term::VALUE_BITS | value)
     }
 
+    fn number(value: i32) -> Result<u32, TooLarge> {
+        if !(-Term::NUMBERS..Term::NUMBERS).contains(&value) {
+            return Err(TooLarge {
+                value: value.into(),
+                least: (-Term::NUMBERS).into(),
+                most: (Term::NUMBERS - 1).into(),
+            });
+        }
+        Ok(Term::NUMBER << Term::VALUE_BITS | value as u32 & (Term::VALUES - 1))
+    }
+
+    /// The number of a word's low bits.
+    fn signed(bits: u32) -> i32 {
+        ((bits << (32 - Term::VALUE_BITS)) as i32) >> (32 - Term::VALUE_BITS)
+    }
+
     /// The term of a word. Every word is one; where a row delivers the word, read it as a [`Value`] instead.
     pub fn read(word: u32) -> Term {
-        let value = word & ((1 << Term::VALUE_BITS) - 1);
+        let value = word & (Term::VALUES - 1);
         match word >> Term::VALUE_BITS {
             Term::NAME => Term::Name(value),
-            Term::NUMBER => Term::Number(value),
+            Term::NUMBER => Term::Number(Term::signed(value)),
             Term::TEXT => Term::Text(value),
             _ => Term::Variable(Variable(value)),
         }
@@ -128,7 +160,8 @@ impl fmt::Display for Term {
 /// assert_eq!(Value::read(0x4000_0136), Some(Value::Number(310)));
 /// assert_eq!(Value::read(0xC000_0000), Some(Value::Unbound));
 /// assert_eq!(Value::read(0xC000_0001), None); // a variable: no row delivers it
-/// assert!(Value::Unbound < Value::Name(5) && Value::Name(5) < Value::Number(0));
+/// assert_eq!(Value::read(0x7FFF_FFFF), Some(Value::Number(-1)));
+/// assert!(Value::Unbound < Value::Name(5) && Value::Name(5) < Value::Number(-1) && Value::Number(-1) < Value::Number(0));
 /// ```
 #[derive(Clone, Copy, Debug, PartialEq, Eq, PartialOrd, Ord, Hash)]
 pub enum Value {
@@ -136,8 +169,8 @@ pub enum Value {
     Unbound,
     /// A name (an IRI).
     Name(u32),
-    /// A whole number.
-    Number(u32),
+    /// A whole number, which may be below zero.
+    Number(i32),
     /// A text.
     Text(u32),
 }

@@ -49,7 +49,7 @@ fn run(survey: Survey, plan: &Plan, quantum: u32, output: usize) -> (Vec<(u32, T
     (turns, kept.list().expect("a list of the plan"))
 }
 
-fn row(stem: u32, size: u32) -> Vec<Value> {
+fn row(stem: u32, size: i32) -> Vec<Value> {
     vec![Value::Name(stem), Value::Number(size)]
 }
 

@@ -47,12 +47,12 @@ fn equality(a: u32, b: u32) -> Truth
     Truth::False
 }
 
-// Of two terms of one kind, the words are in the order of the values.
+// Of two terms of one kind, the places in the order of keys are in the order of the values.
 fn less(a: u32, b: u32) -> Truth
     ensures { λ r. ⌜ r ≡ inequality ltb a b ⌝ }
 {
     if have_order(a, b) {
-        return of_test(a < b);
+        return of_test(Term(a).key_rank() < Term(b).key_rank());
     }
     Truth::Error
 }
@@ -61,7 +61,7 @@ fn at_most(a: u32, b: u32) -> Truth
     ensures { λ r. ⌜ r ≡ inequality leb a b ⌝ }
 {
     if have_order(a, b) {
-        return of_test(a <= b);
+        return of_test(Term(a).key_rank() <= Term(b).key_rank());
     }
     Truth::Error
 }

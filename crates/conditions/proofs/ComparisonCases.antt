@@ -1,12 +1,13 @@
--- Comparisons by cases. Of two numbers, or of two texts, the words are in the order of the values.
-use Prim.Native.Nat.{ℕ, _/_, _%_, _<_}
+-- Comparisons by cases. Of two numbers, or of two texts, the places in the order of keys are in the order of the values.
+use Prim.Native.Nat.{ℕ, _+_, _*_, _<_}
 use native.Mathlib.Omega.{arith}
 use mathlib.Core.Path.{_≡_, refl, sym, ap, _∙_}
 use mathlib.Core.Bool.{Bool, true, false, cond, _&&_, _||_}
 use lib.Dec.{eqb, ltb, leb}
 use borrow.Author.Tests.{eqb-true, eq-eqb, ne-eqb, lt-ltb, le-ltb, le-leb, lt-leb, ltb-true, ltb-false, leb-true, leb-false}
-use Rattle.words.specs.Words.{termKind, valueRank, numberKind, textKind}
+use Rattle.words.specs.Words.{termKind, termValues, valueRank, keyRank, numberKind, textKind, variableKind}
 use Rattle.words.proofs.Booleans.{and-left, and-right}
+use Rattle.words.proofs.Ranks.{rank-bound}
 use Rattle.conditions.specs.declared.Truth.the-variants.{True, False, Error}
 use Rattle.conditions.specs.Truth.{ofTest, kindsAre, equality, inequality}
 use Rattle.conditions.specs.Values.{haveOrder, areMixed}
@@ -25,39 +26,46 @@ of-kinds j k a b e = (
   eqb-true (termKind b) k (and-right (eqb (termKind a) j) (eqb (termKind b) k) e),
 )
 
--- terms that have an order are of one kind
-pub one-kind : (a b : ℕ) → haveOrder a b ≡ true → termKind a ≡ termKind b
+-- terms that have an order are of one kind, and no variables
+pub one-kind : (a b : ℕ) → haveOrder a b ≡ true → (termKind a ≡ termKind b) × (termKind b < variableKind)
 one-kind a b e = go (kindsAre numberKind numberKind a b) refl e
   where
     go : (t : Bool) → kindsAre numberKind numberKind a b ≡ t → t || kindsAre textKind textKind a b ≡ true
-        → termKind a ≡ termKind b
-    go true p q = let h = of-kinds numberKind numberKind a b p in h .0 ∙ sym (h .1)
-    go false p q = let h = of-kinds textKind textKind a b q in h .0 ∙ sym (h .1)
+        → (termKind a ≡ termKind b) × (termKind b < variableKind)
+    go true p q = let h = of-kinds numberKind numberKind a b p in (h .0 ∙ sym (h .1), omega (arith, h .1))
+    go false p q = let h = of-kinds textKind textKind a b q in (h .0 ∙ sym (h .1), omega (arith, h .1))
 
--- words of one kind are in the order of their values
-pub less-words : (a b : ℕ) → termKind a ≡ termKind b → ltb (valueRank a) (valueRank b) ≡ ltb a b
-less-words a b e = go (ltb a b) refl
-  where
-    go : (t : Bool) → ltb a b ≡ t → ltb (valueRank a) (valueRank b) ≡ t
-    go true p = lt-ltb (valueRank a) (valueRank b) (omega (arith, ltb-true a b p))
-    go false p = le-ltb (valueRank a) (valueRank b) (omega (arith, ltb-false a b p))
+-- terms of one kind are in the order of keys as they are in the order of their kind
+module _ (a b : ℕ) (e : termKind a ≡ termKind b) (k : termKind b < variableKind) where
+  apart : (keyRank a ≡ 1 + termKind b * termValues + valueRank a) × (keyRank b ≡ 1 + termKind b * termValues + valueRank b)
+  apart = (
+    rank-bound a (omega arith) ∙ ap (λ j. 1 + j * termValues + valueRank a) e,
+    rank-bound b (omega arith),
+  )
 
-pub at-most-words : (a b : ℕ) → termKind a ≡ termKind b → leb (valueRank a) (valueRank b) ≡ leb a b
-at-most-words a b e = go (leb a b) refl
-  where
-    go : (t : Bool) → leb a b ≡ t → leb (valueRank a) (valueRank b) ≡ t
-    go true p = le-leb (valueRank a) (valueRank b) (omega (arith, leb-true a b p))
-    go false p = lt-leb (valueRank a) (valueRank b) (omega (arith, leb-false a b p))
+  pub less-ranks : ltb (valueRank a) (valueRank b) ≡ ltb (keyRank a) (keyRank b)
+  less-ranks = go (ltb (keyRank a) (keyRank b)) refl
+    where
+      go : (t : Bool) → ltb (keyRank a) (keyRank b) ≡ t → ltb (valueRank a) (valueRank b) ≡ t
+      go true p = lt-ltb (valueRank a) (valueRank b) (omega (arith, ltb-true (keyRank a) (keyRank b) p, apart .0, apart .1))
+      go false p = le-ltb (valueRank a) (valueRank b) (omega (arith, ltb-false (keyRank a) (keyRank b) p, apart .0, apart .1))
+
+  pub at-most-ranks : leb (valueRank a) (valueRank b) ≡ leb (keyRank a) (keyRank b)
+  at-most-ranks = go (leb (keyRank a) (keyRank b)) refl
+    where
+      go : (t : Bool) → leb (keyRank a) (keyRank b) ≡ t → leb (valueRank a) (valueRank b) ≡ t
+      go true p = le-leb (valueRank a) (valueRank b) (omega (arith, leb-true (keyRank a) (keyRank b) p, apart .0, apart .1))
+      go false p = lt-leb (valueRank a) (valueRank b) (omega (arith, leb-false (keyRank a) (keyRank b) p, apart .0, apart .1))
 
 -- ---- inequalities
 module _ (a b : ℕ) where
-  pub less-ordered : haveOrder a b ≡ true → inequality ltb a b ≡ ofTest (ltb a b)
+  pub less-ordered : haveOrder a b ≡ true → inequality ltb a b ≡ ofTest (ltb (keyRank a) (keyRank b))
   unfolding inequality
-  less-ordered e = rw (e, less-words a b (one-kind a b e))
+  less-ordered e = rw (e, less-ranks a b (one-kind a b e .0) (one-kind a b e .1))
 
-  pub at-most-ordered : haveOrder a b ≡ true → inequality leb a b ≡ ofTest (leb a b)
+  pub at-most-ordered : haveOrder a b ≡ true → inequality leb a b ≡ ofTest (leb (keyRank a) (keyRank b))
   unfolding inequality
-  at-most-ordered e = rw (e, at-most-words a b (one-kind a b e))
+  at-most-ordered e = rw (e, at-most-ranks a b (one-kind a b e .0) (one-kind a b e .1))
 
   pub no-order : (test : ℕ → ℕ → Bool) → haveOrder a b ≡ false → inequality test a b ≡ Error
   unfolding inequality

@@ -5,7 +5,7 @@ use mathlib.Core.Path.{_≡_, refl, sym, ap, ap₂, _∙_}
 use mathlib.Core.Bool.{Bool, true, false, cond, _||_, and-comm, or-comm}
 use lib.Dec.{eqb, ltb, leb}
 use borrow.Author.Tests.{eqb-true, eqb-false, eq-eqb, ne-eqb, le-leb, lt-leb, ltb-true, ltb-false}
-use Rattle.words.specs.Words.{termKind, nameKind, numberKind, textKind, equalTo, unequalTo, lessThan, atMost, greaterThan, atLeast}
+use Rattle.words.specs.Words.{termKind, keyRank, nameKind, numberKind, textKind, equalTo, unequalTo, lessThan, atMost, greaterThan, atLeast}
 use Rattle.conditions.specs.declared.Truth.{Truth}
 use Rattle.conditions.specs.declared.Truth.the-variants.{True, False, Error}
 use Rattle.conditions.specs.Truth.{negation, ofTest, kindsAre, equality, inequality, comparison}
@@ -24,6 +24,13 @@ pub mixed-sym : (a b : ℕ) → areMixed a b ≡ areMixed b a
 mixed-sym a b =
     ap₂ _||_ (kinds-sym numberKind textKind a b) (kinds-sym textKind numberKind a b)
     ∙ or-comm (kindsAre textKind numberKind b a) (kindsAre numberKind textKind b a)
+
+not-test : (x y : ℕ) → negation (ofTest (ltb x y)) ≡ ofTest (leb y x)
+not-test x y = go (ltb x y) refl
+  where
+    go : (t : Bool) → ltb x y ≡ t → negation (ofTest t) ≡ ofTest (leb y x)
+    go true e = ap ofTest (sym (lt-leb y x (ltb-true x y e)))
+    go false e = ap ofTest (sym (le-leb y x (ltb-false x y e)))
 
 module _ (a b : ℕ) where
   pub equality-sym : equality a b ≡ equality b a
@@ -47,13 +54,6 @@ module _ (a b : ℕ) where
   unfolding comparison
   at-least-is-at-most = refl
 
-  not-test : negation (ofTest (ltb a b)) ≡ ofTest (leb b a)
-  not-test = go (ltb a b) refl
-    where
-      go : (t : Bool) → ltb a b ≡ t → negation (ofTest t) ≡ ofTest (leb b a)
-      go true e = ap ofTest (sym (lt-leb b a (ltb-true a b e)))
-      go false e = ap ofTest (sym (le-leb b a (ltb-false a b e)))
-
   -- not before is the same or after, where there is an order; an error stays one
   pub not-less : negation (comparison lessThan a b) ≡ comparison atLeast a b
   unfolding comparison
@@ -61,7 +61,7 @@ module _ (a b : ℕ) where
     where
       go : (t : Bool) → haveOrder a b ≡ t → negation (inequality ltb a b) ≡ inequality leb b a
       go true e =
-          ap negation (less-ordered a b e) ∙ not-test ∙ sym (at-most-ordered b a (order-sym b a ∙ e))
+          ap negation (less-ordered a b e) ∙ not-test (keyRank a) (keyRank b) ∙ sym (at-most-ordered b a (order-sym b a ∙ e))
       go false e = ap negation (no-order a b ltb e) ∙ sym (no-order b a leb (order-sym b a ∙ e))
 
 pub not-at-most : (a b : ℕ) → negation (comparison atMost a b) ≡ comparison greaterThan a b

@@ -5,3 +5,4 @@ pub mod Places
 pub mod Skipping
 pub mod Evaluating
 pub mod Logic
+pub mod Former

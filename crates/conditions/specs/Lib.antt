@@ -1,4 +1,5 @@
 pub mod Truth
 pub mod Evaluated
 pub mod Values
+pub mod Former
 pub mod Computing

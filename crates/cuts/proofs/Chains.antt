@@ -12,7 +12,7 @@ use Rattle.plans.specs.Endings.{Ending, rows}
 use Rattle.plans.specs.Plans.{Plan}
 use Rattle.plans.proofs.Bounds.{EndingForm}
 use Rattle.steps.specs.Steps.{Run, after}
-use Rattle.lists.specs.Gathering.{gathered, takenInto}
+use Rattle.lists.specs.Gathering.{gathered, takenInto, rowsFit}
 use Rattle.lists.specs.Closing.{listAt}
 use Rattle.lists.proofs.TopLists.{Fine}
 use Rattle.lists.proofs.FullLists.{listsOf, deliveredBy}
@@ -48,7 +48,8 @@ done-more (y ∷ xs) x e = go (isDone (y .ending)) e (done-more xs x)
     go false f ih = ih f
 
 -- ---- pieces
--- a served turn, after some steps of the run, which goes on there: its list is made of the rows of its own steps, closed at the run's end
+-- a served turn, after some steps of the run, which goes on there: its list is made of the rows of its own steps, closed at the run's end,
+-- and these are so few that their totals fit
 pub record Piece (t : Tables) (q : Plan) (from : ℕ) (x : ServedTurn) : Type 0 where
   pub rows : List Bindings
   pub threshold : List ℕ
@@ -56,6 +57,7 @@ pub record Piece (t : Tables) (q : Plan) (from : ℕ) (x : ServedTurn) : Type 0 
   pub going : isOver (after t q from .state) ≡ false
   pub list : x .list ≡ listAt (q .ending) threshold (isOver (after t q (from + x .steps) .state)) rows
   pub fine : Fine (q .ending) (after t q from .delivered) threshold
+  pub fits : rowsFit (q .ending) rows ≡ true
   pub least : 1 ≤ x .steps
   pub most : x .steps ≤ x .quantum
 

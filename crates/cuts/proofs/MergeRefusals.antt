@@ -1,4 +1,5 @@
--- Under demand 3's premises a merge of a best-of or group query is refused only for the uncut run's totals or its list's room, by 13 or 14.
+-- A merge of a best-of or group query, where what is kept is the uncut run's and its totals fit, is refused only for the uncut run's totals up to
+-- the end of the turn or for its list's room, by 13 or 14.
 use Prim.Native.Nat.{ℕ, _+_}
 use native.Mathlib.Omega.{arith}
 use mathlib.Core.Path.{_≡_, refl, sym, _∙_, ap, ap₂, subst}
@@ -28,19 +29,16 @@ use Rattle.lists.proofs.Gatherings.{Valid, Gathering}
 use Rattle.lists.proofs.Closing.{at-valid, at-fit}
 use Rattle.turns.specs.Surveys.{Survey}
 use Rattle.turns.specs.Turns.{isOver}
-use Rattle.turns.specs.Opening.{openOf, Opens}
 use Rattle.merges.specs.Merging.{MergeInput, mergeTests, mergedWords, mergeOf}
 use Rattle.merges.specs.Refusals.{Merges}
 use Rattle.merges.proofs.Refusals.{merge-passed, merge-refusals}
-use Rattle.cuts.specs.Histories.{Event, Phone, ServedTurn, stepsIn, mergeInputOf, history, fresh}
-use Rattle.cuts.specs.Premises.{Premises}
+use Rattle.cuts.specs.Histories.{Phone, ServedTurn, stepsIn, mergeInputOf}
 use Rattle.cuts.specs.Uncut.{keptAfter, runFits, MergesLists, NotTaken, totals-pass, no-room}
 use Rattle.cuts.specs.Accepting.{Accepted}
-use Rattle.cuts.proofs.Accepting.{opening-accepts, accepted-form, accepted-gathering, accepted-values}
+use Rattle.cuts.proofs.Accepting.{accepted-form, accepted-gathering, accepted-values}
 use Rattle.cuts.proofs.Chains.{Piece, kept-going, piece-adds}
 use Rattle.cuts.proofs.Turning.{Kept}
 use Rattle.cuts.proofs.Taking.{merged-taken, next-piece}
-use Rattle.cuts.proofs.AnyCut.{fresh-keeps, history-keeps}
 
 -- the later of two lists' elements
 each-later : {A : Type 0} (P : A → Type 0) (xs ys : List A) → Each P (xs ++ ys) → Each P ys
@@ -63,7 +61,11 @@ last-two true true false d e y p q r h = absurd-true r refl
 last-two true false c d e y p q r h = absurd-true q refl
 last-two false b c d e y p q r h = absurd-true p refl
 
-module _ (v : Survey) (plan : List ℕ) (a : Accepted (v .tables) plan) (h : Phone) (k : Kept v (planOf plan) h) where
+-- the totals of the lists taken so far fit
+abbrev pub TakenFits : Survey → List ℕ → Phone → Type 0
+TakenFits v plan h = runFits (planOf plan .ending) (after (v .tables) (planOf plan) (stepsIn (h .taken))) ≡ true
+
+module _ (v : Survey) (plan : List ℕ) (a : Accepted (v .tables) plan) (h : Phone) (k : Kept v (planOf plan) h) (f : TakenFits v plan h) where
   abbrev t : Tables
   t = v .tables
 
@@ -105,7 +107,7 @@ module _ (v : Survey) (plan : List ℕ) (a : Accepted (v .tables) plan) (h : Pho
     totals-are : totalsFit (q .ending) (h .kept) (x .list) ≡ runFits (q .ending) (after t q (n + x .steps))
     totals-are =
         ap₂ (totalsFit (q .ending)) kept-is (piece .list)
-        ∙ at-fit (q .ending) (piece .threshold) over (after t q n .delivered) (piece .rows)
+        ∙ at-fit (q .ending) (piece .threshold) over (after t q n .delivered) (piece .rows) f (piece .fits)
         ∙ ap (rowsFit (q .ending)) (sym (piece .more))
 
     words-are : merged (q .ending) (h .kept) (x .list) ≡ keptAfter t q (n + x .steps)
@@ -134,26 +136,13 @@ module _ (v : Survey) (plan : List ℕ) (a : Accepted (v .tables) plan) (h : Pho
         (leb (i .given) (length (i .kept)) && (listRight (q .ending) (take (i .given) (i .kept)) && listRight (q .ending) (x .list)))
         (totalsFit (q .ending) (take (i .given) (i .kept)) (x .list)) (leb (length (mergedWords i)) (length (i .kept))) y
         (ap hasForm (a .read)) (a .variables) lists-right (fails-first y (mergeTests i) (merge-refusals i .refused y .0 e))) [
-          | inl f ↦ subst (NotTaken t q (n + x .steps) (length (h .kept ++ behind))) (sym (f .0)) (totals-pass (sym fits ∙ f .1))
-          | inr f ↦ subst (NotTaken t q (n + x .steps) (length (h .kept ++ behind))) (sym (f .0))
-              (no-room (sym fits ∙ f .1) (omega (arith, long, leb-false (length (mergedWords i)) (length (i .kept)) (f .2))))
+          | inl g ↦ subst (NotTaken t q (n + x .steps) (length (h .kept ++ behind))) (sym (g .0)) (totals-pass (sym fits ∙ g .1))
+          | inr g ↦ subst (NotTaken t q (n + x .steps) (length (h .kept ++ behind))) (sym (g .0))
+              (no-room (sym fits ∙ g .1) (omega (arith, long, leb-false (length (mergedWords i)) (length (i .kept)) (g .2))))
         ]
 
-    -- and of one that is served no total of the uncut run up to there passes 2^64 - 1
+    -- and of one that is served the totals of the uncut run up to there fit
     pub merge-fits : (words : ℕ) → mergeOf i .answer ≡ Words words → runFits (q .ending) (after t q (n + x .steps)) ≡ true
     merge-fits words e =
         let serve : Merges i = λ y f. let z : _≡_ {A = ℕ} 0 1 = cc in omega arith in
         sym totals-are ∙ ap (λ l. totalsFit (q .ending) l (x .list)) (sym given-kept) ∙ merge-passed i 13 serve
-
--- in every history under the premises
-pub refused-by-13-or-14 : (v : Survey) (plan state : List ℕ) → Opens v plan state → MergesLists (planOf plan .ending)
-    → (es : List Event) → Premises v plan (fresh (openOf v plan state)) es
-    → (x : ServedTurn) (rest : List ServedTurn) → history v plan (fresh (openOf v plan state)) es .waiting ≡ x ∷ rest
-    → (behind : List ℕ) (y : ℕ)
-    → mergeOf (mergeInputOf plan (history v plan (fresh (openOf v plan state)) es) behind x) .answer ≡ Refused y
-    → NotTaken (v .tables) (planOf plan) (stepsIn (history v plan (fresh (openOf v plan state)) es .taken) + x .steps)
-    (length (history v plan (fresh (openOf v plan state)) es .kept ++ behind)) y
-refused-by-13-or-14 v plan state o m es p x rest waits behind y e =
-    let a = opening-accepts v plan state o in
-    let h = history v plan (fresh (openOf v plan state)) es in
-    merge-refused v plan a h (history-keeps v plan a es (fresh (openOf v plan state)) (fresh-keeps v plan a state o) p) m x rest waits behind y e

@@ -18,13 +18,14 @@ use Rattle.plans.specs.Endings.{Ending, rows, top, group}
 use Rattle.plans.specs.Plans.{Plan, planOf}
 use Rattle.steps.specs.Steps.{State, Run, runFrom, after}
 use Rattle.steps.specs.Saved.{savedWords, stateWords, shapeRight, stateIn}
-use Rattle.steps.proofs.Runs.{after-state, after-rows}
+use Rattle.steps.proofs.Runs.{after-state, after-rows, from-length}
 use Rattle.steps.proofs.AcceptedStates.{loads-back}
 use Rattle.lists.specs.Gathering.{gathered}
 use Rattle.lists.specs.Closing.{listAt}
 use Rattle.lists.specs.Thresholds.{Sent}
 use Rattle.lists.proofs.TopLists.{Fine}
-use Rattle.lists.proofs.Closing.{top-at}
+use Rattle.lists.proofs.Closing.{top-at, few-fit}
+use Rattle.lists.proofs.GroupBounds.{mostRows}
 use Rattle.lists.proofs.FullLists.{deliveredBy, sent-fine}
 use Rattle.lists.proofs.Gatherings.{some-width}
 use Rattle.turns.specs.Surveys.{Survey}
@@ -36,6 +37,7 @@ use Rattle.turns.proofs.Refusals.{turn-passed}
 use Rattle.turns.proofs.AfterDone.{no-shape}
 use Rattle.turns.specs.Follows.{givenRun, turnRun}
 use Rattle.turns.proofs.Follows.{follows}
+use Rattle.turns.proofs.Limits.{turn-limits}
 use Rattle.turns.proofs.Progress.{progresses}
 use Rattle.turns.proofs.Endings.{endings}
 use Rattle.cuts.specs.Histories.{ServedTurn, Phone, servedIn, stepsIn, doneIn, turnInputOf, servedOf, afterServed}
@@ -132,6 +134,10 @@ module _ (v : Survey) (plan : List ℕ) (a : Accepted (v .tables) plan) (h : Pho
           after-rows t q n m s (running .1)
           ∙ ap (λ l. after t q n .delivered ++ l) (sym (ap (λ (r : Run). r .delivered) (run-is m)))
 
+      -- no more rows than steps, and no more of these than a quantum may have
+      few-rows : length (turnRun i .delivered) ≤ mostRows
+      few-rows = omega (arith, from-length t q (stateIn (givenState i)) m, progresses i serve .within, turn-limits i serve .most)
+
       piece : Fine (q .ending) (after t q n .delivered) threshold → Piece t q n x
       piece fine =
           record {
@@ -143,6 +149,7 @@ module _ (v : Survey) (plan : List ℕ) (a : Accepted (v .tables) plan) (h : Pho
                 follows i serve .output .front
                 ∙ ap (λ o. listAt (q .ending) threshold (isOver o) (turnRun i .delivered)) (sym new-state);
             fine = fine;
+            fits = few-fit (q .ending) (turnRun i .delivered) few-rows;
             least = progresses i serve .least;
             most = progresses i serve .within;
           }

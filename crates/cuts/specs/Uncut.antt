@@ -27,7 +27,7 @@ abbrev pub keptAfter : Tables → Plan → ℕ → List ℕ
 keptAfter t q zero = []
 keptAfter t q (suc n) = runList (q .ending) (after t q (suc n))
 
--- no total of a run's groups, each a natural number, passes 2^64 - 1
+-- the totals of a run's groups, counted as whole numbers of any size, are in the range of test 13
 abbrev pub runFits : Ending → Run → Bool
 runFits e r = rowsFit e (r .delivered)
 
@@ -37,7 +37,8 @@ pub record EndsAt (t : Tables) (q : Plan) (n : ℕ) : Type 0 where
   pub not-before : (m : ℕ) → m < n → after t q m .state ≡ none → ⊥
 
 -- why the list of a turn, which ends after so many steps of the uncut run, is not taken into a buffer of so many words. By 13: a total of
--- the run's groups up to there passes 2^64 - 1. By 14: none does, and the run's list up to there is longer than the buffer
+-- the run's groups up to there leaves its range, whatever those before and after do. By 14: none does, and the run's list up to there is longer
+-- than the buffer
 pub data NotTaken (t : Tables) (q : Plan) (steps room : ℕ) : ℕ → Type 0 where
   totals-pass : runFits (q .ending) (after t q steps) ≡ false → NotTaken t q steps room 13
   no-room : runFits (q .ending) (after t q steps) ≡ true → room < length (keptAfter t q steps) → NotTaken t q steps room 14

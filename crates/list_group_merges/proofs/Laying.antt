@@ -5,20 +5,23 @@ use native.Mathlib.Omega.{arith}
 use mathlib.Core.Path.{_≡_, sym, _∙_, ap, ap₂}
 use mathlib.Core.Bool.{true}
 use mathlib.Core.List.{List, [], _++_, append-nil, append-assoc}
+use lib.Dec.{ltb}
+use lib.IntN.{_+ℤ_}
 use lib.ListN.{length, take, drop, length-drop, take-append-drop}
 use lib.Seq.{take-all, take-length, drop-drop, length-take-le, paste}
 use Rattle.lists.specs.declared.Side.{Side}
 use Rattle.lists.specs.declared.Side.the-variants.{Before, Same, After}
 use Rattle.list_group_totals.specs.declared.Totals.{Totals}
 use Rattle.lists.specs.Groups.{totalsWidth}
-use Rattle.list_group_totals.specs.GroupTotals.{totalsIn, totalsWords, totalsBoth, bothFit}
+use Rattle.lists.specs.Sums.{longValues, sumFits, sumIn}
+use Rattle.list_group_totals.specs.GroupTotals.{totalsIn, totalsWords, totalsBoth, countsFit, bothFit}
 use Rattle.list_groups.specs.Keys.{keysFirst}
 use Rattle.lists.specs.Moves.{shifted}
 use Rattle.lists.specs.Sides.{sideBy}
 use Rattle.list_group_merges.specs.Weaving.{recordAt, pickAt, joinWords, joinFits}
 use Rattle.list_group_merges.specs.MergingGroups.{lastRecord, Lays}
 use Rattle.list_group_totals.proofs.FlatGroups.{before-them, are-they, after-them, regroup}
-use Rattle.list_group_totals.proofs.TotalsWords.{part-rest}
+use Rattle.list_group_totals.proofs.TotalsWords.{part-rest, both-counts}
 use Rattle.list_groups.proofs.PutAnswers.{lent-eight}
 use Rattle.list_group_merges.proofs.WalkSteps.{pick-some}
 
@@ -94,9 +97,13 @@ module _ (g : ℕ) (a : List ℕ) (from to : ℕ) (more : List ℕ) (h : from �
   pub both-size : length (take (to + g + totalsWidth - (to + g)) (drop (to + g) up)) ≡ totalsWidth
   both-size = ap length their ∙ t-size
 
-  pub both-fit : joinFits g r more ≡ true → bothFit (totalsIn (take (to + g + totalsWidth - (to + g)) (drop (to + g) up))) t ≡ true
+  pub both-fit : joinFits g r more ≡ true → countsFit (totalsIn (take (to + g + totalsWidth - (to + g)) (drop (to + g) up))) t ≡ true
   unfolding joinFits
-  both-fit f = ap₂ bothFit (ap totalsIn their) more-is ∙ f
+  both-fit f =
+      let a = totalsIn (drop g r) in
+      let b = totalsIn (drop g more) in
+      ap₂ countsFit (ap totalsIn their) more-is
+      ∙ both-counts (ltb (a .rows + b .rows) longValues) (ltb (a .numbers + b .numbers) longValues) (sumFits (sumIn (a .sum) +ℤ sumIn (b .sum))) f
 
   pub both-laid : (part : List ℕ) → part ≡ totalsWords (totalsBoth (totalsIn (take (to + g + totalsWidth - (to + g)) (drop (to + g) up))) t)
       → take (to + g) up ++ (part ++ drop (to + g + totalsWidth - (to + g)) (drop (to + g) up))

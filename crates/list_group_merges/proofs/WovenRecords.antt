@@ -10,7 +10,10 @@ use lib.Seq.{take-take, drop-drop, length-take-le}
 use borrow.Author.Tests.{lt-ltb}
 use Rattle.words.specs.Sequences.{parts}
 use Rattle.lists.specs.Groups.{Group, totalsWidth, pairAt, together, groupWords, groupIn}
-use Rattle.lists.specs.Gathering.{recordsIn, groupsIn, groupFits, longValues}
+use Rattle.lists.specs.Gathering.{recordsIn, groupsIn, groupFits}
+use Rattle.lists.specs.Sums.{longValues}
+use Rattle.lists.proofs.Sums.{in-fits, bits-both}
+use Rattle.list_group_totals.specs.GroupTotals.{totalsIn}
 use Rattle.list_group_merges.specs.Weaving.{recordAt, joinWords, joinFits}
 use Rattle.lists.proofs.GroupWords.{Words, words-take, words-drop, words-in-group}
 use Rattle.list_group_totals.proofs.TotalsWords.{group-split, part-rest}
@@ -82,12 +85,14 @@ pub record-fits : (g : ℕ) (r : List ℕ) → Words r → groupFits (groupIn g 
 unfolding groupIn
 record-fits g r b =
     let pair : (i : ℕ) → pairAt r i < longValues = λ i. (let l = b i in let m = b (suc i) in omega arith) in
-    rw (lt-ltb (pairAt r g) longValues (pair g), lt-ltb (pairAt r (g + 2)) longValues (pair (g + 2)), lt-ltb (pairAt r (g + 4)) longValues (pair (g + 4)))
+    rw (lt-ltb (pairAt r g) longValues (pair g), lt-ltb (pairAt r (g + 2)) longValues (pair (g + 2)), in-fits (pairAt r (g + 4)) (pair (g + 4)))
 
 -- ---- two records of one group
 pub join-words : (g : ℕ) (r s : List ℕ) → groupWords (together (groupIn g r) (groupIn g s)) ≡ joinWords g r s
 unfolding groupWords joinWords
-join-words g r s = ap₂ (λ a b. groupWords (together a b)) (group-split g r) (group-split g s)
+join-words g r s =
+    ap₂ (λ a b. groupWords (together a b)) (group-split g r) (group-split g s)
+    ∙ rw (bits-both (totalsIn (drop g r) .sum) (totalsIn (drop g s) .sum))
 
 pub join-fits : (g : ℕ) (r s : List ℕ) → groupFits (together (groupIn g r) (groupIn g s)) ≡ joinFits g r s
 unfolding joinFits

@@ -3,13 +3,13 @@ mod weave;
 
 pub use weave::merge_groups;
 
-// Two lists of groups together: the number of their records, or that a total would pass 2^64 - 1.
+// Two lists of groups together: the number of their records, or that a total would leave its range.
 pub enum Union {
     Records(usize),
     Overflows,
 }
 
-// What a merge of groups answers: the words of the merged list, that a total would pass 2^64 - 1, or that the buffer of the kept list has
+// What a merge of groups answers: the words of the merged list, that a total would leave its range, or that the buffer of the kept list has
 // no room.
 pub enum Merged {
     Words(usize),

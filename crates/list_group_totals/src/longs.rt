@@ -4,7 +4,7 @@ ghost use Prim.Native.Nat.{suc, _+_, _<_, _≤_, _%_, _/_};
 ghost use lib.Dec.{ltb};
 ghost use lib.ListN.{length, set};
 ghost use Rattle.lists.specs.Groups.{wordValues, pairAt};
-ghost use Rattle.lists.specs.Gathering.{longValues};
+ghost use Rattle.lists.specs.Sums.{longValues};
 
 // How many values a word has.
 const WORD_VALUES: u64 = 0x1_0000_0000;

@@ -1,5 +1,4 @@
 pub mod Searching
-pub mod GroupBounds
 pub mod KeySides
 pub mod RecordSteps
 pub mod GroupTesting

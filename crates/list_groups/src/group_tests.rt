@@ -35,7 +35,7 @@ fn extremes_right(t: Totals) -> bool
     if !Term(t.greatest).is_number() {
         return false;
     }
-    Term(t.least).value() <= Term(t.greatest).value()
+    Term(t.least).value_rank() <= Term(t.greatest).value_rank()
 }
 
 // The rows that a record with so many keys counts at least: with no key it may be the record of no rows.

@@ -7,6 +7,7 @@ use mathlib.Core.Bool.{Bool, true, false}
 use mathlib.Core.List.{List, [], _∷_, _++_, map, flatten, append-nil}
 use lib.Dec.{eqb}
 use lib.ListN.{length}
+use lib.IntN.{+ℤ-idr}
 use borrow.Author.Tests.{eqb-true}
 use Rattle.words.specs.Words.{unbound}
 use Rattle.words.specs.Sequences.{all, lexBefore}
@@ -17,8 +18,9 @@ use Rattle.lists.specs.Groups.{totalsWidth}
 use Rattle.lists.specs.Gathering.{gathered, merged, groupsIn, listRight, groupFits, totalsFit}
 use Rattle.lists.specs.Closing.{orNothing, closed}
 use Rattle.lists.proofs.Values.{AllValues}
-use Rattle.lists.proofs.GroupWords.{HaveKeys, groups-in-words}
-use Rattle.lists.proofs.GroupLists.{groups-in-gathered, groups-append}
+use Rattle.lists.proofs.GroupWords.{HaveKeys, wrapped, groups-in-words}
+use Rattle.lists.proofs.Wrapping.{wrapped-all, words-added}
+use Rattle.lists.proofs.GroupLists.{groups-in-any, groups-in-gathered, groups-append}
 use Rattle.lists.proofs.GroupsRight.{right-nothing}
 use Rattle.lists.proofs.GroupValid.{AllRight, words-right, groups-rights}
 
@@ -43,7 +45,7 @@ pub together-nothing : (g : Group) → together g ofNothing ≡ g
 together-nothing g =
     let p : g .rows + 0 ≡ g .rows = omega arith in
     let q : g .numbers + 0 ≡ g .numbers = omega arith in
-    let r : g .sum + 0 ≡ g .sum = omega arith in
+    let r = +ℤ-idr (g .sum) in
     let l = lesser-nothing (g .least) in
     let m = greater-nothing (g .greatest) in
     λ i. record { keys = g .keys; rows = p i; numbers = q i; sum = r i; least = l i; greatest = m i }
@@ -91,7 +93,7 @@ closed-words [] m th (b ∷ bs) = let r = one-group m b bs in rw (r .2) (some-wo
 closed-words (v ∷ vs) m th bs = refl
 
 groups-in-closed : (m : ℕ) (th : List ℕ) (bs : List Bindings)
-    → groupsIn [] (closed (group [] m) (gathered (group [] m) th bs)) ≡ closedGroups [] m bs
+    → groupsIn [] (closed (group [] m) (gathered (group [] m) th bs)) ≡ map wrapped (closedGroups [] m bs)
 groups-in-closed m th bs = ap (groupsIn []) (closed-words [] m th bs) ∙ groups-in-words [] (closedGroups [] m bs) (closed-have m bs)
 
 -- ---- taken behind the records of some rows, it is the record of all rows
@@ -114,18 +116,16 @@ added-closed : (m : ℕ) (xs ys : List Bindings) → addGroups (groupsOf [] m xs
 added-closed m xs [] = nothing-added m xs ∙ ap (closedGroups [] m) (sym (append-nil xs))
 added-closed m xs (b ∷ bs) = sym (groups-append [] m xs (b ∷ bs)) ∙ some-closed m xs b bs
 
-both-closed : (m : ℕ) (th : List ℕ) (xs ys : List Bindings)
-    → addGroups (groupsIn [] (gathered (group [] m) [] xs)) (groupsIn [] (closed (group [] m) (gathered (group [] m) th ys)))
-    ≡ closedGroups [] m (xs ++ ys)
-both-closed m th xs ys = ap₂ addGroups (groups-in-gathered [] m [] xs) (groups-in-closed m th ys) ∙ added-closed m xs ys
-
 -- as words
 pub merge-closed : (m : ℕ) (th : List ℕ) (xs ys : List Bindings)
     → merged (group [] m) (gathered (group [] m) [] xs) (closed (group [] m) (gathered (group [] m) th ys))
     ≡ closed (group [] m) (gathered (group [] m) [] (xs ++ ys))
 unfolding merged
 merge-closed m th xs ys =
-    ap (λ gs. flatten (map groupWords gs)) (both-closed m th xs ys) ∙ sym (closed-words [] m [] (xs ++ ys))
+    ap (λ gs. flatten (map groupWords gs)) (ap₂ addGroups (groups-in-any [] m [] xs) (groups-in-closed m th ys))
+    ∙ ap flatten (words-added (groupsOf [] m xs) (closedGroups [] m ys))
+    ∙ ap (λ gs. flatten (map groupWords gs)) (added-closed m xs ys)
+    ∙ sym (closed-words [] m [] (xs ++ ys))
 
 -- ---- its totals fit where those of the rows do
 pub closed-fits : (vs : List ℕ) (m : ℕ) (bs : List Bindings) → all groupFits (closedGroups vs m bs) ≡ all groupFits (groupsOf vs m bs)
@@ -135,10 +135,15 @@ closed-fits [] m (b ∷ bs) = refl
 closed-fits (v ∷ vs) m bs = refl
 
 pub fits-closed : (m : ℕ) (th : List ℕ) (xs ys : List Bindings)
+    → all groupFits (groupsOf [] m xs) ≡ true → all groupFits (groupsOf [] m ys) ≡ true
     → totalsFit (group [] m) (gathered (group [] m) [] xs) (closed (group [] m) (gathered (group [] m) th ys))
     ≡ all groupFits (groupsOf [] m (xs ++ ys))
 unfolding totalsFit
-fits-closed m th xs ys = ap (all groupFits) (both-closed m th xs ys) ∙ closed-fits [] m (xs ++ ys)
+fits-closed m th xs ys f h =
+    ap (all groupFits)
+    (ap₂ addGroups (groups-in-gathered [] m [] xs f) (groups-in-closed m th ys ∙ wrapped-all (closedGroups [] m ys) (closed-fits [] m ys ∙ h))
+    ∙ added-closed m xs ys)
+    ∙ closed-fits [] m (xs ++ ys)
 
 -- ---- test 12
 closed-rights : (m : ℕ) (bs : List Bindings) → AllValues bs → AllRight (closedGroups [] m bs)

@@ -16,6 +16,7 @@ use Rattle.lists.specs.Closing.{closed, listAt}
 use Rattle.lists.proofs.Values.{AllValues}
 use Rattle.lists.proofs.TopLists.{Fine}
 use Rattle.lists.proofs.GroupLists.{groups-in-gathered, groups-append}
+use Rattle.lists.proofs.GroupBounds.{mostRows, groups-fit}
 use Rattle.lists.proofs.ClosedGroups.{merge-closed, fits-closed, closed-right, length-closed}
 use Rattle.lists.proofs.OneRow.{gathered-nil}
 use Rattle.lists.proofs.Gatherings.{Valid, Gathering, gathering}
@@ -102,28 +103,34 @@ pub at-valid : (e : Ending) → EndingForm e → (threshold : List ℕ) (done : 
 at-valid e f threshold true bs h = closed-valid e f threshold bs h
 at-valid e f threshold false bs h = gathering e f .valid threshold bs h
 
--- ---- test 13 of two lists, the second at done or before, is that of the rows of both
-both-fit : (e : Ending) (threshold : List ℕ) (xs ys : List Bindings)
+-- ---- test 13 of two lists, the second at done or before, is that of the rows of both: the sums of either fit, so that they are read back
+both-fit : (e : Ending) (threshold : List ℕ) (xs ys : List Bindings) → rowsFit e xs ≡ true → rowsFit e ys ≡ true
     → totalsFit e (gathered e [] xs) (gathered e threshold ys) ≡ rowsFit e (xs ++ ys)
 unfolding totalsFit
-both-fit (rows vs) threshold xs ys = refl
-both-fit (top k vs keys) threshold xs ys = refl
-both-fit (group vs m) threshold xs ys =
+both-fit (rows vs) threshold xs ys f g = refl
+both-fit (top k vs keys) threshold xs ys f g = refl
+both-fit (group vs m) threshold xs ys f g =
     ap (all groupFits)
-    (ap₂ addGroups (groups-in-gathered vs m [] xs) (groups-in-gathered vs m threshold ys) ∙ sym (groups-append vs m xs ys))
+    (ap₂ addGroups (groups-in-gathered vs m [] xs f) (groups-in-gathered vs m threshold ys g) ∙ sym (groups-append vs m xs ys))
 
-closed-fit : (e : Ending) (threshold : List ℕ) (xs ys : List Bindings)
+closed-fit : (e : Ending) (threshold : List ℕ) (xs ys : List Bindings) → rowsFit e xs ≡ true → rowsFit e ys ≡ true
     → totalsFit e (gathered e [] xs) (closed e (gathered e threshold ys)) ≡ rowsFit e (xs ++ ys)
 unfolding closed
-closed-fit (rows vs) threshold xs ys = both-fit (rows vs) threshold xs ys
-closed-fit (top k vs keys) threshold xs ys = both-fit (top k vs keys) threshold xs ys
-closed-fit (group [] m) threshold xs ys = fits-closed m threshold xs ys
-closed-fit (group (v ∷ vs) m) threshold xs ys = both-fit (group (v ∷ vs) m) threshold xs ys
+closed-fit (rows vs) threshold xs ys f g = both-fit (rows vs) threshold xs ys f g
+closed-fit (top k vs keys) threshold xs ys f g = both-fit (top k vs keys) threshold xs ys f g
+closed-fit (group [] m) threshold xs ys f g = fits-closed m threshold xs ys f g
+closed-fit (group (v ∷ vs) m) threshold xs ys f g = both-fit (group (v ∷ vs) m) threshold xs ys f g
 
-pub at-fit : (e : Ending) (threshold : List ℕ) (done : Bool) (xs ys : List Bindings)
+pub at-fit : (e : Ending) (threshold : List ℕ) (done : Bool) (xs ys : List Bindings) → rowsFit e xs ≡ true → rowsFit e ys ≡ true
     → totalsFit e (gathered e [] xs) (listAt e threshold done ys) ≡ rowsFit e (xs ++ ys)
-at-fit e threshold true xs ys = closed-fit e threshold xs ys
-at-fit e threshold false xs ys = both-fit e threshold xs ys
+at-fit e threshold true xs ys f g = closed-fit e threshold xs ys f g
+at-fit e threshold false xs ys f g = both-fit e threshold xs ys f g
+
+-- the rows of a turn are so few that their totals fit
+pub few-fit : (e : Ending) (bs : List Bindings) → length bs ≤ mostRows → rowsFit e bs ≡ true
+few-fit (rows vs) bs h = refl
+few-fit (top k vs keys) bs h = refl
+few-fit (group vs m) bs h = groups-fit vs m bs h
 
 -- ---- of no rows, before done
 pub none-at : (e : Ending) (threshold : List ℕ) → listAt e threshold false [] ≡ []

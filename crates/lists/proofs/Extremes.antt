@@ -7,6 +7,7 @@ use mathlib.Core.Bool.{Bool, true, false, cond}
 use lib.Dec.{eqb, leb}
 use borrow.Author.Tests.{eqb-true, eqb-false, ne-eqb, leb-true, leb-false, le-leb, lt-leb}
 use Rattle.words.specs.Words.{isNumber, termKind, numberKind, valueRank, unbound}
+use Rattle.words.proofs.Ranks.{rank-one}
 use Rattle.lists.specs.Groups.{lesser, greater}
 
 -- ---- any choice of two words, and unbound beside it
@@ -85,7 +86,7 @@ pub number-same : (a b : ℕ) → isNumber a ≡ true → isNumber b ≡ true �
 number-same a b p q e =
     let h = eqb-true (termKind a) numberKind p in
     let k = eqb-true (termKind b) numberKind q in
-    omega arith
+    rank-one a b (h ∙ sym k) e
 
 -- beside unbound the other one stays
 pub lesser-unbound : (b : ℕ) → lesser unbound b ≡ b

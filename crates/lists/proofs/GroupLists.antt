@@ -2,16 +2,19 @@
 -- one more row adds to a list.
 use Prim.Native.Nat.{ℕ}
 use mathlib.Core.Path.{_≡_, refl, sym, _∙_, ap, ap₂}
+use mathlib.Core.Bool.{true}
 use mathlib.Core.List.{List, [], _∷_, _++_, map, map-append, flatten}
 use lib.ListN.{length, length-map}
 use Rattle.words.specs.Bindings.{Bindings, valueOf}
+use Rattle.words.specs.Sequences.{all}
 use Rattle.plans.specs.Endings.{group}
 use Rattle.lists.specs.Groups.{Group, ofRow, together, keysBefore, addBy, addAllBy, addGroups, groupsOf, groupWords}
-use Rattle.lists.specs.Gathering.{groupsIn, gathered, merged}
+use Rattle.lists.specs.Gathering.{groupsIn, gathered, merged, groupFits}
 use Rattle.words.proofs.Each.{each-map}
 use Rattle.words.proofs.Ascending.{Ascending}
 use Rattle.lists.proofs.Adding.{addAll-last}
-use Rattle.lists.proofs.GroupWords.{HaveKeys, groups-in-words}
+use Rattle.lists.proofs.GroupWords.{HaveKeys, wrapped, groups-in-words}
+use Rattle.lists.proofs.Wrapping.{wrapped-all, words-added}
 use Rattle.lists.proofs.GroupsAdded.{have-addAll, groups-ascending, groups-parts}
 
 module _ (vs : List ℕ) (m : ℕ) where
@@ -40,9 +43,14 @@ module _ (vs : List ℕ) (m : ℕ) where
 
   -- ---- as words
   -- the records that a gathered list stands for
-  pub groups-in-gathered : (th : List ℕ) (bs : List Bindings) → groupsIn vs (gathered (group vs m) th bs) ≡ groupsOf vs m bs
+  pub groups-in-any : (th : List ℕ) (bs : List Bindings) → groupsIn vs (gathered (group vs m) th bs) ≡ map wrapped (groupsOf vs m bs)
   unfolding gathered
-  groups-in-gathered th bs = groups-in-words vs (groupsOf vs m bs) (groups-have bs)
+  groups-in-any th bs = groups-in-words vs (groupsOf vs m bs) (groups-have bs)
+
+  -- where their totals fit they are those of the rows
+  pub groups-in-gathered : (th : List ℕ) (bs : List Bindings) → all groupFits (groupsOf vs m bs) ≡ true
+      → groupsIn vs (gathered (group vs m) th bs) ≡ groupsOf vs m bs
+  groups-in-gathered th bs f = groups-in-any th bs ∙ wrapped-all (groupsOf vs m bs) f
 
   -- a threshold plays no part in groups
   pub gathered-any : (th : List ℕ) (bs : List Bindings) → gathered (group vs m) th bs ≡ gathered (group vs m) [] bs
@@ -59,5 +67,6 @@ module _ (vs : List ℕ) (m : ℕ) where
       → merged (group vs m) (gathered (group vs m) [] xs) (gathered (group vs m) th ys) ≡ gathered (group vs m) [] (xs ++ ys)
   unfolding merged gathered
   merge-group xs ys th =
-      ap (λ g. flatten (map groupWords g))
-      (ap₂ addGroups (groups-in-gathered [] xs) (groups-in-gathered th ys) ∙ sym (groups-append xs ys))
+      ap (λ g. flatten (map groupWords g)) (ap₂ addGroups (groups-in-any [] xs) (groups-in-any th ys))
+      ∙ ap flatten (words-added (groupsOf vs m xs) (groupsOf vs m ys))
+      ∙ ap (λ g. flatten (map groupWords g)) (sym (groups-append xs ys))

@@ -14,15 +14,16 @@ use Rattle.plans.specs.Endings.{group}
 use Rattle.lists.specs.Groups.{Group, totalsWidth, ofRow, together, keysBefore, addBy, addAllBy, addGroups, groupsOf, groupWords}
 use Rattle.lists.specs.Gathering.{groupsIn, gathered, merged, groupRight, listRight, leastOutput}
 use Rattle.words.proofs.Each.{Each, all-each, each-all}
-use Rattle.words.proofs.EachMore.{each-mapped}
+use Rattle.words.proofs.EachMore.{each-mapped, each-weaken}
 use Rattle.lists.proofs.Records.{whole-flatten, length-flatten}
 use Rattle.words.proofs.Ascending.{Ascending, ascending-neighbours}
-use Rattle.lists.proofs.AddingKeeps.{each-addAll}
-use Rattle.lists.proofs.GroupWords.{HaveKeys, wide-words, groups-in-words, have-keys-in}
+use Rattle.lists.proofs.AddingKeeps.{each-addAll, ascending-map}
+use Rattle.lists.proofs.GroupWords.{HaveKeys, wide-words, wrapped, groups-in-words, have-keys-in}
+use Rattle.lists.proofs.Wrapping.{before-same}
 use Rattle.lists.proofs.GroupsAdded.{have-addAll, groups-ascending, neighbours-keyed}
 use Rattle.lists.proofs.GroupLists.{groups-have, groups-ascend}
 use Rattle.lists.proofs.Values.{AllValues}
-use Rattle.lists.proofs.GroupsRight.{right-together}
+use Rattle.lists.proofs.GroupsRight.{right-together, right-wrapped}
 use Rattle.lists.proofs.GroupRows.{key-values, rows-right}
 
 -- each record passes its part of the test
@@ -42,9 +43,9 @@ module _ (vs : List ℕ) (m : ℕ) where
         eq-eqb (length (flatten (map groupWords gs)) % (length vs + totalsWidth)) 0
             (whole-flatten (length vs + totalsWidth) (map groupWords gs) (wide-words (length vs) gs h)),
         groups-in-words vs gs h,
-        each-all groupRight gs r,
+        each-all groupRight (map wrapped gs) (each-mapped (λ (g : Group). groupRight g ≡ true) wrapped gs (each-weaken right-wrapped gs r)),
       )
-      (ascending-neighbours keysBefore gs a)
+      (ascending-neighbours keysBefore (map wrapped gs) (ascending-map wrapped keysBefore keysBefore before-same gs a))
 
   module _ (ws : List ℕ) (e : listRight (group vs m) ws ≡ true) where
     -- the parts of the test

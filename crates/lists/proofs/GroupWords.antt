@@ -1,5 +1,5 @@
--- Records as words: what is written is read back, record by record and list by list, and words are written back as they
--- were read.
+-- Records as words: what is written is read back, record by record and list by list, with the sums that their 64 bits stand for; and words are
+-- written back as they were read.
 use Prim.Native.Nat.{ℕ, zero, suc, _+_, _/_, _%_, _≤_, _<_}
 use native.Mathlib.Omega.{arith}
 use native.Mathlib.Decide.{decLt}
@@ -10,12 +10,14 @@ use lib.Seq.{take-at, drop-cons, getD-append-add, getD-take, getD-drop, length-t
 use Rattle.words.specs.Sequences.{parts}
 use Rattle.lists.specs.Groups.{Group, totalsWidth, wordValues, twoWords, pairAt, groupWords, groupIn}
 use Rattle.lists.specs.Gathering.{recordsIn, groupsIn}
+use Rattle.lists.specs.Sums.{sumBits, sumIn}
 use Rattle.words.proofs.Each.{Each}
+use Rattle.lists.proofs.Sums.{bits-in}
 use Rattle.lists.proofs.Records.{Wide, records-flatten, flatten-records, wide-records}
 
 -- the words after the keys
 abbrev totalWords : Group → List ℕ
-totalWords g = twoWords (g .rows) ++ (twoWords (g .numbers) ++ (twoWords (g .sum) ++ (g .least ∷ g .greatest ∷ [])))
+totalWords g = twoWords (g .rows) ++ (twoWords (g .numbers) ++ (twoWords (sumBits (g .sum)) ++ (g .least ∷ g .greatest ∷ [])))
 
 pub length-words : (g : Group) → length (groupWords g) ≡ length (g .keys) + totalsWidth
 unfolding groupWords
@@ -27,7 +29,19 @@ after-keys keys rest n i j h e =
     ap (λ k. getD (keys ++ rest) k 0) (let p : j ≡ length keys + i = omega arith in p) ∙ getD-append-add keys rest i 0
 
 -- ---- one record
-pub group-in-words : (n : ℕ) (g : Group) → length (g .keys) ≡ n → groupIn n (groupWords g) ≡ g
+-- a record with the sum that the bits of its sum stand for
+abbrev pub wrapped : Group → Group
+wrapped g =
+    record {
+      keys = g .keys;
+      rows = g .rows;
+      numbers = g .numbers;
+      sum = sumIn (sumBits (g .sum));
+      least = g .least;
+      greatest = g .greatest;
+    }
+
+pub group-in-words : (n : ℕ) (g : Group) → length (g .keys) ≡ n → groupIn n (groupWords g) ≡ wrapped g
 unfolding groupIn groupWords
 group-in-words n g h =
     let at : (i j : ℕ) → j ≡ n + i → getD (g .keys ++ totalWords g) j 0 ≡ getD (totalWords g) i 0 =
@@ -43,7 +57,8 @@ group-in-words n g h =
     let k : take n (g .keys ++ totalWords g) ≡ g .keys = take-at (g .keys) (totalWords g) n h in
     let c : pairAt (g .keys ++ totalWords g) n ≡ g .rows = omega arith in
     let m : pairAt (g .keys ++ totalWords g) (n + 2) ≡ g .numbers = omega arith in
-    let s : pairAt (g .keys ++ totalWords g) (n + 4) ≡ g .sum = omega arith in
+    let s : sumIn (pairAt (g .keys ++ totalWords g) (n + 4)) ≡ sumIn (sumBits (g .sum)) =
+    ap sumIn (let z : pairAt (g .keys ++ totalWords g) (n + 4) ≡ sumBits (g .sum) = omega arith in z) in
     λ i. record { keys = k i; rows = c i; numbers = m i; sum = s i; least = a6 i; greatest = a7 i }
 
 -- each word is one of 32 bits
@@ -86,7 +101,9 @@ unfolding groupWords groupIn
 words-in-group n ws h b =
     let low : (i : ℕ) → pairAt ws i % wordValues ≡ getD ws i 0 = λ i. (let l = b i in omega arith) in
     let high : (i : ℕ) → pairAt ws i / wordValues ≡ getD ws (suc i) 0 = λ i. (let l = b i in omega arith) in
-    rw (low n, high n, low (n + 2), high (n + 2), low (n + 4), high (n + 4), ← last-words n ws h) (take-append-drop n ws)
+    let sum : sumBits (sumIn (pairAt ws (n + 4))) ≡ pairAt ws (n + 4) =
+    bits-in (pairAt ws (n + 4)) ∙ (let l = b (n + 4) in let k = b (suc (n + 4)) in omega arith) in
+    rw (low n, high n, low (n + 2), high (n + 2), sum, low (n + 4), high (n + 4), ← last-words n ws h) (take-append-drop n ws)
 
 -- ---- lists of records
 -- records that have n keys each
@@ -97,12 +114,12 @@ pub wide-words : (n : ℕ) (gs : List Group) → HaveKeys n gs → Wide (n + tot
 wide-words n [] h = tt
 wide-words n (g ∷ gs) h = (length-words g ∙ ap (λ k. k + totalsWidth) (h .0), wide-words n gs (h .1))
 
-read-each : (n : ℕ) (gs : List Group) → HaveKeys n gs → map (groupIn n) (map groupWords gs) ≡ gs
+read-each : (n : ℕ) (gs : List Group) → HaveKeys n gs → map (groupIn n) (map groupWords gs) ≡ map wrapped gs
 read-each n [] h = refl
 read-each n (g ∷ gs) h = ap₂ _∷_ (group-in-words n g (h .0)) (read-each n gs (h .1))
 
 pub groups-in-words : (vs : List ℕ) (gs : List Group) → HaveKeys (length vs) gs
-    → groupsIn vs (flatten (map groupWords gs)) ≡ gs
+    → groupsIn vs (flatten (map groupWords gs)) ≡ map wrapped gs
 groups-in-words vs gs h =
     ap (map (groupIn (length vs)))
     (records-flatten (length vs + totalsWidth) (omega arith) (map groupWords gs) (wide-words (length vs) gs h))

@@ -5,6 +5,7 @@ use mathlib.Core.Path.{_≡_, refl, sym, _∙_, ap, ap₂}
 use mathlib.Core.Bool.{Bool, true}
 use mathlib.Core.List.{List, [], _∷_, _++_, map}
 use lib.ListN.{length, length-map}
+use lib.IntN.{+ℤ-assoc}
 use Rattle.words.specs.Words.{keyRank}
 use Rattle.words.specs.Sequences.{neighbours}
 use Rattle.words.proofs.Orders.{lex-ordered}
@@ -20,7 +21,7 @@ pub together-assoc : (a b c : Group) → together (together a b) c ≡ together 
 together-assoc a b c =
     let p : a .rows + b .rows + c .rows ≡ a .rows + (b .rows + c .rows) = omega arith in
     let q : a .numbers + b .numbers + c .numbers ≡ a .numbers + (b .numbers + c .numbers) = omega arith in
-    let r : a .sum + b .sum + c .sum ≡ a .sum + (b .sum + c .sum) = omega arith in
+    let r = +ℤ-assoc (a .sum) (b .sum) (c .sum) in
     let l = lesser-assoc (a .least) (b .least) (c .least) in
     let g = greater-assoc (a .greatest) (b .greatest) (c .greatest) in
     λ i. record { keys = a .keys; rows = p i; numbers = q i; sum = r i; least = l i; greatest = g i }

@@ -2,22 +2,26 @@
 -- one passes it.
 use Prim.Native.Nat.{ℕ, zero, suc, _≤_}
 use native.Mathlib.Omega.{arith}
-use mathlib.Core.Path.{_≡_, refl}
+use mathlib.Core.Path.{_≡_, refl, _∙_, ap, ap₂}
 use mathlib.Core.Bool.{Bool, true, false, cond, _&&_}
 use mathlib.Core.List.{List, [], _∷_}
 use lib.Dec.{eqb, leb}
 use lib.ListN.{length}
+use lib.IntN.{pos, _+ℤ_}
 use borrow.Author.Tests.{eqb-true, eqb-false, ne-eqb, leb-true, leb-false, le-leb}
 use Rattle.words.specs.Words.{isNumber, valueRank, unbound, isValue}
 use Rattle.words.specs.Sequences.{all}
 use Rattle.words.proofs.Booleans.{and-left, and-right}
 use Rattle.lists.specs.Groups.{Group, ofValue, ofNothing, lesser, greater, together}
+use Rattle.lists.specs.Sums.{isZero, sumBits, sumIn}
 use Rattle.lists.specs.Gathering.{extremesRight, leastRows, groupRight}
+use Rattle.lists.proofs.Sums.{zero-is, in-bits}
+use Rattle.lists.proofs.GroupWords.{wrapped}
 use Rattle.lists.proofs.Extremes.{lesser-unbound, greater-unbound, unbound-lesser, unbound-greater, lesser-numbers, greater-numbers}
 
 -- what the test says of a sum and of the least and the greatest number, beside the number of numbers
 pub data Extremes (g : Group) : Type 0 where
-  none : g .numbers ≡ 0 → g .sum ≡ 0 → g .least ≡ unbound → g .greatest ≡ unbound → Extremes g
+  none : g .numbers ≡ 0 → g .sum ≡ pos 0 → g .least ≡ unbound → g .greatest ≡ unbound → Extremes g
   some : 1 ≤ g .numbers → isNumber (g .least) ≡ true → isNumber (g .greatest) ≡ true
       → valueRank (g .least) ≤ valueRank (g .greatest) → Extremes g
 
@@ -25,15 +29,15 @@ pub right-extremes : (g : Group) → extremesRight g ≡ true → Extremes g
 right-extremes g e = go (eqb (g .numbers) 0) refl e
   where
     go : (b : Bool) → eqb (g .numbers) 0 ≡ b
-        → cond b (eqb (g .sum) 0 && (eqb (g .least) unbound && eqb (g .greatest) unbound))
+        → cond b (isZero (g .sum) && (eqb (g .least) unbound && eqb (g .greatest) unbound))
         (isNumber (g .least) && (isNumber (g .greatest) && leb (valueRank (g .least)) (valueRank (g .greatest)))) ≡ true
         → Extremes g
     go true p h =
-        let a = eqb (g .sum) 0 in
+        let a = isZero (g .sum) in
         let b = eqb (g .least) unbound in
         let c = eqb (g .greatest) unbound in
         let k = and-right a (b && c) h in
-        none (eqb-true (g .numbers) 0 p) (eqb-true (g .sum) 0 (and-left a (b && c) h))
+        none (eqb-true (g .numbers) 0 p) (zero-is (g .sum) (and-left a (b && c) h))
         (eqb-true (g .least) unbound (and-left b c k)) (eqb-true (g .greatest) unbound (and-right b c k))
     go false p h =
         let a = isNumber (g .least) in
@@ -47,7 +51,7 @@ right-extremes g e = go (eqb (g .numbers) 0) refl e
 pub extremes-right : (g : Group) → Extremes g → extremesRight g ≡ true
 extremes-right g (none p q r s) = rw (p, q, r, s)
 extremes-right g (some p q r s) =
-    rw (ne-eqb (g .numbers) 0 (λ e. omega arith), q, r, le-leb (valueRank (g .least)) (valueRank (g .greatest)) s)
+    rw (ne-eqb (g .numbers) 0 (λ e. omega arith), le-leb (valueRank (g .least)) (valueRank (g .greatest)) s, q, r)
 
 -- ---- of one row
 pub extremes-value : (keys : List ℕ) (x : ℕ) → Extremes (ofValue keys x)
@@ -78,7 +82,7 @@ module _ (a b : ℕ) (p : isNumber a ≡ true) (q : isNumber b ≡ true) where
 
 pub extremes-together : (g h : Group) → Extremes g → Extremes h → Extremes (together g h)
 extremes-together g h (none p q r s) (none p′ q′ r′ s′) =
-    none (omega arith) (omega arith) (rw (r, r′) (lesser-unbound unbound)) (rw (s, s′) (greater-unbound unbound))
+    none (omega arith) (ap₂ _+ℤ_ q q′) (rw (r, r′) (lesser-unbound unbound)) (rw (s, s′) (greater-unbound unbound))
 extremes-together g h (none p q r s) (some p′ q′ r′ s′) =
     let a : lesser (g .least) (h .least) ≡ h .least = rw r (lesser-unbound (h .least)) in
     let b : greater (g .greatest) (h .greatest) ≡ h .greatest = rw s (greater-unbound (h .greatest)) in
@@ -147,6 +151,17 @@ right-together g h p q =
       numbers = (let a = r .numbers in let b = s .numbers in omega arith);
       extremes = extremes-together g h (r .extremes) (s .extremes);
     })
+
+-- with the sum that its bits stand for
+extremes-wrapped : (g : Group) → Extremes g → Extremes (wrapped g)
+extremes-wrapped g (none p q r s) = none p (ap (λ z. sumIn (sumBits z)) q ∙ in-bits (pos 0) refl) r s
+extremes-wrapped g (some p q r s) = some p q r s
+
+pub right-wrapped : (g : Group) → groupRight g ≡ true → groupRight (wrapped g) ≡ true
+right-wrapped g p =
+    let r = right-is g p in
+    is-right (wrapped g)
+    (record { keys = r .keys; rows = r .rows; numbers = r .numbers; extremes = extremes-wrapped g (r .extremes) })
 
 -- ---- of no rows
 pub right-nothing : groupRight ofNothing ≡ true

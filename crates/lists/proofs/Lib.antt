@@ -7,12 +7,14 @@ pub mod Thresholds
 pub mod RowOrder
 pub mod TopLists
 pub mod Adding
+pub mod Sums
 pub mod GroupWords
 pub mod Extremes
 pub mod AddingKeeps
+pub mod Wrapping
 pub mod GroupsAdded
 pub mod GroupLists
-pub mod GroupFits
+pub mod GroupBounds
 pub mod LastRows
 pub mod Chosen
 pub mod FullLists
@@ -27,6 +29,7 @@ pub mod GroupsRight
 pub mod GroupValid
 pub mod GroupRows
 pub mod Totals
+pub mod Former
 pub mod OneRow
 pub mod NewGroups
 pub mod Room

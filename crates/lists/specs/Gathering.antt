@@ -11,6 +11,7 @@ use Rattle.words.specs.Sequences.{all, neighbours, parts}
 use Rattle.plans.specs.Endings.{Ending, rows, top, group}
 use Rattle.words.specs.Sorting.{bestBy}
 use Rattle.lists.specs.Rows.{project, rowBefore, ahead}
+use Rattle.lists.specs.Sums.{longValues, sumFits, isZero}
 use Rattle.lists.specs.Groups.{Group, totalsWidth, groupsOf, addGroups, keysBefore, groupWords, groupIn}
 
 -- ---- records
@@ -72,7 +73,7 @@ takenInto (group vs m) kept list = merged (group vs m) kept list
 abbrev pub extremesRight : Group → Bool
 extremesRight g =
     cond (eqb (g .numbers) 0)
-    (eqb (g .sum) 0 && (eqb (g .least) unbound && eqb (g .greatest) unbound))
+    (isZero (g .sum) && (eqb (g .least) unbound && eqb (g .greatest) unbound))
     (isNumber (g .least) && (isNumber (g .greatest) && leb (valueRank (g .least)) (valueRank (g .greatest))))
 
 -- the rows that a record with so many keys counts at least: with no key there is one group always, even of no rows
@@ -94,12 +95,9 @@ listRight (top k vs keys) ws =
 listRight (group vs m) ws =
     eqb (length ws % (length vs + totalsWidth)) 0 && (all groupRight (groupsIn vs ws) && neighbours keysBefore (groupsIn vs ws))
 
--- test 13: no total of a merged group passes 2^64 - 1
-abbrev pub longValues : ℕ
-longValues = 0x1_0000_0000_0000_0000
-
+-- test 13: the rows and the numbers of a merged group do not pass 2^64 - 1, and its sum is from -2^63 to 2^63 - 1
 abbrev pub groupFits : Group → Bool
-groupFits g = ltb (g .rows) longValues && (ltb (g .numbers) longValues && ltb (g .sum) longValues)
+groupFits g = ltb (g .rows) longValues && (ltb (g .numbers) longValues && sumFits (g .sum))
 
 unfoldable pub totalsFit : Ending → List ℕ → List ℕ → Bool
 totalsFit (rows vs) kept list = true

@@ -2,10 +2,12 @@ pub mod Sides
 pub mod Moves
 pub mod Putting
 pub mod Rows
+pub mod Sums
 pub mod Groups
 pub mod Gathering
 pub mod Space
 pub mod Delivering
 pub mod Closing
 pub mod Thresholds
+pub mod Former
 pub mod Computing

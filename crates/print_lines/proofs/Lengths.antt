@@ -6,27 +6,37 @@ use mathlib.Core.Bool.{Bool, true, false, cond}
 use mathlib.Core.List.{List, [], _∷_, _++_}
 use lib.ListN.{length, getD, take, length-append}
 use lib.Seq.{length-take-le}
-use Rattle.words.specs.Words.{termKind, termValue, isVariable}
+use Rattle.words.specs.Words.{termKind, termValue, isVariable, isNumber, numberValue}
+use Rattle.lists.specs.Sums.{sumIn}
 use Rattle.lists.specs.Groups.{groupIn, pairAt, totalsWidth}
 use Rattle.turns.specs.declared.TurnEnding.{TurnEnding}
 use Rattle.turns.specs.declared.TurnEnding.the-variants.{Done, Spent, Full, Refused}
-use Rattle.print_texts.specs.Texts.{Text, newline, dash, decimal, kindLetter, termText, numberField, termField, numberFields, termFields}
-use Rattle.print_texts.specs.Texts.{turnWord, stepsWord, doneWord, spentWord, fullWord}
+use Rattle.print_texts.specs.Texts.{Text, newline, dash, decimal, integerText, kindLetter, valueText, termText, numberField, integerField, termField}
+use Rattle.print_texts.specs.Texts.{numberFields, termFields, turnWord, stepsWord, doneWord, spentWord, fullWord}
 use Rattle.print_lines.specs.Lines.{rowLine, groupFields, groupLine, listLine, refusedLine, servedLine, turnLine, rowLineRoom, groupLineRoom}
 use Rattle.print_lines.specs.Lines.{turnLineRoom}
 use Rattle.print_texts.proofs.Decimals.{length-long, length-word}
+use Rattle.print_texts.proofs.Terms.{integer-word, integer-long}
 use Rattle.print_texts.proofs.Fields.{fields-most, three-length}
 use Rattle.print_lines.proofs.Records.{fields-length}
 
 -- ---- fields
--- a letter and ten digits
+-- ten digits, or a dash and nine; with the letter eleven characters
+value-most : (w : ℕ) → length (valueText w) ≤ 10
+unfolding valueText
+value-most w = go (isNumber w)
+  where
+    go : (b : Bool) → length (cond b (integerText (numberValue w)) (decimal (termValue w))) ≤ 10
+    go true = integer-word (termValue w) (omega arith)
+    go false = length-word (termValue w) (omega arith)
+
 term-most : (w : ℕ) → length (termText w) ≤ 11
 unfolding termText
 term-most w = go (isVariable w)
   where
-    go : (b : Bool) → length (cond b (dash ∷ []) (kindLetter (termKind w) ∷ decimal (termValue w))) ≤ 11
+    go : (b : Bool) → length (cond b (dash ∷ []) (kindLetter (termKind w) ∷ valueText w)) ≤ 11
     go true = omega arith
-    go false = let e = length-word (termValue w) (omega arith) in omega arith
+    go false = let e = value-most w in omega arith
 
 pub terms-most : (ws : List ℕ) → length (termFields ws) ≤ 12 * length ws
 terms-most ws = fields-most termField 12 ws (λ i. let e = term-most (getD ws i 0) in omega arith)
@@ -68,14 +78,21 @@ module _ (n : ℕ) (ws : List ℕ) (few : n ≤ 4) (whole : n + totalsWidth ≤ 
       let e = length-long (pairAt ws at) (omega arith) in
       omega arith
 
+  sum-most : (at : ℕ) → length (integerField (sumIn (pairAt ws at))) ≤ 21
+  sum-most at =
+      let low = h at in
+      let high = h (suc at) in
+      let e = integer-long (pairAt ws at) (omega arith) in
+      omega arith
+
   pub group-fields-most : length (groupFields (groupIn n ws)) ≤ 135
   group-fields-most =
       let k = terms-most (take n ws) in
       let t = length-take-le n ws (omega arith) in
       let p = pair-most n in
       let q = pair-most (n + 2) in
-      let r = pair-most (n + 4) in
-      let s = three-length numberField (pairAt ws n) (pairAt ws (n + 2)) (pairAt ws (n + 4)) in
+      let r = sum-most (n + 4) in
+      let s = three-length (numberField (pairAt ws n)) (numberField (pairAt ws (n + 2))) (integerField (sumIn (pairAt ws (n + 4)))) in
       let e = terms-most (getD ws (n + 6) 0 ∷ getD ws (n + 7) 0 ∷ []) in
       let f = fields-length n ws in
       omega arith

@@ -2,24 +2,30 @@
 -- these are definitions.
 use Prim.Native.Nat.{ℕ, _+_}
 use mathlib.Core.List.{List, [], _∷_, _++_}
+use lib.IntN.{ℤ}
+use Rattle.lists.specs.Sums.{sumIn}
 use Rattle.lists.specs.Groups.{Group, pairAt}
 use Rattle.turns.specs.declared.TurnEnding.{TurnEnding}
 use Rattle.turns.specs.declared.TurnEnding.the-variants.{Done, Spent, Full, Refused}
-use Rattle.print_texts.specs.Texts.{Text, newline, numberField, termFields, numberFields, rowWord, groupWord, listWord, turnWord, stepsWord}
-use Rattle.print_texts.specs.Texts.{doneWord, spentWord, fullWord, refusedWord}
+use Rattle.print_texts.specs.Texts.{Text, newline, numberField, integerField, termFields, numberFields, rowWord, groupWord, listWord, turnWord}
+use Rattle.print_texts.specs.Texts.{stepsWord, doneWord, spentWord, fullWord, refusedWord}
 
 -- a row: its terms
 unfoldable pub rowLine : List ℕ → Text
 rowLine ws = rowWord ++ (termFields ws ++ (newline ∷ []))
 
--- rows, numbers and sum as the words of a record with n keys have them
-abbrev pub totalsIn : ℕ → List ℕ → List ℕ
-totalsIn n ws = pairAt ws n ∷ pairAt ws (n + 2) ∷ pairAt ws (n + 4) ∷ []
+-- rows, numbers and sum, the sum with its sign
+abbrev pub totalsFields : ℕ → ℕ → ℤ → Text
+totalsFields rows numbers sum = numberField rows ++ numberField numbers ++ integerField sum
+
+-- as the words of a record with n keys have them
+abbrev pub totalsIn : ℕ → List ℕ → Text
+totalsIn n ws = totalsFields (pairAt ws n) (pairAt ws (n + 2)) (sumIn (pairAt ws (n + 4)))
 
 -- the fields of a record: keys, rows, numbers, sum, least, greatest
 unfoldable pub groupFields : Group → Text
 groupFields g =
-    termFields (g .keys) ++ numberFields (g .rows ∷ g .numbers ∷ g .sum ∷ []) ++ termFields (g .least ∷ g .greatest ∷ [])
+    termFields (g .keys) ++ totalsFields (g .rows) (g .numbers) (g .sum) ++ termFields (g .least ∷ g .greatest ∷ [])
 
 unfoldable pub groupLine : Group → Text
 groupLine g = groupWord ++ (groupFields g ++ (newline ∷ []))

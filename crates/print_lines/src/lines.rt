@@ -3,15 +3,17 @@ use print_texts::put_byte;
 use print_texts::put_bytes;
 use print_texts::put_number;
 use print_texts::put_numbers;
+use print_texts::put_sum;
 use print_texts::put_terms;
 use turns::TurnEnding;
 ghost use mathlib.Core.List.{_++_};
 ghost use Prim.Native.Nat.{_+_, _≤_};
 ghost use lib.ListN.{length};
 ghost use Rattle.plans.specs.Endings.{mostRowVariables, mostGroupVariables};
+ghost use Rattle.lists.specs.Sums.{sumIn};
 ghost use Rattle.lists.specs.Groups.{groupIn, totalsWidth, pairAt};
 ghost use Rattle.lists.specs.Putting.{Listed};
-ghost use Rattle.print_texts.specs.Texts.{numberField, numberFields};
+ghost use Rattle.print_texts.specs.Texts.{numberField, integerField};
 ghost use Rattle.print_lines.specs.Lines.{rowLine, totalsIn, groupFields, groupLine, listLine, refusedLine, servedLine, turnLine};
 ghost use Rattle.print_lines.specs.Lines.{rowLineRoom, groupLineRoom, turnLineRoom};
 ghost use Rattle.print_texts.specs.Placing.{Placed};
@@ -45,14 +47,22 @@ fn put_total(line: &mut [u8], at: usize, group: &[u32], total: usize) -> usize
     put_number(line, at, list_group_totals::read64(group, total))
 }
 
+// The signed sum in two words of a group, the low one first.
+fn put_group_sum(line: &mut [u8], at: usize, group: &[u32], sum: usize) -> usize
+    requires { ⌜ (sum + 2 ≤ length (now group)) × (at + length (integerField (sumIn (pairAt (now group) sum))) ≤ length (now line)) ⌝ }
+    ensures { λ r. ⌜ Placed (integerField (sumIn (pairAt (now (group .entry)) sum))) at (now (line .entry)) (now (line .exit)) r ⌝ }
+{
+    put_sum(line, at, list_group_totals::read64(group, sum))
+}
+
 // The rows, the numbers and the sum of a record of so many keys.
 fn put_totals(line: &mut [u8], at: usize, keys: usize, group: &[u32]) -> usize
-    requires { ⌜ (keys + totalsWidth ≤ length (now group)) × (at + length (numberFields (totalsIn keys (now group))) ≤ length (now line)) ⌝ }
-    ensures { λ r. ⌜ Placed (numberFields (totalsIn keys (now (group .entry)))) at (now (line .entry)) (now (line .exit)) r ⌝ }
+    requires { ⌜ (keys + totalsWidth ≤ length (now group)) × (at + length (totalsIn keys (now group)) ≤ length (now line)) ⌝ }
+    ensures { λ r. ⌜ Placed (totalsIn keys (now (group .entry))) at (now (line .entry)) (now (line .exit)) r ⌝ }
 {
     let after_rows = put_total(line, at, group, keys);
     let after_numbers = put_total(line, after_rows, group, keys + 2);
-    put_total(line, after_numbers, group, keys + 4)
+    put_group_sum(line, after_numbers, group, keys + 4)
 }
 
 // The fields of a record of so many keys.

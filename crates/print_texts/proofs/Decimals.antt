@@ -73,3 +73,10 @@ length-long n h = length-most 19 n (omega arith)
 
 pub length-word : (n : ℕ) → n < 2 ^ 32 → length (decimal n) ≤ 10
 length-word n h = length-most 9 n (omega arith)
+
+-- up to half the values of 30 bits, and of 64
+pub length-nine : (n : ℕ) → n ≤ 0x20000000 → length (decimal n) ≤ 9
+length-nine n h = length-most 8 n (omega arith)
+
+pub length-nineteen : (n : ℕ) → n ≤ 0x8000000000000000 → length (decimal n) ≤ 19
+length-nineteen n h = length-most 18 n (omega arith)

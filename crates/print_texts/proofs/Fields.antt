@@ -3,8 +3,8 @@ use Prim.Native.Nat.{ℕ, zero, suc, _+_, _*_, _≤_, _<_}
 use native.Mathlib.Omega.{arith}
 use native.Mathlib.Nat.{mul-suc}
 use native.Mathlib.Numerals.{add-one}
-use mathlib.Core.Path.{_≡_, refl, sym, _∙_, ap}
-use mathlib.Core.List.{List, [], _∷_, _++_, append-assoc, append-nil, flatten}
+use mathlib.Core.Path.{_≡_, refl, _∙_, ap}
+use mathlib.Core.List.{List, [], _∷_, _++_, flatten}
 use lib.ListN.{length, drop, getD, length-append, drop-of-length-le}
 use lib.Seq.{drop-cons}
 use Rattle.print_texts.specs.Texts.{Text, fields}
@@ -56,13 +56,6 @@ module _ (f : ℕ → Text) where
       let p = mul-suc m (length ws) in
       omega arith
 
-  -- three fields
-  pub fields-three : (a b c : ℕ) → fields f (a ∷ b ∷ c ∷ []) ≡ f a ++ f b ++ f c
-  unfolding fields flatten
-  fields-three a b c = rw (append-nil (f c)) (sym (append-assoc (f a) (f b) (f c)))
-
-  pub three-length : (a b c : ℕ) → length (fields f (a ∷ b ∷ c ∷ [])) ≡ length (f a) + length (f b) + length (f c)
-  three-length a b c =
-      ap length (fields-three a b c)
-      ∙ length-append (f a ++ f b) (f c)
-      ∙ ap (λ (k : ℕ). k + length (f c)) (length-append (f a) (f b))
+-- three texts
+pub three-length : (a b c : Text) → length (a ++ b ++ c) ≡ length a + length b + length c
+three-length a b c = length-append (a ++ b) c ∙ ap (λ (k : ℕ). k + length c) (length-append a b)

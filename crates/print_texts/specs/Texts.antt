@@ -3,7 +3,8 @@ use Prim.Native.Nat.{ℕ, zero, suc, _+_, _/_, _%_}
 use mathlib.Core.Bool.{true, false, cond}
 use mathlib.Core.List.{List, [], _∷_, _++_, map, flatten}
 use lib.Dec.{eqb, ltb}
-use Rattle.words.specs.Words.{termKind, termValue, nameKind, numberKind, isVariable}
+use lib.IntN.{ℤ, pos, negsuc}
+use Rattle.words.specs.Words.{termKind, termValue, nameKind, numberKind, isVariable, isNumber, numberValue}
 
 -- a text: its characters by their ASCII codes
 abbrev pub Text : Type 0
@@ -33,6 +34,11 @@ digitsIn (suc k) n =
 unfoldable pub decimal : ℕ → Text
 decimal n = digitsIn (suc n) n
 
+-- a number of either sign, with a dash before one below zero; negsuc n is -(n + 1)
+unfoldable pub integerText : ℤ → Text
+integerText (pos n) = decimal n
+integerText (negsuc n) = dash ∷ decimal (suc n)
+
 -- ---- terms
 abbrev pub letterN : ℕ
 letterN = 110
@@ -47,13 +53,20 @@ letterT = 116
 abbrev pub kindLetter : ℕ → ℕ
 kindLetter k = cond (eqb k nameKind) letterN (cond (eqb k numberKind) letterI letterT)
 
--- a letter and the value in decimal; unbound, the one word of kind 3 that a row has, is a dash
+-- the value in decimal, a number's with its sign
+unfoldable pub valueText : ℕ → Text
+valueText w = cond (isNumber w) (integerText (numberValue w)) (decimal (termValue w))
+
+-- a letter and the value; unbound, the one word of kind 3 that a row has, is a dash
 unfoldable pub termText : ℕ → Text
-termText w = cond (isVariable w) (dash ∷ []) (kindLetter (termKind w) ∷ decimal (termValue w))
+termText w = cond (isVariable w) (dash ∷ []) (kindLetter (termKind w) ∷ valueText w)
 
 -- ---- fields of a line, each after a blank
 abbrev pub numberField : ℕ → Text
 numberField n = blank ∷ decimal n
+
+abbrev pub integerField : ℤ → Text
+integerField z = blank ∷ integerText z
 
 abbrev pub termField : ℕ → Text
 termField w = blank ∷ termText w

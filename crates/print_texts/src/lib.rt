@@ -6,4 +6,5 @@ pub use texts::put_byte;
 pub use texts::put_bytes;
 pub use texts::put_number;
 pub use texts::put_numbers;
+pub use texts::put_sum;
 pub use texts::put_terms;

@@ -5,9 +5,17 @@ ghost use mathlib.Core.Path.{_≡_};
 ghost use mathlib.Core.List.{_∷_, []};
 ghost use Prim.Native.Nat.{_+_, _<_, _≤_};
 ghost use lib.ListN.{length};
-ghost use Rattle.print_texts.specs.Texts.{kindLetter, termText, numberField, termField, fields, numberFields, termFields};
+ghost use Rattle.words.specs.Words.{signed};
+ghost use Rattle.lists.specs.Sums.{sumIn};
+ghost use Rattle.print_texts.specs.Texts.{kindLetter, integerText, valueText, termText, numberField, integerField, termField, fields};
+ghost use Rattle.print_texts.specs.Texts.{numberFields, termFields};
 ghost use Rattle.print_texts.specs.Placing.{Placed};
 ghost use Rattle.print_texts.specs.Fields.{fieldAs};
+
+// Half the values of a number's 30 bits, and of 64 bits: from there on they are below zero.
+const HALF_VALUES: u64 = words::HALF_VALUES as u64;
+
+const HALF_LONGS: u64 = 0x8000000000000000;
 
 // How a word is shown: as a term, or as a number.
 pub enum Shown {
@@ -45,6 +53,27 @@ pub fn put_number(line: &mut [u8], at: usize, x: u64) -> usize
     put_decimal(line, next, x)
 }
 
+// Bits in two's complement, with half their values from zero up, in decimal.
+fn put_signed(line: &mut [u8], at: usize, bits: u64, half: u64) -> usize
+    requires { ⌜ (bits < half + half) × (at + length (integerText (signed half bits)) ≤ length (now line)) ⌝ }
+    ensures { λ r. ⌜ Placed (integerText (signed half bits)) at (now (line .entry)) (now (line .exit)) r ⌝ }
+{
+    if bits < half {
+        return put_decimal(line, at, bits);
+    }
+    let next = put_byte(line, at, b'-');
+    put_decimal(line, next, half - (bits - half))
+}
+
+// A sum, given by its 64 bits, after a blank.
+pub fn put_sum(line: &mut [u8], at: usize, bits: u64) -> usize
+    requires { ⌜ at + length (integerField (sumIn bits)) ≤ length (now line) ⌝ }
+    ensures { λ r. ⌜ Placed (integerField (sumIn bits)) at (now (line .entry)) (now (line .exit)) r ⌝ }
+{
+    let next = put_byte(line, at, b' ');
+    put_signed(line, next, bits, HALF_LONGS)
+}
+
 // The letter of a term's kind: n for a name, i for a number, t for a text.
 fn letter_of(kind: u32) -> u8
     ensures { λ r. ⌜ r ≡ kindLetter kind ⌝ }
@@ -54,6 +83,19 @@ fn letter_of(kind: u32) -> u8
         Term::NUMBER => b'i',
         _ => b't',
     }
+}
+
+// The value of a term, a number's with its sign.
+fn put_value(line: &mut [u8], at: usize, word: u32) -> usize
+    requires { ⌜ at + length (valueText word) ≤ length (now line) ⌝ }
+    ensures { λ r. ⌜ Placed (valueText word) at (now (line .entry)) (now (line .exit)) r ⌝ }
+{
+    let term = Term(word);
+    let value = list_group_totals::long(term.value());
+    if term.is_number() {
+        return put_signed(line, at, value, HALF_VALUES);
+    }
+    put_decimal(line, at, value)
 }
 
 // A term: a letter and its value, or a dash for unbound.
@@ -66,7 +108,7 @@ fn put_text(line: &mut [u8], at: usize, word: u32) -> usize
         return put_byte(line, at, b'-');
     }
     let next = put_byte(line, at, letter_of(term.kind()));
-    put_decimal(line, next, list_group_totals::long(term.value()))
+    put_value(line, next, word)
 }
 
 // A term, after a blank.

@@ -1,7 +1,7 @@
 -- What one turn more makes of a query that goes on, by what it answers: it goes on again, is finished, or is stopped.
 use Prim.Native.Nat.{ℕ, _+_, _<_}
 use native.Mathlib.Omega.{arith}
-use mathlib.Core.Path.{_≡_, refl, _∙_, ap, subst, subst⁻¹}
+use mathlib.Core.Path.{_≡_, refl, sym, _∙_, ap, subst, subst⁻¹}
 use mathlib.Core.Bool.{true, false, cond}
 use mathlib.Core.List.{List, []}
 use lib.ListN.{length}
@@ -11,12 +11,14 @@ use Rattle.words.specs.Sequences.{over}
 use Rattle.words.proofs.Booleans.{absurd-true}
 use Rattle.tables.specs.Tables.{Tables}
 use Rattle.plans.specs.Plans.{Plan, planOf}
+use Rattle.steps.specs.Steps.{after}
 use Rattle.turns.specs.Surveys.{Survey}
 use Rattle.turns.specs.declared.TurnEnding.{TurnEnding}
 use Rattle.turns.specs.declared.TurnEnding.the-variants as ending
 use Rattle.turns.specs.Turns.{isDone, TurnInput, turnOf}
 use Rattle.merges.specs.Merging.{MergeResult}
 use Rattle.cuts.specs.Histories.{Phone, ServedTurn, stepsIn, servedOf}
+use Rattle.cuts.specs.Uncut.{runFits}
 use Rattle.cuts.specs.Accepting.{Accepted}
 use Rattle.cuts.proofs.Turning.{Kept}
 use Rattle.queries.specs.declared.Keeping.{Keeping}
@@ -74,7 +76,8 @@ module _ (keep : Keeping) (v : Survey) (plan : List ℕ) (a : Accepted (v .table
       made-then : Turns t plan quantum (length output) (count + 1) (stepsIn (p .0 .held .taken))
       made-then =
           subst⁻¹ (Turns t plan quantum (length output) (count + 1)) (p .2)
-          (taking.made-more keep v plan a first k before quantum count output state saved kept used g (ap isServed f ∙ s))
+          (taking.made-more keep v plan a first k before quantum count output state saved kept used g (ap isServed f ∙ s)
+          (ap (λ j. runFits (q .ending) (after t q j)) (sym (p .2)) ∙ p .0 .fits))
 
       goes : isDone e ≡ false → Then (turnOf i .state) (m .kept) (On (turnOf i .answer .saved) words)
       goes d =

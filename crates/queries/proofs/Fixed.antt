@@ -26,11 +26,10 @@ use Rattle.queries.specs.declared.Played.{Played}
 use Rattle.queries.specs.declared.Played.the-variants.{Finished, Unfinished, Stopped, Refused}
 use Rattle.queries.specs.Stepping.{keeps}
 use Rattle.queries.specs.Rounds.{Lent}
-use Rattle.queries.specs.Playing.{listAfter, partAfter, Holds, InLimits, Turns, none-made, one-more, Finishes, Pauses}
+use Rattle.queries.specs.Playing.{listAfter, partAfter, Holds, InLimits, Turn, Turns, none-made, one-more, Finishes, Pauses}
 use Rattle.queries.specs.Playing.{Cause, output-short, quantum-wrong, list-left, Stops, Leaves, OpeningRefused, Plays}
-use Rattle.queries.proofs.Lengths.{rows-later, no-shorter}
-use Rattle.queries.proofs.Totals.{fits-first}
-use Rattle.queries.proofs.Once.{not-past, turn-once, turns-once, no-further, turns-grow}
+use Rattle.queries.proofs.Lengths.{no-shorter}
+use Rattle.queries.proofs.Once.{not-past, turn-once, turns-once, no-further, made-after}
 
 -- the run ends once
 ends-once : (t : Tables) (q : Plan) (m n : ℕ) → EndsAt t q m → EndsAt t q n → m ≡ n
@@ -66,15 +65,14 @@ module _ (keep : Keeping) (v : Survey) (plan : List ℕ) (a : Accepted (v .table
   -- tests 7 and 8 pass of each turn that was made
   made-sized : (c n : ℕ) → Made c n → 0 < c → InLimits plan quantum room
   made-sized c n none-made l = absurd (omega arith)
-  made-sized c n (one-more k from to ts x) l = x .sized
+  made-sized c n (one-more k from to ts x f) l = x .sized
 
-  -- a list that holds has no list up to an earlier step that is not taken
-  all-taken : keeps keep (q .ending) ≡ true → (m n : ℕ) → m ≤ n → (kept : List ℕ) (words : ℕ) → Holds keep t plan n before kept words
+  -- a list that holds has no list up to an earlier step, with which the totals fit, that is not taken
+  all-taken : keeps keep (q .ending) ≡ true → (m n : ℕ) → m ≤ n → runFits (q .ending) (after t q m) ≡ true
+      → (kept : List ℕ) (words : ℕ) → Holds keep t plan n before kept words
       → (x : ℕ) → NotTaken t q m (length before) x → ⊥
-  all-taken b m n l kept words h x c =
+  all-taken b m n l fits kept words h x c =
       let d : m + (n - m) ≡ n = omega arith in
-      let more = rows-later t plan a m (n - m) in
-      let fits = fits-first (q .ending) (after t q m) (after t q n) (more .0) (ap (λ j. after t q j .delivered) (sym d) ∙ more .1) (h .fits) in
       let long = no-shorter t plan a m (n - m) in
       go fits (omega (arith, long, ap (λ j. length (listAfter t plan j)) d, h .counted, ap length (all-kept n), h .room)) x c
     where
@@ -94,13 +92,16 @@ module _ (keep : Keeping) (v : Survey) (plan : List ℕ) (a : Accepted (v .table
       let z = made-sized d n us (omega arith) in
       g (z .least, z .most)
   not-stopped c m y ts (list-left b later x y₁ p) d n us f kept words h =
-      let l = turns-grow t plan a quantum room (c + 1) d later n (one-more c m later ts x) us (omega arith) in
-      all-taken b later n l kept words h y₁ p
+      let r = made-after t plan a quantum room c d n us f in
+      let from-is : r .from ≡ m = turns-once t plan a quantum room c c (r .from) m (r .before) ts refl in
+      let to-is : r .to ≡ later =
+      turn-once t plan a quantum room m (r .to) later (subst (λ j. Turn t plan quantum room j (r .to)) from-is (r .turn)) x in
+      all-taken b later n (omega (arith, to-is, r .within)) (ap (λ j. runFits (q .ending) (after t q j)) (sym to-is) ∙ r .fits) kept words h y₁ p
 
   -- the run does not end before the first turn
   some-turn : (c m : ℕ) → Made c m → EndsAt t q m → 0 < c
   some-turn c m none-made e = absurd (none-some (sym (e .over) ∙ ap (λ (r : Run). r .state) (after-none t q)))
-  some-turn c m (one-more k from to ts x) e = omega arith
+  some-turn c m (one-more k from to ts x f) e = omega arith
 
   -- and at the end of the run none does
   none-at-end : (c m y : ℕ) → Made c m → EndsAt t q m → For m y → ⊥

@@ -12,7 +12,6 @@ pub mod Becoming
 pub mod Starting
 pub mod Plays
 pub mod Room
-pub mod Totals
 pub mod Once
 pub mod Fixed
 pub mod Showing

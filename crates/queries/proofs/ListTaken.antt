@@ -105,8 +105,8 @@ module _ (keep : Keeping) (v : Survey) (plan : List ℕ) (a : Accepted (v .table
           let here = advancing.given-state keep v plan a first k before count state saved kept used u quantum output (g .alive) in
           turn-made i a n (here .0) (here .1) (here .2) refl (is-served i served)
 
-      pub made-more : Turns t plan quantum (length output) (count + 1) (n + x .steps)
-      made-more = one-more count n (n + x .steps) (g .made) turn
+      pub made-more : runFits (q .ending) (after t q (n + x .steps)) ≡ true → Turns t plan quantum (length output) (count + 1) (n + x .steps)
+      made-more fits = one-more count n (n + x .steps) (g .made) turn fits
 
       -- its list is left
       left-list : keeps keep (q .ending) ≡ true → (y : ℕ) → NotTaken t q (n + x .steps) (length before) y
@@ -206,7 +206,8 @@ module _ (keep : Keeping) (v : Survey) (plan : List ℕ) (a : Accepted (v .table
         not-taken-for : (y : ℕ) → mergeOf j .answer ≡ written.Refused y → NotTaken t q (n + x .steps) (length before) y
         not-taken-for y e =
             subst (λ l. NotTaken t q (n + x .steps) l y) (ap length kept-whole ∙ kept-length)
-            (merging.merge-refused v plan a turned turned-keeps others x [] one-waits (drop used kept) y (ap (λ d. mergeOf d .answer) same-input ∙ e))
+            (merging.merge-refused v plan a turned turned-keeps (u .fits) others x [] one-waits (drop used kept) y
+            (ap (λ d. mergeOf d .answer) same-input ∙ e))
 
         by-answer : (w : Written) → mergeOf j .answer ≡ w → TakenAs (mergeOf j .kept) w
         by-answer (written.Refused y) e = (
@@ -217,7 +218,7 @@ module _ (keep : Keeping) (v : Survey) (plan : List ℕ) (a : Accepted (v .table
             let w = merge-writes j (λ y f. let z : _≡_ {A = ℕ} 0 1 = cc in omega arith) in
             let count-is : wordsIn (mergeOf j .answer) ≡ words = ap wordsIn e in
             let list = take words (mergeOf j .kept) in
-            let fits = merging.merge-fits v plan a turned turned-keeps others x [] one-waits (drop used kept) words
+            let fits = merging.merge-fits v plan a turned turned-keeps (u .fits) others x [] one-waits (drop used kept) words
             (ap (λ d. mergeOf d .answer) same-input ∙ e) in
             let front : list ≡ _ = ap (λ d. take d (mergeOf j .kept)) (sym count-is) ∙ w .kept .front in
             let all = sym (kept-all list) in

@@ -4,7 +4,7 @@ use Prim.Native.Nat.{ℕ, _+_, _-_, _≤_, _<_}
 use native.Mathlib.Omega.{arith}
 use native.Mathlib.Decide.{decLt}
 use mathlib.Core.Path.{_≡_, refl, sym, _∙_, ap, subst}
-use mathlib.Core.Bool.{false}
+use mathlib.Core.Bool.{true, false}
 use mathlib.Core.Option.{Option, none, some}
 use mathlib.Core.List.{List, []}
 use lib.ListN.{length, drop, length-append}
@@ -15,7 +15,7 @@ use Rattle.steps.proofs.Runs.{done-later}
 use Rattle.lists.specs.Closing.{listAt}
 use Rattle.turns.specs.declared.TurnEnding.{TurnEnding}
 use Rattle.turns.specs.Turns.{isOver}
-use Rattle.cuts.specs.Uncut.{EndsAt}
+use Rattle.cuts.specs.Uncut.{EndsAt, runFits}
 use Rattle.cuts.specs.Accepting.{Accepted}
 use Rattle.queries.specs.Playing.{listBetween, TurnEnds, spent, full, done, Turn, Turns, none-made, one-more}
 use Rattle.queries.proofs.Lengths.{rows-later, list-later}
@@ -83,26 +83,45 @@ module _ (t : Tables) (plan : List ℕ) (a : Accepted t plan) where
 
     pub turns-once : (c d m n : ℕ) → Turns t plan quantum room c m → Turns t plan quantum room d n → c ≡ d → m ≡ n
     turns-once c d m n none-made none-made e = refl
-    turns-once c d m n none-made (one-more k from to ts x) e = absurd (omega arith)
-    turns-once c d m n (one-more k from to ts x) none-made e = absurd (omega arith)
-    turns-once c d m n (one-more k from to ts x) (one-more l from₁ to₁ us y) e =
+    turns-once c d m n none-made (one-more k from to ts x f) e = absurd (omega arith)
+    turns-once c d m n (one-more k from to ts x f) none-made e = absurd (omega arith)
+    turns-once c d m n (one-more k from to ts x f) (one-more l from₁ to₁ us y g) e =
         let p : from ≡ from₁ = turns-once k l from from₁ ts us (omega arith) in
         turn-once from₁ to to₁ (subst (λ f. Turn t plan quantum room f to) p x) y
 
     -- where so many turns end the run, no more are made
     pub no-further : (c d m n : ℕ) → Turns t plan quantum room c m → EndsAt t q m → Turns t plan quantum room d n → c < d → ⊥
     no-further c d m n ts e none-made l = omega arith
-    no-further c d m n ts e (one-more k from to us y) l =
+    no-further c d m n ts e (one-more k from to us y g) l =
         elim (decLt c k) [
           | yes f ↦ no-further c k m from ts e us f
           | no f ↦ let p : m ≡ from = turns-once c k m from ts us (omega arith) in not-past m from to e (omega (arith, y .further)) y
         ]
 
-    -- fewer turns are no more steps
-    pub turns-grow : (c d m n : ℕ) → Turns t plan quantum room c m → Turns t plan quantum room d n → c ≤ d → m ≤ n
-    turns-grow c d m n ts none-made l = let e = turns-once c 0 m 0 ts none-made (omega arith) in omega arith
-    turns-grow c d m n ts (one-more k from to us y) l =
-        elim (decLt k c) [
-          | yes f ↦ let e = turns-once c (k + 1) m to ts (one-more k from to us y) (omega arith) in omega arith
-          | no f ↦ omega (arith, turns-grow c k m from ts us (omega arith), y .further)
+    -- a turn that was made, with the turns before it: its totals fit, and it ends no later than the last one
+    pub record Made (c n : ℕ) : Type 0 where
+      pub from : ℕ
+      pub to : ℕ
+      pub before : Turns t plan quantum room c from
+      pub turn : Turn t plan quantum room from to
+      pub fits : runFits (q .ending) (after t q to) ≡ true
+      pub within : to ≤ n
+
+    -- the turn after the first ones of those that were made
+    pub made-after : (c d n : ℕ) → Turns t plan quantum room d n → c < d → Made c n
+    made-after c d n none-made l = absurd (omega arith)
+    made-after c d n (one-more k from to us y g) l =
+        elim (decLt c k) [
+          | yes f ↦
+              let r = made-after c k from us f in
+              record { from = r .from; to = r .to; before = r .before; turn = r .turn; fits = r .fits; within = omega (arith, r .within, y .further) }
+          | no f ↦
+              record {
+                from = from;
+                to = to;
+                before = subst (λ j. Turns t plan quantum room j from) (let e : k ≡ c = omega arith in e) us;
+                turn = y;
+                fits = g;
+                within = omega arith;
+              }
         ]

@@ -107,5 +107,5 @@ not-sized keep t plan quantum room before steps y (list-left c later f x (no-roo
 pub at-first : (keep : Keeping) (t : Tables) (plan : List ℕ) (quantum room : ℕ) (before : List ℕ) (count steps y : ℕ)
     → Turns t plan quantum room count steps → Cause keep t plan quantum room before steps y → y ≤ 8 → steps ≡ 0
 at-first keep t plan quantum room before count steps y none-made c m = refl
-at-first keep t plan quantum room before count steps y (one-more n from to made turn) c m =
+at-first keep t plan quantum room before count steps y (one-more n from to made turn f) c m =
     absurd (not-sized keep t plan quantum room before to y c m (turn .sized))

@@ -36,7 +36,7 @@ listAfter t plan steps = keptAfter t (planOf plan) steps
 abbrev pub partAfter : Keeping → Tables → List ℕ → ℕ → List ℕ
 partAfter keep t plan steps = keptOf keep (planOf plan .ending) (listAfter t plan steps)
 
--- a buffer holds what is kept over what it held before: no total of the list passes 2^64 - 1, and so many words are kept
+-- a buffer holds what is kept over what it held before: no total of the list leaves its range, and so many words are kept
 pub record Holds (keep : Keeping) (t : Tables) (plan : List ℕ) (steps : ℕ) (before now : List ℕ) (words : ℕ) : Type 0 where
   pub fits : runFits (planOf plan .ending) (after t (planOf plan) steps) ≡ true
   pub whole : now ≡ over (partAfter keep t plan steps) before
@@ -72,10 +72,11 @@ pub record Turn (t : Tables) (plan : List ℕ) (quantum room from to : ℕ) : Ty
   pub ending : TurnEnding
   pub ends : TurnEnds t plan quantum room from to ending
 
--- so many turns from the start take the uncut run so many steps on
+-- so many turns from the start take the uncut run so many steps on, and with each of their lists its totals are in their range
 pub data Turns (t : Tables) (plan : List ℕ) (quantum room : ℕ) : ℕ → ℕ → Type 0 where
   none-made : Turns t plan quantum room 0 0
-  one-more : (count from to : ℕ) → Turns t plan quantum room count from → Turn t plan quantum room from to → Turns t plan quantum room (count + 1) to
+  one-more : (count from to : ℕ) → Turns t plan quantum room count from → Turn t plan quantum room from to
+      → runFits (planOf plan .ending) (after t (planOf plan) to) ≡ true → Turns t plan quantum room (count + 1) to
 
 -- where a query stands after so many turns: they are the uncut run's, and the saved words are, under the survey's number, its state after their steps
 pub record StandsAfter (v : Survey) (plan : List ℕ) (quantum room count : ℕ) (state : List ℕ) (saved : ℕ) : Type 0 where

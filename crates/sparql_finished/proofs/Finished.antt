@@ -6,7 +6,6 @@ use mathlib.Core.Bool.{true}
 use mathlib.Core.List.{List, [], _++_, map, append-nil}
 use Rattle.words.specs.Sequences.{all}
 use Rattle.tables.specs.Tables.{Tables}
-use Rattle.plans.specs.Endings.{Ending, group}
 use Rattle.plans.specs.Plans.{planOf}
 use Rattle.steps.specs.Steps.{after}
 use Rattle.lists.specs.Gathering.{gathered}
@@ -43,11 +42,8 @@ run-answers t plan a steps ends fits list l =
       run = solutions t plan (planOf plan) (a .tables) (a .read) (a .variables) steps (ends .over);
       answer =
           subst (Answer t (planOf plan) (after t (planOf plan) steps .delivered) (planOf plan .ending)) (sym e)
-          (answered t plan (planOf plan) (a .tables) (a .read) (a .variables) steps (ends .over));
-      words =
-          ap (all isWord) e
-          ∙ answered-words t plan (planOf plan) (a .tables) (a .read) (a .variables) steps (ends .over)
-          (λ vs m p. subst (λ d. runFits d (after t (planOf plan) steps) ≡ true) p fits);
+          (answered t plan (planOf plan) (a .tables) (a .read) (a .variables) steps (ends .over) fits);
+      words = ap (all isWord) e ∙ answered-words t plan (planOf plan) (a .tables) (a .read) (a .variables) steps (ends .over) fits;
     }
 
 -- for every opening that is served and every list of events, refused ones included, under demand 3's premises

@@ -1,8 +1,9 @@
 -- One name that opens every definition of this crate, for proofs that compute.
+use Rattle.words.specs.Words.{signed}
 use Rattle.words.specs.Sequences.{allBelow, countBelow, numbers, all, keep, neighbours, member, distinct, parts, lexBefore, iterate}
 use Rattle.words.specs.Sorting.{insertBy, insertAllBy, sortBy, bestBy}
 use Rattle.words.specs.Tests.{firstFailing}
 
 unfoldable pub computing : Unit {0}
-unfolding allBelow countBelow numbers all keep neighbours member distinct parts lexBefore iterate insertBy insertAllBy sortBy bestBy firstFailing
+unfolding signed allBelow countBelow numbers all keep neighbours member distinct parts lexBefore iterate insertBy insertAllBy sortBy bestBy firstFailing
 computing = tt

@@ -1,4 +1,5 @@
 pub mod Words
+pub mod Former
 pub mod Bindings
 pub mod Sequences
 pub mod Sorting

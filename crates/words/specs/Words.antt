@@ -2,11 +2,16 @@
 -- and nowhere else in the definitions. Assumes nothing: these are definitions.
 use Prim.Native.Nat.{ℕ, _+_, _-_, _*_, _/_, _%_}
 use mathlib.Core.Bool.{Bool, cond, _||_, not}
-use lib.Dec.{eqb}
+use lib.Dec.{eqb, ltb}
+use lib.IntN.{ℤ, subℕ}
 
 -- ---- terms: two bits of kind, 30 of value
 abbrev pub termValues : ℕ
 termValues = 0x40000000
+
+-- half of them: a number from there on is below zero
+abbrev pub halfValues : ℕ
+halfValues = 0x20000000
 
 abbrev pub nameKind : ℕ
 nameKind = 0
@@ -57,13 +62,17 @@ abbrev pub isValue : ℕ → Bool
 isValue w = not (isVariable w) || eqb w unbound
 
 -- ---- values and the order of keys
--- what a number counts for in a sum
-abbrev pub numberValue : ℕ → ℕ
-numberValue w = termValue w
+-- two's complement, with so many values from zero up and as many below: n from the half on stands for n less the whole
+unfoldable pub signed : ℕ → ℕ → ℤ
+signed half n = subℕ n (cond (ltb n half) 0 (half + half))
 
--- the place of a term among those of its kind
+-- what a number counts for: its 30 bits in two's complement
+abbrev pub numberValue : ℕ → ℤ
+numberValue w = signed halfValues (termValue w)
+
+-- the place of a term among those of its kind: a number's goes by what it counts for, the least first
 abbrev pub valueRank : ℕ → ℕ
-valueRank w = termValue w
+valueRank w = cond (isNumber w) ((termValue w + halfValues) % termValues) (termValue w)
 
 -- the place of a delivered term in the order of keys: unbound, then names, numbers, texts, each by value
 abbrev pub keyRank : ℕ → ℕ

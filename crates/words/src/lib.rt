@@ -5,9 +5,9 @@ ghost use lib.ListN.{length};
 ghost use lib.Seq.{paste};
 ghost use Rattle.words.specs.Bindings.{valueOf};
 ghost use Rattle.words.specs.Words.{termValues, termKind, termValue, name, number, text, variable, unbound, isVariable, isNumber, isValue};
-ghost use Rattle.words.specs.Words.{keyRank, lastRank, lowNumbers, kind, low, word, headKind, branchKind, trueKind, andKind, orKind, notKind};
-ghost use Rattle.words.specs.Words.{comparisonKind, rowsKind, topKind, risingKind, fallingKind, groupKind, depths, surveyWord, positionWord, placeWord};
-ghost use Rattle.words.specs.Words.{branchOf, depthOf};
+ghost use Rattle.words.specs.Words.{valueRank, keyRank, lastRank, lowNumbers, kind, low, word, headKind, branchKind, trueKind, andKind};
+ghost use Rattle.words.specs.Words.{orKind, notKind, comparisonKind, rowsKind, topKind, risingKind, fallingKind, groupKind, depths, surveyWord};
+ghost use Rattle.words.specs.Words.{positionWord, placeWord, branchOf, depthOf};
 
 // A term: two bits of kind and a value of 30.
 pub struct Term(pub u32);
@@ -26,6 +26,9 @@ pub enum Written {
 
 // How many values a term has.
 pub const VALUES: u32 = 0x40000000;
+
+// Half of them: a number from there on is below zero.
+pub const HALF_VALUES: u32 = 0x20000000;
 
 // How many numbers a word of a plan or a state has.
 pub const NUMBERS: u32 = 0x10000000;
@@ -106,12 +109,24 @@ impl Term {
         self.0 <= Term::UNBOUND
     }
 
-    // The place in the order of keys: unbound, then names, numbers, texts, each by value.
+    // The place among the terms of its kind: a number's by its value, those below zero first.
+    pub fn value_rank(self) -> u32
+        ensures { λ r. ⌜ r ≡ valueRank (self .0) ⌝ }
+    {
+        let value = self.0 % VALUES;
+        if self.is_number() {
+            return (value + HALF_VALUES) % VALUES;
+        }
+        value
+    }
+
+    // The place in the order of keys: unbound, then names, numbers, texts, each by value. A number's sign bit, the one below its kind's two, is
+    // turned over: of the three kinds its own has the second of these two bits.
     pub fn key_rank(self) -> u32
         ensures { λ r. ⌜ (r ≡ keyRank (self .0)) × (r ≤ lastRank) ⌝ }
     {
         if self.0 < Term::UNBOUND {
-            self.0 + 1
+            (self.0 ^ (self.0 / 2 & HALF_VALUES)) + 1
         } else {
             0
         }

@@ -23,12 +23,13 @@ unfolding words.computing tables.computing plans.computing conditions.computing 
     uploads.computing queues.computing views.computing flatten
 computing = tt
 
--- the starred cases of the rules (docs/RULES.md, 11), those of k = 0 and of the record of no rows
+-- the starred cases of the rules (docs/RULES.md, 11), those of k = 0, of the record of no rows and of numbers below zero
 pub starred-hold : Hold starred
 unfolding computing
 starred-hold =
     refl & refl & refl & refl & refl & refl & refl & refl & refl & refl & refl & refl & refl & refl & refl & refl & refl & refl
-    & (refl & refl & refl & refl & refl & refl & refl & refl & refl & refl & refl & refl & refl & refl & refl & refl & refl & refl & all)
+    & (refl & refl & refl & refl & refl & refl & refl & refl & refl & refl & refl & refl & refl & refl & refl & refl & refl & refl
+    & (refl & refl & refl & refl & refl & refl & refl & refl & refl & all))
 
 -- cases for each refusal
 pub tables-hold : Hold ofTables

@@ -1,14 +1,16 @@
--- The starred cases of "The three-stem wood", those of a best-of list of no given number and of the record of no rows, as one table.
+-- The starred cases of "The three-stem wood", those of a best-of list of no given number, of the record of no rows and of numbers below zero, as one
+-- table.
 use Prim.Native.Nat.{ℕ}
 use mathlib.Core.List.{List, [], _∷_, _++_, map}
 use mathlib.Core.Option.{none, some}
 use lib.ListN.{length, take, replicate}
 use Rattle.words.specs.declared.Written.the-variants.{Words}
-use Rattle.words.specs.Words.{name, number}
+use Rattle.words.specs.Words.{name, number, text, word, notKind}
 use Rattle.words.specs.Sequences.{over}
 use Rattle.turns.specs.declared.TurnEnding.the-variants.{Done, Spent, Full}
 use Rattle.worked_cases.specs.Wood.{wood, noRows, withOsp, notError, orError, rows01, planWith, planA, planTwice, planTop, planGroup}
-use Rattle.worked_cases.specs.Wood.{always, atLeast1000, topFalling, topDiameters, group1, groups0, stateAt, start, nothing, threeStems, stem}
+use Rattle.worked_cases.specs.Wood.{always, atLeast1000, topFalling, topRising, topDiameters, group1, groups0, stateAt, start, nothing, threeStems}
+use Rattle.worked_cases.specs.Wood.{stem, minus1, minus3, minus5, diametersAre, isLess, summed}
 use Rattle.worked_cases.specs.Calls.{opening, opened, merging, merged, running, ran, Case, surveyed, turnCall, turnCase, notTurned}
 use Rattle.worked_cases.specs.Calls.{mergeCall, keptBuffer, notMerged}
 
@@ -89,4 +91,20 @@ starred =
     ∷ merges unnumberedDiameters [] tenDiameters tenDiameters
     ∷ merges unnumberedDiameters tenDiameters (number 30 ∷ []) (number 30 ∷ take 9 tenDiameters)
     ∷ merges unnumberedDiameters tenDiameters (number 10 ∷ []) tenDiameters
+    -- i-3 < i2 keeps all; i2 < i-3 keeps nothing, and its negation all
+    ∷ whole (planWith (isLess minus3 (number 2)) rows01) 10 (stem 1 45 ++ (stem 2 310 ++ stem 3 310))
+    ∷ whole (planWith (isLess (number 2) minus3) rows01) 10 []
+    ∷ whole (planWith (word notKind 0 ∷ isLess (number 2) minus3) rows01) 10 (stem 1 45 ++ (stem 2 310 ++ stem 3 310))
+    -- keys i-1, i0, i1 rising; the tables have i0, i1, i-1, and a list by value is refused by 4
+    ∷ turnCase (turnCall (diametersAre (number 0) (number 1) minus1) (planWith always (topRising 3)) start 100 [] 128) Done 10 []
+    (name 3 ∷ minus1 ∷ (stem 1 0 ++ stem 2 1))
+    ∷ notTurned (turnCall (diametersAre minus1 (number 0) (number 1)) planA start 100 [] 128) 4
+    -- i4, i-5 and a text measured: the least is i-5, the greatest i4, and the sum -1
+    ∷ turnCase (turnCall (diametersAre (number 4) minus5 (text 0)) planGroup start 100 [] 8) Done 10 []
+    (3 ∷ 0 ∷ 2 ∷ 0 ∷ 0xFFFFFFFF ∷ 0xFFFFFFFF ∷ minus5 ∷ number 4 ∷ [])
+    -- a kept sum of 2^63 - 1: with i1 it is refused by 13, with i-1 it is merged; one of -2^63 with i-1 is refused by 13
+    ∷ notMerged (mergeCall planGroup (summed 0xFFFFFFFF 0x7FFFFFFF (number 1)) 16 (summed 1 0 (number 1))) 13
+    ∷ merges planGroup (summed 0xFFFFFFFF 0x7FFFFFFF (number 1)) (summed 0xFFFFFFFF 0xFFFFFFFF minus1)
+    (2 ∷ 0 ∷ 2 ∷ 0 ∷ 0xFFFFFFFE ∷ 0x7FFFFFFF ∷ minus1 ∷ number 1 ∷ [])
+    ∷ notMerged (mergeCall planGroup (summed 0 0x80000000 minus1) 16 (summed 0xFFFFFFFF 0xFFFFFFFF minus1)) 13
     ∷ []

@@ -27,6 +27,23 @@ withRows rows = record { rows = rows; pos = wood .pos; osp = wood .osp }
 abbrev pub withOsp : List ℕ → Tables
 withOsp osp = record { rows = wood .rows; pos = wood .pos; osp = osp }
 
+-- i-1, i-3 and i-5, as words
+abbrev pub minus1 : ℕ
+minus1 = 0x7FFFFFFF
+
+abbrev pub minus3 : ℕ
+minus3 = 0x7FFFFFFD
+
+abbrev pub minus5 : ℕ
+minus5 = 0x7FFFFFFB
+
+-- the wood with other diameters
+abbrev pub diametersAre : ℕ → ℕ → ℕ → Tables
+diametersAre a b c =
+    withRows
+    (name 1 ∷ name 10 ∷ name 100 ∷ name 1 ∷ name 12 ∷ a ∷ name 2 ∷ name 10 ∷ name 100 ∷ name 2 ∷ name 12 ∷ b
+    ∷ name 3 ∷ name 10 ∷ name 100 ∷ name 3 ∷ name 12 ∷ c ∷ [])
+
 -- ---- plans
 -- the branch ?0 n10 n100, ?0 n12 ?1 with a condition
 abbrev pub branchA : List ℕ → List ℕ
@@ -48,9 +65,12 @@ atLeast70 = word comparisonKind atLeast ∷ variable 1 ∷ number 70 ∷ []
 abbrev pub atLeast1000 : List ℕ
 atLeast1000 = word comparisonKind atLeast ∷ variable 1 ∷ number 1000 ∷ []
 
+abbrev pub isLess : ℕ → ℕ → List ℕ
+isLess a b = word comparisonKind lessThan ∷ a ∷ b ∷ []
+
 -- n1 < i5, an error
 abbrev pub wrongKinds : List ℕ
-wrongKinds = word comparisonKind lessThan ∷ name 1 ∷ number 5 ∷ []
+wrongKinds = isLess (name 1) (number 5)
 
 abbrev pub notError : List ℕ
 notError = word notKind 0 ∷ wrongKinds
@@ -112,6 +132,10 @@ nothing = 0 ∷ 0 ∷ 0 ∷ 0 ∷ 0 ∷ 0 ∷ unbound ∷ unbound ∷ []
 
 abbrev pub threeStems : List ℕ
 threeStems = 3 ∷ 0 ∷ 3 ∷ 0 ∷ 665 ∷ 0 ∷ number 45 ∷ number 310 ∷ []
+
+-- the record of one row, with the words of its sum and its number
+abbrev pub summed : ℕ → ℕ → ℕ → List ℕ
+summed low high n = 1 ∷ 0 ∷ 1 ∷ 0 ∷ low ∷ high ∷ n ∷ n ∷ []
 
 -- a row of a stem and its diameter
 abbrev pub stem : ℕ → ℕ → List ℕ

@@ -75,6 +75,11 @@ kindsOfTerms =
     (twoTerms 0x40000005 0x40000006 False True
     ∷ twoTerms 0x80000005 0x80000006 False True
     ∷ twoTerms 0x00000005 0x00000006 False Error
+    -- i-3 and i2, both ways round; the least number and the greatest; texts that are far apart
+    ∷ twoTerms 0x7FFFFFFD 0x40000002 False True
+    ∷ twoTerms 0x40000002 0x7FFFFFFD False False
+    ∷ twoTerms 0x60000000 0x5FFFFFFF False True
+    ∷ twoTerms 0x9FFFFFFF 0xA0000000 False True
     -- the same word: i5, t5, n5
     ∷ twoTerms 0x40000005 0x40000005 True False
     ∷ twoTerms 0x80000005 0x80000005 True False

@@ -143,6 +143,11 @@ groupFaults =
     ∷ faulty groupsPlan (0x00000001 ∷ (plainRow ++ (0xC0000000 ∷ plainRow)))
     ∷ faulty groupsPlan (0x40000005 ∷ (plainRow ++ (0x00000009 ∷ plainRow)))
     ∷ faulty groupsPlan (0x80000000 ∷ (plainRow ++ (0x40000005 ∷ plainRow)))
+    -- numbers by value, i-1 before i0; names and texts by their words, also from 2^29 on
+    ∷ mergesWell groupsPlan
+    (0x1FFFFFFF ∷ (plainRow ++ (0x20000000 ∷ (plainRow ++ (0x7FFFFFFF ∷ (plainRow ++ (0x40000000 ∷ (plainRow ++ (0xA0000000 ∷ plainRow)))))))))
+    ∷ faulty groupsPlan (0x40000000 ∷ (plainRow ++ (0x7FFFFFFF ∷ plainRow)))
+    ∷ faulty groupsPlan (0xA0000000 ∷ (plainRow ++ (0x9FFFFFFF ∷ plainRow)))
     ∷ faulty oneGroupPlan (plainRow ++ plainRow)
     -- rows 0: one such record passes, and only without keys; 2^32 rows are not 0
     ∷ mergesWell oneGroupPlan nothing
@@ -163,6 +168,7 @@ groupFaults =
     -- with numbers 0, a sum not 0, a least or a greatest not unbound
     ∷ faulty oneGroupPlan (totalsOf 1 0 0 0 1 0 0xC0000000 0xC0000000)
     ∷ faulty oneGroupPlan (totalsOf 1 0 0 0 0 1 0xC0000000 0xC0000000)
+    ∷ faulty oneGroupPlan (totalsOf 1 0 0 0 0xFFFFFFFF 0xFFFFFFFF 0xC0000000 0xC0000000)
     ∷ faulty oneGroupPlan (totalsOf 1 0 0 0 0 0 0x40000000 0xC0000000)
     ∷ faulty oneGroupPlan (totalsOf 1 0 0 0 0 0 0xC0000000 0x40000000)
     -- otherwise, a least or a greatest that is no number
@@ -176,9 +182,11 @@ groupFaults =
     -- or least above greatest
     ∷ faulty oneGroupPlan (totalsOf 1 0 1 0 5 0 0x40000006 0x40000005)
     ∷ mergesWell oneGroupPlan (totalsOf 2 0 2 0 11 0 0x40000005 0x40000006)
+    ∷ mergesWell oneGroupPlan (totalsOf 2 0 2 0 0xFFFFFFFF 0xFFFFFFFF 0x7FFFFFFB 0x40000004)
+    ∷ faulty oneGroupPlan (totalsOf 2 0 2 0 0xFFFFFFFF 0xFFFFFFFF 0x40000004 0x7FFFFFFB)
     ∷ [])
 
--- ---- 13: a total would pass 2^64 - 1. Numbers are never above rows, so they pass it only where rows do
+-- ---- 13: rows would pass 2^64 - 1, or the sum leave -2^63 to 2^63 - 1. Numbers are never above rows, so they pass it only where rows do
 abbrev pub addsUp : List ℕ → List ℕ → List ℕ → Case
 addsUp kept list result = (merging (mergeCall oneGroupPlan kept 8 list), merged (record { answer = Words 8; kept = result }))
 
@@ -195,10 +203,15 @@ totalsPast =
     ∷ addsUp (totalsOf 0xFFFFFFFE 0xFFFFFFFF 0xFFFFFFFE 0xFFFFFFFF 0 0 0x40000000 0x40000000) (totalsOf 1 0 1 0 0 0 0x40000000 0x40000000)
     (totalsOf 0xFFFFFFFF 0xFFFFFFFF 0xFFFFFFFF 0xFFFFFFFF 0 0 0x40000000 0x40000000)
     ∷ overflows (totalsOf 0xFFFFFFFF 0xFFFFFFFF 0xFFFFFFFF 0xFFFFFFFF 0 0 0x40000000 0x40000000) (totalsOf 1 0 1 0 0 0 0x40000000 0x40000000)
-    -- the sum
-    ∷ addsUp (totalsOf 1 0 1 0 0xFFFFFFFE 0xFFFFFFFF 0x40000005 0x40000005) (totalsOf 1 0 1 0 1 0 0x40000001 0x40000001)
-    (totalsOf 2 0 2 0 0xFFFFFFFF 0xFFFFFFFF 0x40000001 0x40000005)
-    ∷ overflows (totalsOf 1 0 1 0 0xFFFFFFFF 0xFFFFFFFF 0x40000005 0x40000005) (totalsOf 1 0 1 0 1 0 0x40000001 0x40000001)
+    -- the sum, at both ends; from -1 to 0
+    ∷ addsUp (totalsOf 1 0 1 0 0xFFFFFFFE 0x7FFFFFFF 0x40000005 0x40000005) (totalsOf 1 0 1 0 1 0 0x40000001 0x40000001)
+    (totalsOf 2 0 2 0 0xFFFFFFFF 0x7FFFFFFF 0x40000001 0x40000005)
+    ∷ overflows (totalsOf 1 0 1 0 0xFFFFFFFF 0x7FFFFFFF 0x40000005 0x40000005) (totalsOf 1 0 1 0 1 0 0x40000001 0x40000001)
+    ∷ addsUp (totalsOf 1 0 1 0 1 0x80000000 0x7FFFFFFF 0x7FFFFFFF) (totalsOf 1 0 1 0 0xFFFFFFFF 0xFFFFFFFF 0x7FFFFFFF 0x7FFFFFFF)
+    (totalsOf 2 0 2 0 0 0x80000000 0x7FFFFFFF 0x7FFFFFFF)
+    ∷ overflows (totalsOf 1 0 1 0 0xFFFFFFFF 0xFFFFFFFF 0x7FFFFFFF 0x7FFFFFFF) (totalsOf 1 0 1 0 0 0x80000000 0x7FFFFFFF 0x7FFFFFFF)
+    ∷ addsUp (totalsOf 1 0 1 0 0xFFFFFFFF 0xFFFFFFFF 0x7FFFFFFF 0x7FFFFFFF) (totalsOf 1 0 1 0 1 0 0x40000001 0x40000001)
+    (totalsOf 2 0 2 0 0 0 0x7FFFFFFF 0x40000001)
     -- the carry into the high word
     ∷ addsUp (totalsOf 0xFFFFFFFF 0 0xFFFFFFFF 0 0xFFFFFFFF 0 0x40000005 0x40000005) (totalsOf 1 0 1 0 1 0 0x40000001 0x40000001)
     (totalsOf 0 1 0 1 0 1 0x40000001 0x40000005)

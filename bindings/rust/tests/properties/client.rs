@@ -23,7 +23,7 @@ fn built_term(word: u32) -> Term {
     let value = term_value(word);
     match term_kind(word) {
         NAME => Term::Name(value),
-        NUMBER => Term::Number(value),
+        NUMBER => Term::Number(number_value(word) as i32),
         TEXT => Term::Text(value),
         _ => Variable(value).into(),
     }
@@ -71,7 +71,7 @@ fn built(plan: &plan::Plan) -> Plan {
 fn shown(word: u32) -> String {
     match (word, term_kind(word)) {
         (UNBOUND, _) => "-".to_string(),
-        (_, kind) => format!("{}{}", ["n", "i", "t", "?"][kind as usize], term_value(word)),
+        (_, kind) => format!("{}{}", ["n", "i", "t", "?"][kind as usize], value(word)),
     }
 }
 
@@ -95,12 +95,12 @@ fn compare_list(query: &Query, plan: &Plan, words: &[u32]) {
             for (group, part) in groups.iter().zip(parts) {
                 let (keys, totals) = part.split_at(part.len() - 8);
                 let wide = |at: usize| u64::from(totals[at]) + (u64::from(totals[at + 1]) << 32);
-                let bound = |word: u32| (word != UNBOUND).then(|| term_value(word));
+                let bound = |word: u32| (word != UNBOUND).then(|| number_value(word) as i32);
                 assert_eq!(
                     shown_values(&group.keys),
                     keys.iter().map(|&word| shown(word)).collect::<Vec<_>>()
                 );
-                assert_eq!((group.rows, group.numbers, group.sum), (wide(0), wide(2), wide(4)));
+                assert_eq!((group.rows, group.numbers, group.sum), (wide(0), wide(2), wide(4) as i64));
                 assert_eq!((group.least, group.greatest), (bound(totals[6]), bound(totals[7])));
             }
         }

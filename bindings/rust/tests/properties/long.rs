@@ -9,7 +9,7 @@ use crate::inputs::random::Random;
 use crate::inputs::{plans, woods};
 
 /// Stems with their stands (?1) and diameters (?2), from a diameter on.
-fn stems_plan(least: u32, ending: Ending) -> Plan {
+fn stems_plan(least: i32, ending: Ending) -> Plan {
     let patterns = vec![[variable(0), name(10), variable(1)], [variable(0), name(12), variable(2)]];
     Plan {
         branches: vec![Branch {

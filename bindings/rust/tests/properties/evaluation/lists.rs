@@ -11,7 +11,7 @@ fn sort_key(rows: &[u32], keys: &[(bool, u32)], row: &[u32]) -> Vec<(i64, i64)> 
         let column = rows.iter().position(|&v| v == key).expect("a key is a column");
         let (kind, value) = rank(row[column]);
         let sign = if falls { -1 } else { 1 };
-        (sign * i64::from(kind), sign * i64::from(value))
+        (sign * i64::from(kind), sign * value)
     };
     keys.iter().map(rank_of).collect()
 }
@@ -19,17 +19,17 @@ fn sort_key(rows: &[u32], keys: &[(bool, u32)], row: &[u32]) -> Vec<(i64, i64)> 
 /// A group's totals: rows, numbers, sum, and the least and greatest number.
 #[derive(Clone, Debug, Default)]
 struct Totals {
-    rows: u128,
-    numbers: u128,
-    sum: u128,
-    values: Option<(u32, u32)>,
+    rows: i128,
+    numbers: i128,
+    sum: i128,
+    values: Option<(i64, i64)>,
 }
 
 /// The totals of no rows.
 pub const NOTHING: [u32; 8] = [0, 0, 0, 0, 0, 0, UNBOUND, UNBOUND];
 
 /// Groups by the ranks of their keys, with the keys.
-type Groups = BTreeMap<Vec<(u32, u32)>, (Vec<u32>, Totals)>;
+type Groups = BTreeMap<Vec<(u32, i64)>, (Vec<u32>, Totals)>;
 
 impl Totals {
     fn of_value(word: u32) -> Totals {
@@ -37,8 +37,8 @@ impl Totals {
             NUMBER => Totals {
                 rows: 1,
                 numbers: 1,
-                sum: term_value(word).into(),
-                values: Some((word, word)),
+                sum: number_value(word).into(),
+                values: Some((number_value(word), number_value(word))),
             },
             _ => Totals {
                 rows: 1,
@@ -59,13 +59,15 @@ impl Totals {
 
     /// The totals of the last eight words of a record with so many keys, unless test 12 refuses them: rows 0 are for one without keys.
     fn read(keys: usize, words: &[u32]) -> Option<Totals> {
-        let wide = |at: usize| u128::from(words[at]) + (u128::from(words[at + 1]) << 32);
-        let (rows, numbers, sum, least, greatest) = (wide(0), wide(2), wide(4), words[6], words[7]);
+        let wide = |at: usize| i128::from(words[at]) + (i128::from(words[at + 1]) << 32);
+        let sum = if wide(4) >> 63 == 0 { wide(4) } else { wide(4) - (1 << 64) };
+        let (rows, numbers, least, greatest) = (wide(0), wide(2), words[6], words[7]);
         let values = match numbers {
             0 if sum == 0 && least == UNBOUND && greatest == UNBOUND => None,
             0 => return None,
-            _ if term_kind(least) == NUMBER && term_kind(greatest) == NUMBER && least <= greatest => Some((least, greatest)),
-            _ => return None,
+            _ if term_kind(least) != NUMBER || term_kind(greatest) != NUMBER => return None,
+            _ if number_value(least) > number_value(greatest) => return None,
+            _ => Some((number_value(least), number_value(greatest))),
         };
         let enough = rows > 0 || keys == 0;
         (enough && numbers <= rows).then_some(Totals {
@@ -77,7 +79,8 @@ impl Totals {
     }
 
     fn words(&self) -> Vec<u32> {
-        let (least, greatest) = self.values.unwrap_or((UNBOUND, UNBOUND));
+        let word = |value: i64| number(value as i32);
+        let (least, greatest) = self.values.map_or((UNBOUND, UNBOUND), |(least, greatest)| (word(least), word(greatest)));
         let halves = [self.rows, self.numbers, self.sum]
             .into_iter()
             .flat_map(|total| [total as u32, (total >> 32) as u32]);
@@ -85,7 +88,8 @@ impl Totals {
     }
 
     fn fits(&self) -> bool {
-        [self.rows, self.numbers, self.sum].iter().all(|&total| total >> 64 == 0)
+        let sums = -(1i128 << 63)..1 << 63;
+        self.rows >> 64 == 0 && self.numbers >> 64 == 0 && sums.contains(&self.sum)
     }
 }
 

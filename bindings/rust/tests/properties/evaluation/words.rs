@@ -2,6 +2,7 @@
 
 pub const UNBOUND: u32 = 0xC000_0000;
 pub const MOST_VALUE: u32 = 0x3FFF_FFFF;
+pub const MOST_NUMBER: i32 = 0x1FFF_FFFF;
 pub const MOST_COUNT: u32 = 0x0FFF_FFFF;
 
 pub const NAME: u32 = 0;
@@ -33,8 +34,19 @@ pub fn name(value: u32) -> u32 {
     term(NAME, value)
 }
 
-pub fn number(value: u32) -> u32 {
-    term(NUMBER, value)
+/// A number, by its value.
+pub fn number(value: i32) -> u32 {
+    term(NUMBER, value as u32 & MOST_VALUE)
+}
+
+/// The value of a number: its 30 bits are two's complement.
+pub fn number_value(word: u32) -> i64 {
+    let bits = i64::from(term_value(word));
+    if bits < 1 << 29 {
+        bits
+    } else {
+        bits - (1 << 30)
+    }
 }
 
 pub fn variable(number: u32) -> u32 {
@@ -67,11 +79,19 @@ pub fn delivered(word: u32) -> bool {
     term_kind(word) != VARIABLE || word == UNBOUND
 }
 
+/// What a word counts for among those of its kind.
+pub fn value(word: u32) -> i64 {
+    match term_kind(word) {
+        NUMBER => number_value(word),
+        _ => term_value(word).into(),
+    }
+}
+
 /// Where a word stands among the values of a key: unbound first, then names, numbers, texts, each by value.
-pub fn rank(word: u32) -> (u32, u32) {
+pub fn rank(word: u32) -> (u32, i64) {
     if word == UNBOUND {
         (0, 0)
     } else {
-        (1 + term_kind(word), term_value(word))
+        (1 + term_kind(word), value(word))
     }
 }

@@ -78,12 +78,13 @@ fn totals(random: &mut Random, keys: &[u32]) -> Vec<u32> {
     }
     let rows = random.pick(&[1, 1, 2, 3, u32::MAX.into(), 1 << 32, 1 << 62, 1 << 63, u64::MAX - 1, u64::MAX]);
     let numbers = random.pick(&[0, 1, rows, rows, rows / 2]);
-    let sum = random.pick(&[0, 1, 45, u32::MAX.into(), 1 << 32, 1 << 63, u64::MAX - 45, u64::MAX]);
+    let sum = random.pick(&[0, 1, 45, u32::MAX.into(), 1 << 32, (1 << 63) - 1, (1 << 63) - 45, 1 << 63, (1 << 63) + 45, u64::MAX - 45, u64::MAX]);
     if numbers == 0 {
         return [&halves(rows)[..], &[0; 4], &[UNBOUND; 2]].concat();
     }
     let (one, other) = (some_number(random), some_number(random));
-    [halves(rows), halves(numbers), halves(sum), [one.min(other), one.max(other)]].concat()
+    let (least, greatest) = if rank(one) <= rank(other) { (one, other) } else { (other, one) };
+    [halves(rows), halves(numbers), halves(sum), [least, greatest]].concat()
 }
 
 /// A list in order, of rows or records from a few that no run need have made.

@@ -288,7 +288,8 @@ pub fn merge(random: &mut Random, query: &Query, call: &mut Merge) {
         UNBOUND + 1,
         u32::MAX,
         number(5),
-        number(MOST_VALUE),
+        number(-1),
+        number(-MOST_NUMBER - 1),
         name(3),
     ]);
     let given = call.given.min(call.kept.len());

@@ -6,8 +6,8 @@ use crate::evaluation::words::*;
 
 /// A number, mostly small, now and then at an end of its range.
 pub fn some_number(random: &mut Random) -> u32 {
-    let value = random.small(7);
-    number(random.pick(&[value, value, value, 45, 310, MOST_VALUE - 1, MOST_VALUE]))
+    let value = random.small(7) as i32;
+    number(random.pick(&[value, value, value - 3, 45, 310, MOST_NUMBER - 1, MOST_NUMBER, -MOST_NUMBER, -MOST_NUMBER - 1]))
 }
 
 /// The number of a survey, of 28 bits.
@@ -34,7 +34,7 @@ pub fn wood(random: &mut Random, rows: usize) -> Tables {
             0..=3 => other,
             4 => predicate,
             5..=7 => some_number(random),
-            8 => number(random.small(1 << 20)),
+            8 => number(random.small(1 << 20) as i32),
             _ => term(TEXT, random.small(4)),
         };
         [subject, predicate, object]
@@ -45,6 +45,6 @@ pub fn wood(random: &mut Random, rows: usize) -> Tables {
 /// A wood of stems as the three-stem wood has them: a stand (n10) and a diameter (n12) each.
 pub fn stems(random: &mut Random, many: u32) -> Tables {
     let stand = |random: &mut Random, stem| [name(1_000_000 + stem), name(10), name(100 + random.small(20))];
-    let size = |random: &mut Random, stem| [name(1_000_000 + stem), name(12), number(20 + random.small(600))];
+    let size = |random: &mut Random, stem| [name(1_000_000 + stem), name(12), number(20 + random.small(600) as i32)];
     Tables::of((0..many).flat_map(|stem| [stand(random, stem), size(random, stem)]).collect())
 }

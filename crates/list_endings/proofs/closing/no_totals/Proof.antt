@@ -1,10 +1,10 @@
 -- `no_totals` meets its contract.
-use mathlib.Core.Path.{refl}
+use Rattle.lists.proofs.Sums.{zero-bits}
 use Rattle.list_endings.proofs.closing.no_totals.Statement.{statement}
 use Rattle.list_endings.proofs.closing.no_totals.Tie as tie
 
 returns : tie.Need-returns
-returns c = refl
+returns c = rw zero-bits
 
 pub no-totals-spec : {M : Type 1} → statement M
 no-totals-spec = tie.close (tie.spec returns)

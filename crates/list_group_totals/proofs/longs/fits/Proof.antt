@@ -6,7 +6,7 @@ use native.Mathlib.Omega.{arith}
 use lib.Dec.{ltb, leb}
 use borrow.Author.Needs.{needs}
 use borrow.Author.Tests.{lt-ltb, le-ltb, leb-true, leb-false}
-use Rattle.lists.specs.Gathering.{longValues}
+use Rattle.lists.specs.Sums.{longValues}
 use Rattle.list_group_totals.proofs.longs.fits.Statement.{statement}
 use Rattle.list_group_totals.proofs.longs.fits.Tie as tie
 

@@ -1,26 +1,25 @@
 -- `put_text` meets its contract: a dash, or a letter and the value behind it.
 use borrow.Author.Needs.{needs}
-use Prim.Native.Nat.{ℕ}
 use native.Mathlib.Omega.{arith}
 use mathlib.Core.List.{[], _∷_, _++_}
-use mathlib.Core.Path.{_≡_, refl, sym, ap, _∙_}
+use mathlib.Core.Path.{_≡_, sym, ap, _∙_}
 use lib.ListN.{length}
-use Rattle.words.specs.Words.{termValue}
-use Rattle.print_texts.specs.Texts.{decimal, kindLetter, termText}
+use Rattle.print_texts.specs.Texts.{kindLetter, valueText, termText}
 use Rattle.print_texts.proofs.Placements.{placed-then}
 use Rattle.print_texts.proofs.Terms.{unbound-text, bound-text}
 use Rattle.print_texts.proofs.texts.put_text.Statement.{statement}
 use Rattle.print_texts.proofs.texts.put_text.Tie as tie
 
 -- the text of a term that is not a variable, once its letter is found
-text-of : (c : tie.After-letter-of) (value : ℕ) → value ≡ termValue (c .before .before .before .before .before .before .args .word)
-    → termText (c .before .before .before .before .before .before .args .word) ≡ (c .letter-of .result ∷ []) ++ decimal value
-text-of c value e =
+text-of : (c : tie.After-letter-of)
+    → termText (c .before .before .before .before .before .before .args .word)
+    ≡ (c .letter-of .result ∷ []) ++ valueText (c .before .before .before .before .before .before .args .word)
+text-of c =
     let k = c .before in
     let i = k .before .before in
     let v = i .before in
-    bound-text (v .before .before .args .word) (c .letter-of .result) value (sym (v .is-variable .ensures) ∙ i .if1 .left)
-    (c .letter-of .ensures ∙ ap kindLetter (k .kind .ensures)) e
+    bound-text (v .before .before .args .word) (c .letter-of .result) (sym (v .is-variable .ensures) ∙ i .if1 .left)
+    (c .letter-of .ensures ∙ ap kindLetter (k .kind .ensures))
 
 is-variable-requires : tie.Need-is-variable-requires
 is-variable-requires c κs = search needs
@@ -47,18 +46,12 @@ letter-of-requires : tie.Need-letter-of-requires
 letter-of-requires c κs = search needs
 
 put-byte-requires-2 : tie.Need-put-byte-requires-2
-put-byte-requires-2 c κs = let e = ap length (text-of c _ refl) in omega arith
+put-byte-requires-2 c κs = let e = ap length (text-of c) in omega arith
 
-value-requires : tie.Need-value-requires
-value-requires c κs = search needs
-
-long-requires : tie.Need-long-requires
-long-requires c κs = search needs
-
-put-decimal-requires : tie.Need-put-decimal-requires
-put-decimal-requires c κs =
-    let l = c .before .before .before .before .before .before in
-    let e = ap length (text-of l (c .long .result) (c .long .ensures .0 ∙ c .before .value .ensures)) in
+put-value-requires : tie.Need-put-value-requires
+put-value-requires c κs =
+    let l = c .before .before .before .before in
+    let e = ap length (text-of l) in
     omega arith
 
 same-length-2 : tie.Need-same-length-2
@@ -66,16 +59,13 @@ same-length-2 c = search needs
 
 returns-2 : tie.Need-returns-2
 returns-2 c =
-    let n = c .before .before .before in
-    let l = n .before .before .before .before .before .before in
+    let l = c .before .before .before .before .before .before .before in
     let a = l .before .before .before .before .before .before .args in
-    let value = n .long .result in
-    let one = n .before .before .before .before .before .put-byte2 in
-    let two = c .before .before .put-decimal in
-    let t = text-of l value (n .long .ensures .0 ∙ n .before .value .ensures) in
-    let e = ap length t in
-    rw t
-    (placed-then (l .letter-of .result ∷ []) (decimal value) (a .at) (one .result) (two .result) (a .line .now) (one .last .0)
+    let one = c .before .before .before .before .before .before .put-byte2 in
+    let two = c .before .before .put-value in
+    let e = ap length (text-of l) in
+    rw (text-of l)
+    (placed-then (l .letter-of .result ∷ []) (valueText (a .word)) (a .at) (one .result) (two .result) (a .line .now) (one .last .0)
     (two .last .0) (omega arith) (one .ensures) (two .ensures))
 
 pub put-text-spec : {M : Type 1} → statement M
@@ -89,8 +79,6 @@ put-text-spec =
     kind-requires
     letter-of-requires
     put-byte-requires-2
-    value-requires
-    long-requires
-    put-decimal-requires
+    put-value-requires
     same-length-2
     returns-2)
