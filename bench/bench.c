@@ -13,6 +13,7 @@
 #include <string.h>
 #include <time.h>
 
+enum { COLUMNS = SOTJARN_ROW_WORDS, YEAR = 2026 };
 enum { STEMS = 32768, COUNT = 2 * STEMS, GROUPS = 10000, BEST = 64, OUTPUT = 400000 };
 
 #define N(v) ((uint32_t)(v))
@@ -20,7 +21,7 @@ enum { STEMS = 32768, COUNT = 2 * STEMS, GROUPS = 10000, BEST = 64, OUTPUT = 400
 #define V(v) (3u << 30 | (uint32_t)(v))
 #define W(kind, low) ((uint32_t)(kind) << 28 | (uint32_t)(low))
 
-static uint32_t rows[3 * COUNT], pos[COUNT], osp[COUNT];
+static uint32_t rows[COLUMNS * COUNT], pos[COUNT], osp[COUNT];
 static sqlite3 *db;
 static double seconds = 2; /* for each measure; with 0, one round of each */
 
@@ -37,7 +38,7 @@ static double now(void)
     return (double)t.tv_sec * 1e9 + (double)t.tv_nsec;
 }
 
-/* ---- the woods: 32,768 stems with a stand and a diameter, drawn from a seed. They differ in the stems' names alone, and not in the names'
+/* ---- the woods: 32,768 stems of one year with a stand and a diameter, drawn from a seed. They differ in the stems' names alone, and not in the names'
  * order, so that steps and answers are alike: without gaps; with a gap of up to 1,000 before each; or the last eighth of them far off. */
 
 enum wood { DENSE, GAPS, FAR, WOODS };
@@ -64,13 +65,15 @@ static uint32_t next_name(enum wood wood, uint32_t last, uint32_t j)
     return last + (wood == FAR && j == STEMS / 8 * 7 ? 900000000 : 1);
 }
 
-static int order; /* the first column of the order that is sorted by */
+static int order; /* the first column after the year of the order that is sorted by: 0 subject, 1 predicate, 2 object */
 
 static int by_order(const void *a, const void *b)
 {
-    const uint32_t *x = rows + 3 * *(const uint32_t *)a, *y = rows + 3 * *(const uint32_t *)b;
+    const uint32_t *x = rows + COLUMNS * *(const uint32_t *)a, *y = rows + COLUMNS * *(const uint32_t *)b;
+    if (x[0] != y[0])
+        return x[0] < y[0] ? -1 : 1;
     for (int i = 0; i < 3; i++) {
-        int c = (order + i) % 3;
+        int c = 1 + (order + i) % 3;
         if (x[c] != y[c])
             return x[c] < y[c] ? -1 : 1;
     }
@@ -84,8 +87,8 @@ static void grow(enum wood wood)
     for (uint32_t j = 0; j < STEMS; j++) {
         uint32_t stand = draw() % 20, diameter = draw() % 600;
         name = next_name(wood, name, j);
-        uint32_t two[6] = {N(name), N(10), N(100 + stand), N(name), N(12), I(20 + diameter)};
-        memcpy(rows + 6 * j, two, sizeof two);
+        uint32_t two[2 * COLUMNS] = {I(YEAR), N(name), N(10), N(100 + stand), I(YEAR), N(name), N(12), I(20 + diameter)};
+        memcpy(rows + 2 * COLUMNS * j, two, sizeof two);
     }
     for (uint32_t i = 0; i < COUNT; i++)
         pos[i] = osp[i] = i;
@@ -115,16 +118,16 @@ static void fill(void)
 {
     if (!db && sqlite3_open(":memory:", &db) != SQLITE_OK)
         fail("no database");
-    sql("drop table if exists t; create table t(s integer, p integer, o integer); begin");
-    sqlite3_stmt *s = prepare("insert into t values (?, ?, ?)");
+    sql("drop table if exists t; create table t(y integer, s integer, p integer, o integer); begin");
+    sqlite3_stmt *s = prepare("insert into t values (?, ?, ?, ?)");
     for (uint32_t i = 0; i < COUNT; i++) {
-        for (int c = 0; c < 3; c++)
-            sqlite3_bind_int64(s, c + 1, rows[3 * i + c]);
+        for (int c = 0; c < COLUMNS; c++)
+            sqlite3_bind_int64(s, c + 1, rows[COLUMNS * i + c]);
         sqlite3_step(s);
         sqlite3_reset(s);
     }
     sqlite3_finalize(s);
-    sql("commit; create index spo on t(s, p, o); create index pos on t(p, o, s); create index osp on t(o, s, p); analyze");
+    sql("commit; create index spo on t(y, s, p, o); create index pos on t(y, p, o, s); create index osp on t(y, o, s, p); analyze");
 }
 
 /* runs a text from its preparing on, for at most so many rows; answers how many there were, and adds up all fields */
@@ -154,26 +157,26 @@ struct query {
 
 static struct query one_stand = {
     "one stand, diameter from 310",
-    "select a.s, b.o from t a join t b on b.s = a.s where a.p = 10 and a.o = 105 and b.p = 12 and b.o >= 1073742134",
+    "select a.s, b.o from t a join t b on b.y = a.y and b.s = a.s where a.y = 1073743850 and a.p = 10 and a.o = 105 and b.p = 12 and b.o >= 1073742134",
     {W(1, 1), W(2, 2), V(0), N(10), N(105), V(0), N(12), V(1), W(7, 5), V(1), I(310), W(8, 2), V(0), V(1)}, 14};
 
 static struct query whole = {
     "whole two-pattern join",
-    "select a.s, a.o, b.o from t a join t b on b.s = a.s where a.p = 10 and b.p = 12",
+    "select a.s, a.o, b.o from t a join t b on b.y = a.y and b.s = a.s where a.y = 1073743850 and a.p = 10 and b.p = 12",
     {PAIR, W(3, 0), W(8, 3), V(0), V(1), V(2)}, 13};
 
 static struct query top = {
     "top 10 by diameter",
-    "select a.s, a.o, b.o from t a join t b on b.s = a.s where a.p = 10 and b.p = 12 order by +b.o desc limit 10",
+    "select a.s, a.o, b.o from t a join t b on b.y = a.y and b.s = a.s where a.y = 1073743850 and a.p = 10 and b.p = 12 order by +b.o desc limit 10",
     {PAIR, W(3, 0), W(9, 10), W(8, 3), V(0), V(1), V(2), W(11, 2)}, 15};
 
 static const char *top_early =
-    "select a.s, a.o, b.o from t a join t b on b.s = a.s where a.p = 10 and b.p = 12 order by b.o desc limit 10";
+    "select a.s, a.o, b.o from t a join t b on b.y = a.y and b.s = a.s where a.y = 1073743850 and a.p = 10 and b.p = 12 order by b.o desc limit 10";
 
 static struct query groups = {
     "groups by stand",
-    "select a.o, count(*), count(b.o), sum(b.o), min(b.o), max(b.o) from t a join t b on b.s = a.s where a.p = 10 and b.p = 12 "
-    "group by a.o",
+    "select a.o, count(*), count(b.o), sum(b.o), min(b.o), max(b.o) from t a join t b on b.y = a.y and b.s = a.s "
+    "where a.y = 1073743850 and a.p = 10 and b.p = 12 group by a.o",
     {PAIR, W(3, 0), W(12, 1), V(1), V(2)}, 12};
 
 /* pairs of stems of one diameter, by the stand of the second: more than five million steps */
@@ -210,7 +213,7 @@ static const struct {
                    {c_open, c_turn, c_merge, cpp_make},
                    {portable_open, portable_turn, portable_merge, portable_make}};
 
-#define TABLES rows, 3 * COUNT, pos, COUNT, osp, COUNT
+#define TABLES rows, COLUMNS * COUNT, pos, COUNT, osp, COUNT
 
 struct result {
     struct sotjarn_turned turned;
@@ -294,8 +297,8 @@ static double time_pairs(enum who w, const struct query *q, uint32_t quantum)
     for (size_t i = 0; i < results[0].turned.list_words; i += 9)
         delivered += results[0].output[i + 1];
     snprintf(text, sizeof text,
-             "select x, count(*), count(d), sum(d), min(d), max(d) from (select c.o x, a.o d from t a cross join t b on b.o = a.o cross "
-             "join t c on c.s = b.s where a.p = 12 and b.p = 12 and c.p = 10 limit %llu) group by x",
+             "select x, count(*), count(d), sum(d), min(d), max(d) from (select c.o x, a.o d from t a cross join t b on b.y = a.y and b.o = a.o cross "
+             "join t c on c.y = b.y and c.s = b.s where a.y = 1073743850 and a.p = 12 and b.p = 12 and c.p = 10 limit %llu) group by x",
              (unsigned long long)delivered);
     t = now();
     sum = 0;
@@ -401,18 +404,18 @@ static double time_merge_groups(enum who w, const struct query *q, uint32_t quan
 
 /* ---- making tables: of the wood's rows, shuffled or in their order, and of a walk with repeats and wrong kinds */
 
-static uint32_t upload[3 * COUNT];
+static uint32_t upload[COLUMNS * COUNT];
 static struct made_tables {
     struct sotjarn_made answer;
-    uint32_t rows[3 * COUNT], pos[COUNT], osp[COUNT], report[2 * COUNT];
+    uint32_t rows[COLUMNS * COUNT], pos[COUNT], osp[COUNT], report[2 * COUNT];
 } made[SQLITE];
 
 static void swap_rows(uint32_t i, uint32_t j)
 {
-    for (int c = 0; c < 3; c++) {
-        uint32_t word = upload[3 * i + c];
-        upload[3 * i + c] = upload[3 * j + c];
-        upload[3 * j + c] = word;
+    for (int c = 0; c < COLUMNS; c++) {
+        uint32_t word = upload[COLUMNS * i + c];
+        upload[COLUMNS * i + c] = upload[COLUMNS * j + c];
+        upload[COLUMNS * j + c] = word;
     }
 }
 
@@ -438,8 +441,8 @@ static void upload_walk(void)
 {
     upload_sorted();
     for (uint32_t i = 0; i < COUNT; i += 8) {
-        memcpy(upload + 3 * i, upload + 3 * (i + 1), 3 * sizeof *upload);
-        upload[3 * (i + 4)] |= 1u << 30;
+        memcpy(upload + COLUMNS * i, upload + COLUMNS * (i + 1), COLUMNS * sizeof *upload);
+        upload[COLUMNS * (i + 4) + 1] |= 1u << 30;
     }
     shuffle();
 }
@@ -452,7 +455,7 @@ static double time_make(enum who w, const struct query *q, uint32_t quantum)
     if (w == SQLITE)
         return 1e18;
     t = now();
-    m->answer = calls[w].make(upload, 3 * COUNT, m->rows, 3 * COUNT, m->pos, COUNT, m->osp, COUNT, m->report, 2 * COUNT);
+    m->answer = calls[w].make(upload, COLUMNS * COUNT, m->rows, COLUMNS * COUNT, m->pos, COUNT, m->osp, COUNT, m->report, 2 * COUNT);
     t = now() - t;
     if (m->answer.refused)
         fail("an upload is refused");

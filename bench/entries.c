@@ -15,7 +15,7 @@
 enum { CALLS = 2000, ROOM = SOTJARN_MOST_ENTRIES };
 
 static struct sotjarn_entry line[ROOM], aside[ROOM];
-static const uint32_t rows[3] = {1, 10, 100}, numbers[1] = {0};
+static const uint32_t rows[SOTJARN_ROW_WORDS] = {SOTJARN_NUMBER(2026), 1, 10, 100}, numbers[1] = {0};
 static const uint32_t plan[] = {
     SOTJARN_HEAD(1), SOTJARN_BRANCH(1), SOTJARN_VARIABLE(0), 10, 100, SOTJARN_TRUE, SOTJARN_ROWS(1), SOTJARN_VARIABLE(0)};
 static uint32_t output[1];
@@ -27,11 +27,12 @@ static void put(struct sotjarn_entry *entries, int count, uint32_t first, uint64
         entries[i].allowance = allowance;
         entries[i].owner = first + (uint32_t)i;
         entries[i].plan_words = sizeof plan / sizeof *plan;
-        entries[i].state_words = 3;
+        entries[i].state_words = 4;
         memcpy(entries[i].plan, plan, sizeof plan);
         entries[i].state[0] = SOTJARN_SURVEY(0);
-        entries[i].state[1] = SOTJARN_POSITION(0, 1);
-        entries[i].state[2] = SOTJARN_PLACE(0);
+        entries[i].state[1] = SOTJARN_YEAR(2026);
+        entries[i].state[2] = SOTJARN_POSITION(0, 1);
+        entries[i].state[3] = SOTJARN_PLACE(0);
     }
 }
 

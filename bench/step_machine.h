@@ -4,7 +4,7 @@
 
 #include "sotjarn.h"
 
-/* the number of the first of tests 1 to 4 that fails, or 0 */
+/* the number of the first of tests 1, 2, 23, 3 and 4 that fails, or 0 */
 uint32_t c_check(const uint32_t *rows, size_t rows_len, const uint32_t *pos, size_t pos_len, const uint32_t *osp, size_t osp_len);
 
 struct sotjarn_written c_open(const uint32_t *rows, size_t rows_len, const uint32_t *pos, size_t pos_len,

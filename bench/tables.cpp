@@ -8,27 +8,30 @@
 
 namespace {
 
-constexpr size_t columns = 3;
+constexpr size_t columns = 4, terms = 3;
 constexpr size_t most_rows = 65536;
 enum : uint8_t { kept, wrong_kind, repeat };
 
-// The order of rows by their columns from one on.
+// The order of rows by their year and their terms from one on.
 template <size_t first> struct Before {
     const uint32_t *rows;
 
     bool operator()(uint32_t a, uint32_t b) const
     {
-        constexpr size_t second = (first + 1) % columns, third = (first + 2) % columns;
+        constexpr size_t one = 1 + first, second = 1 + (first + 1) % terms, third = 1 + (first + 2) % terms;
         const uint32_t *x = rows + columns * a, *y = rows + columns * b;
-        if (x[first] != y[first])
-            return x[first] < y[first];
+        if (x[0] != y[0])
+            return x[0] < y[0];
+        if (x[one] != y[one])
+            return x[one] < y[one];
         return x[second] != y[second] ? x[second] < y[second] : x[third] < y[third];
     }
 };
 
 bool kinds_right(const uint32_t *row)
 {
-    return row[0] >> 30 == 0 && row[1] >> 30 == 0 && row[2] >> 30 != 3;
+    const uint32_t year = row[0] & 0x3FFFFFFF;
+    return row[0] >> 30 == 1 && year >= 1 && year <= 9999 && row[1] >> 30 == 0 && row[2] >> 30 == 0 && row[3] >> 30 != 3;
 }
 
 template <size_t first> void write_list(const uint32_t *rows, uint32_t *list, size_t count)

@@ -20,10 +20,10 @@
 #define GROWS_IN SOTJARN_NAME(10)
 #define MEASURES SOTJARN_NAME(12)
 #define STOOD(stem, stand, size) \
-    SOTJARN_NAME(stem), GROWS_IN, SOTJARN_NAME(stand), SOTJARN_NAME(stem), MEASURES, SOTJARN_NUMBER(size)
+    SOTJARN_NUMBER(2026), SOTJARN_NAME(stem), GROWS_IN, SOTJARN_NAME(stand), SOTJARN_NUMBER(2026), SOTJARN_NAME(stem), MEASURES, SOTJARN_NUMBER(size)
 
 /* The adviser's tables have a number of their own, and keep it while the view is the same. */
-enum { SEEN = 40, ROWS = 12, QUANTUM = 2, OUTPUT = 16 };
+enum { SEEN = 40, ROWS = 12, WORDS = SOTJARN_ROW_WORDS * ROWS, QUANTUM = 2, OUTPUT = 16 };
 
 /* The first survey: stems n1, n3 and n5 in stand n100, the others in n101. Then n2 is felled, n4 has grown, and n7 is new; last, n3 has grown. */
 static const uint32_t first[] = {STOOD(1, 100, 45), STOOD(2, 101, 310), STOOD(3, 100, 310), STOOD(4, 101, 88), STOOD(5, 100, 120)};
@@ -36,14 +36,14 @@ static const uint32_t plan[] = {SOTJARN_HEAD(1), SOTJARN_BRANCH(1), STEM, MEASUR
 
 /* Tables of at most so many rows, and how many they have. */
 struct tables {
-    uint32_t rows[3 * ROWS], pos[ROWS], osp[ROWS];
+    uint32_t rows[WORDS], pos[ROWS], osp[ROWS];
     size_t count;
 };
 
 static uint32_t make(const uint32_t *survey, size_t words, struct tables *made)
 {
     uint32_t report[2 * ROWS];
-    struct sotjarn_made answer = sotjarn_make(survey, words, made->rows, 3 * ROWS, made->pos, ROWS, made->osp, ROWS, report, 2 * ROWS);
+    struct sotjarn_made answer = sotjarn_make(survey, words, made->rows, WORDS, made->pos, ROWS, made->osp, ROWS, report, 2 * ROWS);
     made->count = answer.pos_words;
     return answer.refused;
 }
@@ -51,8 +51,8 @@ static uint32_t make(const uint32_t *survey, size_t words, struct tables *made)
 static uint32_t view(const struct tables *whole, struct tables *seen)
 {
     struct sotjarn_tables answer =
-        sotjarn_view(whole->rows, 3 * whole->count, whole->pos, whole->count, whole->osp, whole->count, grant, COUNT(grant), GROWS_IN,
-                     seen->rows, 3 * ROWS, seen->pos, ROWS, seen->osp, ROWS);
+        sotjarn_view(whole->rows, SOTJARN_ROW_WORDS * whole->count, whole->pos, whole->count, whole->osp, whole->count, grant, COUNT(grant), GROWS_IN,
+                     seen->rows, WORDS, seen->pos, ROWS, seen->osp, ROWS);
     seen->count = answer.pos_words;
     return answer.refused;
 }
@@ -75,7 +75,7 @@ static struct sotjarn_turned turn(const struct tables *seen, uint32_t *state, si
     static const char *const endings[] = {"done", "spent", "full", "refused"};
     uint32_t output[OUTPUT];
     struct sotjarn_turned turned =
-        sotjarn_turn(seen->rows, 3 * seen->count, seen->pos, seen->count, seen->osp, seen->count, SEEN, plan, COUNT(plan), state,
+        sotjarn_turn(seen->rows, SOTJARN_ROW_WORDS * seen->count, seen->pos, seen->count, seen->osp, seen->count, SEEN, plan, COUNT(plan), state,
                      SOTJARN_STATE_WORDS, state_words, QUANTUM, grant, 0, output, OUTPUT);
     printf("a turn: %" PRIu32 " steps, %s\n", turned.steps, endings[turned.ending]);
     for (size_t at = 0; at < turned.list_words; at += 2)
@@ -93,7 +93,7 @@ int main(void)
     if ((number = make(first, COUNT(first), &whole)) || (number = view(&whole, &seen)))
         return refused("the first survey", number);
     printf("the service has %zu rows, the adviser sees %zu\n", whole.count, seen.count);
-    opened = sotjarn_open(seen.rows, 3 * seen.count, seen.pos, seen.count, seen.osp, seen.count, SEEN, plan, COUNT(plan), state, COUNT(state));
+    opened = sotjarn_open(seen.rows, SOTJARN_ROW_WORDS * seen.count, seen.pos, seen.count, seen.osp, seen.count, SEEN, plan, COUNT(plan), state, COUNT(state));
     if (opened.refused)
         return refused("the query", opened.refused);
     turned = turn(&seen, state, opened.words);

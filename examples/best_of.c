@@ -13,12 +13,13 @@
 /* SURVEY is the number that the upload got: another one goes with every upload */
 enum { SURVEY = 7, COUNT = 7, PLAN = 16, STATE = SOTJARN_STATE_WORDS, BEST = 1, WIDTH = 2, QUANTUM = 4 };
 
-/* the third row is the second again */
-static const uint32_t upload[3 * COUNT] = {
-    3, 12, 0x40000136, 2, 12, 0x40000136, 2, 12, 0x40000136, 2, 10, 100, 3, 10, 100, 1, 10, 100, 1, 12, 0x4000002D};
+/* rows of 2026; the third is the second again */
+static const uint32_t upload[4 * COUNT] = {
+    0x400007EA, 3, 12, 0x40000136, 0x400007EA, 2, 12, 0x40000136, 0x400007EA, 2, 12, 0x40000136, 0x400007EA, 2, 10, 100,
+    0x400007EA, 3, 10, 100, 0x400007EA, 1, 10, 100, 0x400007EA, 1, 12, 0x4000002D};
 
 /* room for all that an upload of so many rows can make */
-static uint32_t rows[3 * COUNT], pos[COUNT], osp[COUNT], report[2 * COUNT];
+static uint32_t rows[4 * COUNT], pos[COUNT], osp[COUNT], report[2 * COUNT];
 
 /* ?0 n10 n100, ?0 n12 ?1, condition ?1 >= i70; the best 1 of rows ?0 ?1 by ?1 falling */
 static const uint32_t plan[PLAN] = {
@@ -35,7 +36,7 @@ int main(void) {
     size_t state_words, kept_words = 0;
     uint32_t ending;
 
-    struct sotjarn_made made = sotjarn_make(upload, 3 * COUNT, rows, 3 * COUNT, pos, COUNT, osp, COUNT, report, 2 * COUNT);
+    struct sotjarn_made made = sotjarn_make(upload, 4 * COUNT, rows, 4 * COUNT, pos, COUNT, osp, COUNT, report, 2 * COUNT);
     if (made.refused) return refused(made.refused);
     for (size_t at = 0; at < made.report_words; at += 2)
         printf("row %u of the upload: %s\n", (unsigned)report[at], sotjarn_dropped_text(report[at + 1]));

@@ -15,12 +15,14 @@
 #define COUNT(array) (sizeof(array) / sizeof *(array))
 #define STEM SOTJARN_VARIABLE(0)
 #define SIZE SOTJARN_VARIABLE(1)
+#define MEASURED SOTJARN_NUMBER(2026) /* the year of a row */
 
 enum { SURVEY = 7, ROOM = SOTJARN_MOST_ENTRIES, QUANTUM = 6, TOP_UP = 20, OUTPUT = 64, OWNERS = 3 };
 
 /* The three-stem wood: stands (n10) and diameters (n12). It is one survey, and every query of the line runs over it. */
 static const uint32_t rows[] = {
-    1, 10, 100, 1, 12, SOTJARN_NUMBER(45), 2, 10, 100, 2, 12, SOTJARN_NUMBER(310), 3, 10, 100, 3, 12, SOTJARN_NUMBER(310)};
+    MEASURED, 1, 10, 100, MEASURED, 1, 12, SOTJARN_NUMBER(45), MEASURED, 2, 10, 100, MEASURED, 2, 12, SOTJARN_NUMBER(310),
+    MEASURED, 3, 10, 100, MEASURED, 3, 12, SOTJARN_NUMBER(310)};
 static const uint32_t list[] = {0, 2, 4, 1, 3, 5};
 
 /* The stems of at least 70; the total of all diameters; the largest stem. */

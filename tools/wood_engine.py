@@ -15,8 +15,8 @@ ROOT = os.path.normpath(os.path.join(os.path.dirname(os.path.abspath(__file__)),
 PORTABLE = os.path.join(ROOT, 'portable')
 REASONS = os.path.join(ROOT, 'tools', 'refusals.txt')
 NAMES = {'darwin': 'libsotjarn_portable.dylib', 'win32': 'sotjarn_portable.dll'}
-FIELD_KIND, ROW_ORDER, ROW_NUMBERS, FORM, VARIABLES, QUANTUM = 2, 3, 4, 5, 6, 8
-STATE_WORDS, ROW_WORDS = 10, 3
+FIELD_KIND, ROW_ORDER, ROW_NUMBERS, FORM, VARIABLES, QUANTUM, YEAR = 2, 3, 4, 5, 6, 8, 23
+STATE_WORDS, ROW_WORDS = 11, 4
 SURVEY = 0            # the number of a file's tables
 WRONG_KIND, REPEAT = 1, 2           # why a row was dropped
 
@@ -148,22 +148,27 @@ class Search:
         self.engine, self.text, self.pos, self.osp = engine, text, pos, osp
 
     def line(self, number):
-        if number in (FIELD_KIND, ROW_ORDER):
+        if number in (FIELD_KIND, ROW_ORDER) or number == YEAR and self.refused(len(self.text.rows)) == YEAR:
             return self.row(number)
+        if number == YEAR:
+            return self.text.read_line or self.text.words_line
         if number == ROW_NUMBERS:
             return self.list()
         if number in (FORM, VARIABLES):
             return self.part(number)
         return self.text.quantum_line if number == QUANTUM else None
 
+    def refused(self, count):
+        """The number that refuses so many rows from the front; 5 where they are right, since no plan is asked with them."""
+        words = [w for row in self.text.rows[:count] for w in row]
+        return self.engine.open(words, range(count), range(count), [])
+
     def row(self, number):
         """Of the rows from the front, the first with which they are refused."""
         first, last = 0, len(self.text.rows)
         while first + 1 < last:
             middle = (first + last) // 2
-            words = [w for row in self.text.rows[:middle] for w in row]
-            refused = self.engine.open(words, range(middle), range(middle), []) == number
-            first, last = (first, middle) if refused else (middle, last)
+            first, last = (first, middle) if self.refused(middle) == number else (middle, last)
         return self.text.row_lines[last - 1]
 
     def list(self):
@@ -175,7 +180,7 @@ class Search:
     def part(self, number):
         """The first branch with which those from the front are refused, or the ending, or what stands behind it."""
         def refuses(branches, ending):
-            return self.engine.plan([HEAD | len(branches), *(w for words in branches for w in words), *ending]) == number
+            return self.engine.plan([HEAD | len(branches), *(w for words in branches for w in words), *ending]) == number      # in the latest year
 
         for count, branch in enumerate(self.text.branches, 1):
             if refuses([b.words() for b in self.text.branches[:count]], self.measured(branch.terms)):

@@ -1,5 +1,5 @@
 /* The three-stem wood from C: tables made from an upload and the report of what was dropped, a row query in turns of four steps, a best-of
- * list with a threshold, totals merged turn by turn, the total of nothing, two owners on the line, an adviser's view, a state after the next upload, and
+ * list with a threshold, totals merged turn by turn, the total of nothing, two owners on the line, an adviser's view, a state after the next upload, two years, and
  * refused calls. Each buffer comes from malloc with exactly the words it needs, so that a memory checker sees every word beside it.
  * Compiles as C99 and as C++. Prints what it does; exits with 1 where something is not as the rules say. */
 #include "sotjarn.h"
@@ -14,6 +14,10 @@
 #define NAME SOTJARN_NAME
 #define NUMBER SOTJARN_NUMBER
 #define VARIABLE SOTJARN_VARIABLE
+
+/* A row of the year in which the wood was measured. */
+enum { MEASURED = 2026 };
+#define ROW(subject, predicate, object) NUMBER(MEASURED), subject, predicate, object
 
 /* The branch that the plans share: ?0 n10 n100, ?0 n12 ?1. */
 #define PATTERNS \
@@ -30,15 +34,15 @@ static const uint32_t plan_felled[] = {PATTERNS, SOTJARN_COMPARISON(SOTJARN_GREA
 /* The wood as it was measured: the last stem first, the diameter of stem n2 taken twice, and a row whose subject is a text. */
 enum { UPLOADED = 8, KEPT = 6, DROPPED = UPLOADED - KEPT };
 static const uint32_t uploaded[UPLOADED * SOTJARN_ROW_WORDS] = {
-    NAME(3), NAME(12), NUMBER(310), NAME(3), NAME(10), NAME(100),
-    NAME(2), NAME(12), NUMBER(310), SOTJARN_TEXT(7), NAME(12), NUMBER(88), NAME(2), NAME(12), NUMBER(310), NAME(2), NAME(10), NAME(100),
-    NAME(1), NAME(12), NUMBER(45), NAME(1), NAME(10), NAME(100)};
+    ROW(NAME(3), NAME(12), NUMBER(310)), ROW(NAME(3), NAME(10), NAME(100)), ROW(NAME(2), NAME(12), NUMBER(310)),
+    ROW(SOTJARN_TEXT(7), NAME(12), NUMBER(88)), ROW(NAME(2), NAME(12), NUMBER(310)), ROW(NAME(2), NAME(10), NAME(100)),
+    ROW(NAME(1), NAME(12), NUMBER(45)), ROW(NAME(1), NAME(10), NAME(100))};
 
 /* The tables that are made of it. */
 static const uint32_t wood_rows[KEPT * SOTJARN_ROW_WORDS] = {
-    NAME(1), NAME(10), NAME(100), NAME(1), NAME(12), NUMBER(45),
-    NAME(2), NAME(10), NAME(100), NAME(2), NAME(12), NUMBER(310),
-    NAME(3), NAME(10), NAME(100), NAME(3), NAME(12), NUMBER(310)};
+    ROW(NAME(1), NAME(10), NAME(100)), ROW(NAME(1), NAME(12), NUMBER(45)),
+    ROW(NAME(2), NAME(10), NAME(100)), ROW(NAME(2), NAME(12), NUMBER(310)),
+    ROW(NAME(3), NAME(10), NAME(100)), ROW(NAME(3), NAME(12), NUMBER(310))};
 static const uint32_t wood_list[KEPT] = {0, 2, 4, 1, 3, 5};
 
 /* An address for a buffer without words: none may be null. */
@@ -266,7 +270,7 @@ static void best_of(void)
 
 static void print_total(const uint32_t *record)
 {
-    printf("group %" PRIu64 " %" PRIu64 " %" PRIu64, sotjarn_wide(record), sotjarn_wide(record + 2), sotjarn_wide(record + 4));
+    printf("group %" PRIu64 " %" PRIu64 " %" PRId64, sotjarn_wide(record), sotjarn_wide(record + 2), sotjarn_sum(record + 4));
     print_term(record[6]);
     print_term(record[7]);
     printf("\n");
@@ -415,8 +419,8 @@ static void adviser(void)
     view.survey = ADVISED;
     view.plan = copied(plan_rows, sizeof plan_rows / sizeof *plan_rows);
     viewed = view_tables(&query, grant, NAME(10), &view);
-    expect(viewed.refused == 0 && viewed.rows_words == 6 && viewed.pos_words == 2 && viewed.osp_words == 2, "stem n2 has two rows");
-    expect(memcmp(view.rows.words, wood_rows + 2 * SOTJARN_ROW_WORDS, 6 * sizeof(uint32_t)) == 0, "they are rows 2 and 3");
+    expect(viewed.refused == 0 && viewed.rows_words == 2 * SOTJARN_ROW_WORDS && viewed.pos_words == 2 && viewed.osp_words == 2, "stem n2 has two rows");
+    expect(memcmp(view.rows.words, wood_rows + 2 * SOTJARN_ROW_WORDS, 2 * SOTJARN_ROW_WORDS * sizeof(uint32_t)) == 0, "they are rows 2 and 3");
     expect(view.pos.words[0] == 0 && view.pos.words[1] == 1 && view.osp.words[0] == 0 && view.osp.words[1] == 1, "numbered from 0");
     opened = open_query(&view, state);
     turned = run_turn(&view, state, opened.words, 10, no_words, 0, output);
@@ -428,7 +432,7 @@ static void adviser(void)
     expect(viewed.refused == SOTJARN_REFUSED_GRANT && viewed.rows_words == 0, "a grant ascends");
     viewed = view_tables(&query, wide, NAME(10), &view);
     printf("a view of all rows in so short buffers: refused by %" PRIu32 "\n", viewed.refused);
-    expect(viewed.refused == SOTJARN_REFUSED_VIEW_LENGTHS && view.rows.words[0] == NAME(2), "six rows have no room, and the view stays");
+    expect(viewed.refused == SOTJARN_REFUSED_VIEW_LENGTHS && view.rows.words[1] == NAME(2), "six rows have no room, and the view stays");
     free(grant.words);
     free(wide.words);
     free(wrong.words);
@@ -446,9 +450,10 @@ static void next_upload(void)
     struct sotjarn_written opened = open_query(&query, state);
     struct sotjarn_turned turned = run_turn(&query, state, opened.words, 4, no_words, 0, output);
     expect(turned.ending == SOTJARN_SPENT && state.words[0] == SOTJARN_SURVEY(YESTERDAY), "a state begins with its survey's word");
+    expect(state.words[1] == SOTJARN_YEAR(MEASURED), "then comes the year that it reads");
 
     query.survey = TODAY; /* and a diameter that was measured anew: n2 n12 i312 */
-    query.rows.words[3 * SOTJARN_ROW_WORDS + 2] = NUMBER(312);
+    query.rows.words[3 * SOTJARN_ROW_WORDS + 3] = NUMBER(312);
     query.pos.words[4] = query.osp.words[4] = 5; /* i310 of n3 comes before it now */
     query.pos.words[5] = query.osp.words[5] = 3;
     turned = run_turn(&query, state, turned.state_words, 4, no_words, 0, output);
@@ -465,25 +470,67 @@ static void next_upload(void)
     free_query(&query);
 }
 
+/* The wood of two years: the latest is read, a year that is named, or every year, one after the other. */
+static void years(void)
+{
+    static const uint32_t every[] = {SOTJARN_YEAR(0), PATTERNS, SOTJARN_TRUE, SOTJARN_GROUP(0), VARIABLE(1)};
+    uint32_t of_both[2 * KEPT * SOTJARN_ROW_WORDS];
+    struct query query;
+    struct buffer upload, report = make_buffer(0), state = make_buffer(SOTJARN_STATE_WORDS), output = make_buffer(SOTJARN_TOTALS_WORDS);
+    struct sotjarn_made made;
+    struct sotjarn_turned turned;
+    memcpy(of_both, wood_rows, sizeof wood_rows);
+    memcpy(of_both + KEPT * SOTJARN_ROW_WORDS, wood_rows, sizeof wood_rows);
+    for (size_t row = 0; row < KEPT; row++) /* the second copy is of the year before, and each stem was thinner by 5 */
+        of_both[(KEPT + row) * SOTJARN_ROW_WORDS] = NUMBER(MEASURED - 1);
+    for (size_t row = 1; row < KEPT; row += 2)
+        of_both[(KEPT + row) * SOTJARN_ROW_WORDS + 3] -= 5;
+    upload = copied(of_both, sizeof of_both / sizeof *of_both);
+    query.rows = make_buffer(upload.len);
+    query.pos = make_buffer(2 * KEPT);
+    query.osp = make_buffer(2 * KEPT);
+    query.survey = TODAY;
+    query.plan = copied(every, sizeof every / sizeof *every);
+    made = make_tables(upload, &query, report);
+    expect(made.refused == 0 && made.pos_words == 2 * KEPT && query.rows.words[0] == NUMBER(MEASURED - 1), "the earlier year stands first");
+    for (uint32_t year = MEASURED - 2; year <= MEASURED; year++) {
+        query.plan.words[0] = SOTJARN_YEAR(year);
+        turned = run_turn(&query, state, open_query(&query, state).words, 100, no_words, 0, output);
+        printf("%" PRIu32 ": steps %" PRIu32 ", stems %" PRIu32 ", sum %" PRId64 "\n", year, turned.steps, output.words[0], sotjarn_sum(output.words + 4));
+        expect(turned.ending == SOTJARN_DONE && output.words[4] == (year == MEASURED ? 665u : year == MEASURED - 1 ? 650u : 0u), "each year has its sum");
+    }
+    query.plan.words[0] = SOTJARN_YEAR(0);
+    turned = run_turn(&query, state, open_query(&query, state).words, 100, no_words, 0, output);
+    printf("every year: steps %" PRIu32 ", stems %" PRIu32 ", sum %" PRId64 "\n", turned.steps, output.words[0], sotjarn_sum(output.words + 4));
+    expect(turned.ending == SOTJARN_DONE && turned.steps == 20 && output.words[0] == 6 && output.words[4] == 1315, "both years have one total");
+    query.plan.words[0] = SOTJARN_YEAR(SOTJARN_MOST_YEAR + 1);
+    expect(open_query(&query, state).refused == SOTJARN_REFUSED_YEAR, "a year above 9,999 is refused by 23");
+    free(upload.words);
+    free(report.words);
+    free(state.words);
+    free(output.words);
+    free_query(&query);
+}
+
 /* Calls that are refused by number and change nothing: short buffers, tables out of order, a quantum of 0, merged rows, part of a plan. */
 static void refusals(void)
 {
     struct query query = make_query(plan_rows, sizeof plan_rows / sizeof *plan_rows);
-    struct buffer state = make_buffer(SOTJARN_STATE_WORDS), output = make_buffer(2), short_state = make_buffer(9);
+    struct buffer state = make_buffer(SOTJARN_STATE_WORDS), output = make_buffer(2), short_state = make_buffer(10);
     struct sotjarn_turned turned;
     struct sotjarn_written merged;
     memset(short_state.words, 0, short_state.len * sizeof(uint32_t));
-    expect(open_query(&query, short_state).refused == SOTJARN_REFUSED_BUFFER_LENGTHS, "a state buffer of 9 words is refused by 7");
-    expect(open_query(&query, state).words == 3, "a start state has three words");
+    expect(open_query(&query, short_state).refused == SOTJARN_REFUSED_BUFFER_LENGTHS, "a state buffer of 10 words is refused by 7");
+    expect(open_query(&query, state).words == 4, "a start state has four words");
     output.words[0] = output.words[1] = 12345;
-    turned = run_turn(&query, state, 3, 0, no_words, 0, output);
+    turned = run_turn(&query, state, 4, 0, no_words, 0, output);
     printf("quantum 0: %s by %" PRIu32 ": %s\n", ending_name(turned.ending), turned.refused, sotjarn_refusal_text(turned.refused));
     expect(turned.refused == SOTJARN_REFUSED_QUANTUM && turned.steps == 0 && turned.list_words == 0, "a quantum of 0 is refused by 8");
     expect(output.words[0] == 12345 && output.words[1] == 12345, "a refused turn writes nothing");
     merged = sotjarn_merge(query.plan.words, query.plan.len, output.words, output.len, 0, no_words, 0);
     expect(merged.refused == SOTJARN_REFUSED_MERGED_LISTS, "the lists of a row query are not merged");
     query.pos.words[5] = 3;
-    turned = run_turn(&query, state, 3, 10, no_words, 0, output);
+    turned = run_turn(&query, state, 4, 10, no_words, 0, output);
     printf("a list ending 3 3: %s by %" PRIu32 "\n", ending_name(turned.ending), turned.refused);
     expect(turned.refused == SOTJARN_REFUSED_ROW_NUMBERS, "a list ending 3 3 is refused by 4");
     merged = sotjarn_least_output(query.plan.words, query.plan.len - 1);
@@ -504,6 +551,7 @@ int main(void)
     two_owners();
     adviser();
     next_upload();
+    years();
     refusals();
     return 0;
 }

@@ -14,8 +14,8 @@
  *   - nobody else writes a buffer of a call while it runs.
  * Buffers that are only read may overlap.
  *
- * The tables are three buffers: `rows` has three terms a row, in ascending order; `pos` and `osp` have row numbers, in the order of
- * predicate, object, subject and of object, subject, predicate. `sotjarn_make` makes them of rows in any order. `survey` is the number that
+ * The tables are three buffers: `rows` has a year and three terms a row, in ascending order; `pos` and `osp` have row numbers, in the order of
+ * year, predicate, object, subject and of year, object, subject, predicate. `sotjarn_make` makes them of rows in any order. `survey` is the number that
  * these tables have, of 28 bits: tables under one number are the same, so each upload gets another, and so do the tables that an adviser
  * sees. `plan` is the query. The same five go with every turn of a query: a state that was saved under another number is refused by 22.
  */
@@ -30,7 +30,7 @@ extern "C" {
 #endif
 
 /* The version of this header, which is that of the libraries made beside it. */
-#define SOTJARN_VERSION "0.11.0"
+#define SOTJARN_VERSION "0.12.0"
 
 /* How a turn ended. */
 enum {
@@ -41,10 +41,11 @@ enum {
 };
 
 /* The words that a state buffer has at least, and the most steps that a turn may take; the numbers of surveys are below SOTJARN_SURVEYS. */
-enum { SOTJARN_STATE_WORDS = 10, SOTJARN_MOST_STEPS = 1000000, SOTJARN_SURVEYS = 268435456 };
+enum { SOTJARN_STATE_WORDS = 11, SOTJARN_MOST_STEPS = 1000000, SOTJARN_SURVEYS = 268435456 };
 
-/* The most rows that tables and an upload may have, the words of a row, and those that a report has for each dropped row. */
-enum { SOTJARN_MOST_ROWS = 65536, SOTJARN_ROW_WORDS = 3, SOTJARN_REPORT_WORDS = 2 };
+/* The most rows that tables and an upload may have, the words of a row, and those that a report has for each dropped row; the last year that
+ * rows and plans may have, the first being 1. */
+enum { SOTJARN_MOST_ROWS = 65536, SOTJARN_ROW_WORDS = 4, SOTJARN_REPORT_WORDS = 2, SOTJARN_MOST_YEAR = 9999 };
 
 /* The bytes of stack to provide for sotjarn_make. It keeps what it sorts in 448 KiB of local arrays, whatever the upload's length, and
  * allocates nothing; with its frames, threads of 456 KiB were enough (tests/stack measures it). Some threads have less by default, as
@@ -105,7 +106,7 @@ struct sotjarn_turned {
 /* What making tables answers: the words written to the front of each buffer; 0 of each if refused. */
 struct sotjarn_made {
     uint32_t refused;    /* the number of the first test that failed; 0: none */
-    size_t rows_words;   /* three words for each row that is kept */
+    size_t rows_words;   /* four words for each row that is kept */
     size_t pos_words;    /* as many as rows are kept */
     size_t osp_words;    /* the same */
     size_t report_words; /* two words for each row that is dropped */
@@ -114,16 +115,16 @@ struct sotjarn_made {
 /* What writing tables answers: the words written to the front of each buffer; 0 of each if refused. */
 struct sotjarn_tables {
     uint32_t refused;  /* the number of the first test that failed; 0: none */
-    size_t rows_words; /* three words for each row */
+    size_t rows_words; /* four words for each row */
     size_t pos_words;  /* as many as there are rows */
     size_t osp_words;  /* the same */
 };
 
-/* Makes tables from an upload: rows of three words as they were measured, in any order. Rows of wrong kinds are dropped, and of equal
+/* Makes tables from an upload: rows of four words as they were measured, in any order. Rows of wrong kinds or years are dropped, and of equal
  * rows all but the first; the others are written to `rows` in ascending order, and both lists of row numbers to `pos` and `osp`. The tables
- * pass tests 1 to 4. The report names each dropped row in upload order, by its place from 0 and a code: 1 wrong kind, tested first, 2 repeat.
- * An upload of n rows makes at most 3 n, n, n and 2 n words; buffers of exactly the words written are enough, and what longer ones have
- * behind those stays. Refused by 15 (the length is no multiple of 3, or there are over 65,536 rows), then by 16 (a buffer is too short).
+ * pass tests 1 to 4 and 23. The report names each dropped row in upload order, by its place from 0 and a code: 1 wrong kind, tested first, 2 repeat.
+ * An upload of n rows makes at most 4 n, n, n and 2 n words; buffers of exactly the words written are enough, and what longer ones have
+ * behind those stays. Refused by 15 (the length is no multiple of 4, or there are over 65,536 rows), then by 16 (a buffer is too short).
  * Needs a stack of SOTJARN_MAKE_STACK bytes. */
 struct sotjarn_made sotjarn_make(const uint32_t *upload, size_t upload_len,
                                  uint32_t *rows, size_t rows_len,
@@ -132,11 +133,11 @@ struct sotjarn_made sotjarn_make(const uint32_t *upload, size_t upload_len,
                                  uint32_t *report, size_t report_len);
 
 /* Writes the tables of the rows that an adviser may see. `grant` has names in strictly ascending order; none is a grant too. A row is visible if
- * its subject is granted, or if some row of the same subject has `membership` as predicate and a granted object; that row is one of them. The
- * visible rows keep their order and are numbered from 0; the tables pass tests 1 to 4, and the adviser's queries run on them. What is written
+ * its subject is granted, or if some row of the same year and subject has `membership` as predicate and a granted object; that row is one of them. The
+ * visible rows keep their order and are numbered from 0; the tables pass tests 1 to 4 and 23, and the adviser's queries run on them. What is written
  * depends on visible rows alone: tables that differ only in rows that are hidden where they stand give the same view. `membership` is not
- * tested: if it is no name, no row has it. Of v visible rows 3 v, v and v words are written; buffers of exactly so many are enough, those of the
- * tables' own lengths always, and what longer ones have behind those words stays. Refused by 1 to 4, then by 20 (the grant has a word that is no
+ * tested: if it is no name, no row has it. Of v visible rows 4 v, v and v words are written; buffers of exactly so many are enough, those of the
+ * tables' own lengths always, and what longer ones have behind those words stays. Refused by 1, 2, 23, 3, 4, then by 20 (the grant has a word that is no
  * name, or does not ascend strictly), then by 21 (a buffer is too short). Needs a stack of SOTJARN_VIEW_STACK bytes. */
 struct sotjarn_tables sotjarn_view(const uint32_t *rows, size_t rows_len,
                                    const uint32_t *pos, size_t pos_len,
@@ -146,7 +147,8 @@ struct sotjarn_tables sotjarn_view(const uint32_t *rows, size_t rows_len,
                                    uint32_t *view_pos, size_t view_pos_len,
                                    uint32_t *view_osp, size_t view_osp_len);
 
-/* Writes the start state of a query over the front of `state`. Refused by 1 to 7, then by 22 (the survey's number is above 28 bits). */
+/* Writes the start state of a query over the front of `state`. Refused by 1, 2, 23 (a year), 3, 4, 5,
+ * 6, 23 (the plan's year), 7, then by 22 (the survey's number is above 28 bits). */
 struct sotjarn_written sotjarn_open(const uint32_t *rows, size_t rows_len,
                                     const uint32_t *pos, size_t pos_len,
                                     const uint32_t *osp, size_t osp_len, uint32_t survey,
@@ -155,7 +157,8 @@ struct sotjarn_written sotjarn_open(const uint32_t *rows, size_t rows_len,
 
 /* Runs at most `quantum` steps from the saved state, which is the first `state_words` words of `state`: those that opening or the
  * turn before wrote. `threshold` is empty (length 0), or for a best-of query the last row of a full list merged from earlier turns.
- * Refused by 1 to 9, then by 22 (the survey's number is above 28 bits, or the state is of another survey), then by 10 and 11. */
+ * Refused by 1, 2, 23, 3, 4, 5, 6, 23, 7 to 9, then by 22 (the survey's number is above 28 bits, or the state is of another survey), then by 10
+ * and 11. */
 struct sotjarn_turned sotjarn_turn(const uint32_t *rows, size_t rows_len,
                                    const uint32_t *pos, size_t pos_len,
                                    const uint32_t *osp, size_t osp_len, uint32_t survey,
@@ -167,13 +170,13 @@ struct sotjarn_turned sotjarn_turn(const uint32_t *rows, size_t rows_len,
 
 /* Merges a turn's whole list into the kept one, which is the first `kept_words` words of `kept`; none at first. The merged list is
  * written over the front of `kept`. For best-of queries and groups; the lists of a row query are joined end to end instead.
- * Refused by 5, 6 and 12 to 14. */
+ * Refused by 5, 6, 23 and 12 to 14. */
 struct sotjarn_written sotjarn_merge(const uint32_t *plan, size_t plan_len,
                                      uint32_t *kept, size_t kept_len, size_t kept_words,
                                      const uint32_t *list, size_t list_len);
 
 /* The words that test 7 asks of `output` for a plan: one row, k rows or one record. More makes fewer turns where the query ends in rows
- * or groups: a multiple of one row or record. Writes nothing. Refused by 5 and 6. */
+ * or groups: a multiple of one row or record. Writes nothing. Refused by 5, 6 and 23. */
 struct sotjarn_written sotjarn_least_output(const uint32_t *plan, size_t plan_len);
 
 /* Queries of several owners over one survey wait in two lists: the line, in the order in which they come to their turns, and the list
@@ -184,7 +187,7 @@ struct sotjarn_written sotjarn_least_output(const uint32_t *plan, size_t plan_le
 
 /* An owner's query joins: with an allowance of steps at the end of the line, with none at the end of the list set aside. `plan` and `state` are
  * whole, and such that a turn over this survey accepts them: a state that opening or a turn wrote. The entry has copies of both.
- * Refused by 1 to 6, 9, 22, 10, 17 and 18, tested in this order. */
+ * Refused by 1, 2, 23, 3, 4, 5, 6, 23, 9, 22, 10, 17 and 18, tested in this order. */
 struct sotjarn_queued sotjarn_join(const uint32_t *rows, size_t rows_len,
                                    const uint32_t *pos, size_t pos_len,
                                    const uint32_t *osp, size_t osp_len, uint32_t survey,
@@ -196,8 +199,8 @@ struct sotjarn_queued sotjarn_join(const uint32_t *rows, size_t rows_len,
 
 /* Runs one turn of the query at the front of the line, for at most `quantum` steps and at most those left to it. Done, it leaves; unfinished, it
  * goes to the back of the line, or to the end of the list set aside if no steps are left. `threshold` and `output` are those of the turn, for
- * the plan of the front entry. Refused by 1 to 9, 22, 10 and 11 on the front entry and the call, then by 17, 18 and 19; with an empty line by 1
- * to 4, 8, 22, 17, 18 and 19. */
+ * the plan of the front entry. Refused as a turn is on the front entry and the call, then by 17, 18 and 19; with an empty line by 1, 2, 23, 3, 4,
+ * 8, 22, 17, 18 and 19. */
 struct sotjarn_service sotjarn_serve(const uint32_t *rows, size_t rows_len,
                                      const uint32_t *pos, size_t pos_len,
                                      const uint32_t *osp, size_t osp_len, uint32_t survey,

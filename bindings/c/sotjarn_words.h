@@ -34,6 +34,9 @@ enum { SOTJARN_KIND_NAME = 0, SOTJARN_KIND_NUMBER = 1, SOTJARN_KIND_TEXT = 2, SO
 #define SOTJARN_WORD_KIND(word) ((uint32_t)(word) >> 28)
 #define SOTJARN_WORD_LOW(word) ((uint32_t)(word) & UINT32_C(0x0FFFFFFF))
 
+/* Before a plan's head may stand a year, or 0 for every year there is; without it the latest is read. */
+#define SOTJARN_YEAR(year) SOTJARN_WORD(0, year)
+
 /* A plan: a head, its branches, one ending. A branch: its patterns, three terms each, and one condition. */
 #define SOTJARN_HEAD(branches) SOTJARN_WORD(1, branches)
 #define SOTJARN_BRANCH(patterns) SOTJARN_WORD(2, patterns)
@@ -62,7 +65,7 @@ enum { SOTJARN_DEFAULT_BEST = 10 };
 #define SOTJARN_FALLING(variable) SOTJARN_WORD(11, variable)
 #define SOTJARN_GROUP(variables) SOTJARN_WORD(12, variables)
 
-/* A state: the number of its survey, its branch (from 0) and depth, and a place for each level. */
+/* A state: the number of its survey, the year that it reads (SOTJARN_YEAR), its branch (from 0) and depth, and a place for each level. */
 #define SOTJARN_SURVEY(number) SOTJARN_WORD(13, number)
 #define SOTJARN_POSITION(branch, depth) SOTJARN_WORD(14, (uint32_t)(branch) * 16 + (uint32_t)(depth))
 #define SOTJARN_PLACE(place) SOTJARN_WORD(15, place)
@@ -88,7 +91,7 @@ static inline int64_t sotjarn_sum(const uint32_t *words)
 
 /* ---- Reports of making tables: two words for each dropped row, its place in the upload from 0 and a code. */
 enum {
-    SOTJARN_DROPPED_WRONG_KIND = 1, /* its subject or predicate is no name, or its object is a variable */
+    SOTJARN_DROPPED_WRONG_KIND = 1, /* its year is no number from 1 to 9,999, its subject or predicate no name, or its object a variable */
     SOTJARN_DROPPED_REPEAT = 2      /* its kinds are right, and an earlier row is the same */
 };
 
@@ -122,7 +125,8 @@ enum {
     SOTJARN_REFUSED_EMPTY_LINE = 19,
     SOTJARN_REFUSED_GRANT = 20,
     SOTJARN_REFUSED_VIEW_LENGTHS = 21,
-    SOTJARN_REFUSED_SURVEY = 22
+    SOTJARN_REFUSED_SURVEY = 22,
+    SOTJARN_REFUSED_YEAR = 23
 };
 
 /* What is wrong and what to do, in a line, by the number that a call refused by. */
@@ -130,50 +134,53 @@ static inline const char *sotjarn_refusal_text(uint32_t refused)
 {
     static const char *const texts[] = {
         "not refused",
-        "the lengths of the tables do not fit together, or there are more than 65,536 rows; lend three words a row, "
+        "the lengths of the tables do not fit together, or there are more than 65,536 rows; lend four words a row, "
         "and in each list one number a row",
-        "a field of some row has the wrong kind; make every subject and predicate a name, and every object a name, a "
-        "number or a text",
-        "the rows do not ascend strictly; sort the rows as unsigned words by subject, predicate, object, and leave out "
-        "repeats",
-        "a list of row numbers names a row that is not there, or its rows do not ascend strictly; write the lists anew "
-        "from these rows: one by predicate, object, subject, one by object, subject, predicate",
+        "a field of some row has the wrong kind; make every year a number, every subject and predicate a name, and "
+        "every object a name, a number or a text",
+        "the rows do not ascend strictly; sort the rows as unsigned words by year, subject, predicate, object, and "
+        "leave out repeats",
+        "a list of row numbers names a row that is not there, or its rows do not ascend strictly; write the lists "
+        "anew from these rows: one by year, predicate, object, subject, one by year, object, subject, predicate",
         "the form of the plan is wrong: a kind, a count, its length or a condition's size, or words are left over; "
         "keep to 1 to 4 branches, 1 to 8 patterns, conditions of 31 nodes and 8 deep, 1 to 16 columns, k up to 64, 1 "
         "to 4 keys, 4 group variables, and 256 words in all",
         "a variable of the plan is above ?15, is not bound, or is repeated; use ?0 to ?15; bind a condition's "
         "variables in its own branch and the ending's in some branch; take keys from the columns; name no column or "
         "group variable twice",
-        "the output or the state buffer is too short; lend a state buffer of 10 words, and an output for one row, k "
+        "the output or the state buffer is too short; lend a state buffer of 11 words, and an output for one row, k "
         "rows or one group, as the plan ends",
         "the quantum is outside its range; give 1 to 1,000,000 steps",
-        "the state is empty, or its kinds, branch, depth or length are wrong; give the words that opening or the last "
-        "turn wrote, as many as it said; after done there are none",
-        "the query never passes through this state; send the state with the plan and the tables that it came from, or "
-        "open the query anew",
-        "the threshold is not one row of a best-of query; send none, or the last row of a full list merged by the same "
-        "plan",
+        "the state is empty, its kinds, branch, depth or length are wrong, or its year is not being read; give the "
+        "words that opening or the last turn wrote, as many as it said; after done there are none",
+        "the query never passes through this state; send the state with the plan and the tables that it came from, or"
+        " open the query anew",
+        "the threshold is not one row of a best-of query; send none, or the last row of a full list merged by the "
+        "same plan",
         "a list is not one that this plan makes, or the plan delivers plain rows; merge whole lists of turns of the "
         "same plan; join the lists of a row query end to end instead",
-        "a count would pass 2^64 - 1, or a sum leave -2^63 to 2^63 - 1; merge each list once; such totals no survey reaches",
+        "a count would pass 2^64 - 1, or a sum leave -2^63 to 2^63 - 1; merge each list once; such totals no survey "
+        "reaches",
         "the kept buffer is too short for the merged list; lend a longer buffer: the words of both lists are always "
         "enough",
-        "the length of the upload is no multiple of 3, or it has more than 65,536 rows; send three words a row, and at "
-        "most 65,536 rows",
-        "a buffer is too short for the tables or the report; for n uploaded rows lend 3 n words for rows, n for each "
+        "the length of the upload is no multiple of 4, or it has more than 65,536 rows; send four words a row, and at"
+        " most 65,536 rows",
+        "a buffer is too short for the tables or the report; for n uploaded rows lend 4 n words for rows, n for each "
         "list and 2 n for the report: that is always enough",
-        "two entries have one owner, an entry is in the list that its steps do not belong to, or a top-up is 0 or for "
-        "an owner who is not set aside; lend both lists as the last call left them; let an owner join once at a time, "
-        "and top up, by at least one step, whoever is set aside",
-        "a list has no room for 32 entries, or there would be more than 32 in all; lend 32 entries for each list, and "
-        "let others join when somebody has left",
+        "two entries have one owner, an entry is in the list that its steps do not belong to, or a top-up is 0 or for"
+        " an owner who is not set aside; lend both lists as the last call left them; let an owner join once at a "
+        "time, and top up, by at least one step, whoever is set aside",
+        "a list has no room for 32 entries, or there would be more than 32 in all; lend 32 entries for each list, and"
+        " let others join when somebody has left",
         "the line is empty; serve again when somebody has joined or was topped up",
-        "the grant has a word that is no name, or its words do not ascend strictly; sort the granted names as unsigned "
-        "words, each once",
-        "a buffer is too short for the visible rows; for tables of n rows lend 3 n words for rows and n for each list: "
-        "that is always enough",
-        "the survey's number is above 28 bits, or the state is of another survey; number the surveys below 268,435,456; open the "
-        "query anew over this survey, and let go what was kept of the other",
+        "the grant has a word that is no name, or its words do not ascend strictly; sort the granted names as "
+        "unsigned words, each once",
+        "a buffer is too short for the visible rows; for tables of n rows lend 4 n words for rows and n for each "
+        "list: that is always enough",
+        "the survey's number is above 28 bits, or the state is of another survey; number the surveys below "
+        "268,435,456; open the query anew over this survey, and let go what was kept of the other",
+        "a row's year is outside 1 to 9,999, or the plan's is above 9,999; give rows a year from 1 to 9,999; ask for "
+        "such a year, or for every year with 0",
     };
     return refused < sizeof texts / sizeof *texts ? texts[refused] : "a number that this header does not know: the library is newer";
 }

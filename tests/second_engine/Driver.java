@@ -1,5 +1,5 @@
 // Apache Jena ARQ as a program that answers line by line on standard output:
-//   LOAD file    a Turtle file takes the place of the data; answers "loaded N"
+//   LOAD file    a TriG file takes the place of the data; answers "loaded N", the triples of all its graphs
 //   QUERY text   a SPARQL query on one line; answers "rows N", then N lines of terms with tabs between,
 //                an unbound variable as "-"; or "failed" and Jena's message.
 import java.io.BufferedReader;
@@ -7,18 +7,19 @@ import java.io.InputStreamReader;
 import java.io.PrintStream;
 import java.nio.charset.StandardCharsets;
 import java.util.ArrayList;
+import java.util.Iterator;
 import java.util.List;
 
 import org.apache.jena.graph.Node;
 import org.apache.jena.query.ARQ;
+import org.apache.jena.query.Dataset;
+import org.apache.jena.query.DatasetFactory;
 import org.apache.jena.query.Query;
 import org.apache.jena.query.QueryExecution;
 import org.apache.jena.query.QueryExecutionFactory;
 import org.apache.jena.query.QueryFactory;
 import org.apache.jena.query.ResultSet;
 import org.apache.jena.query.Syntax;
-import org.apache.jena.rdf.model.Model;
-import org.apache.jena.rdf.model.ModelFactory;
 import org.apache.jena.riot.RDFDataMgr;
 import org.apache.jena.sparql.core.Var;
 import org.apache.jena.sparql.engine.binding.Binding;
@@ -33,24 +34,30 @@ public class Driver {
             PatternMatchData.execute(context.getActiveGraph(), pattern, input, null, context));
         BufferedReader lines = new BufferedReader(new InputStreamReader(System.in, StandardCharsets.UTF_8));
         PrintStream out = new PrintStream(System.out, false, StandardCharsets.UTF_8);
-        Model model = ModelFactory.createDefaultModel();
+        Dataset data = DatasetFactory.create();
         for (String line = lines.readLine(); line != null; line = lines.readLine()) {
             if (line.startsWith("LOAD ")) {
-                model = ModelFactory.createDefaultModel();
-                RDFDataMgr.read(model, line.substring(5));
-                out.println("loaded " + model.size());
+                data = DatasetFactory.create();
+                RDFDataMgr.read(data, line.substring(5));
+                out.println("loaded " + triples(data));
             } else if (line.startsWith("QUERY ")) {
-                answer(model, line.substring(6), out);
+                answer(data, line.substring(6), out);
             }
             out.flush();
         }
     }
 
-    static void answer(Model model, String text, PrintStream out) {
+    static long triples(Dataset data) {
+        long all = 0;
+        for (Iterator<String> names = data.listNames(); names.hasNext();) all += data.getNamedModel(names.next()).size();
+        return all;
+    }
+
+    static void answer(Dataset data, String text, PrintStream out) {
         List<String> rows = new ArrayList<>();
         try {
             Query query = QueryFactory.create(text, Syntax.syntaxSPARQL_11);
-            try (QueryExecution execution = QueryExecutionFactory.create(query, model)) {
+            try (QueryExecution execution = QueryExecutionFactory.create(query, data)) {
                 ResultSet results = execution.execSelect();
                 while (results.hasNext()) rows.add(row(query.getProjectVars(), results.nextBinding()));
             }

@@ -2,12 +2,12 @@
 from collections import namedtuple
 
 from evaluation import DONE, LEAST_STATE_WORDS, MOST_QUANTUM
-from inputs import state_words
+from inputs import COLUMNS, state_words
 from plan_reader import Marked, read_plan, width
 from plans import Draft
 from running import TooLong
-from words import (FALLING, GROUP, MOST_VALUE, MOST_WORD, NOT, NUMBERS, PLACE, RISING, ROWS, STATE, SURVEY, SURVEYS, TOP, UNBOUND, is_variable,
-                   kind, low, number, plan_word, term, two_words, variable)
+from words import (FALLING, GROUP, MOST_VALUE, MOST_WORD, MOST_YEAR, NOT, NUMBERS, PLACE, RISING, ROWS, STATE, SURVEY, SURVEYS, TOP, UNBOUND, YEAR,
+                   is_variable, kind, low, name, number, plan_word, term, two_words, variable)
 
 Open = namedtuple('Open', 'tables survey words state')
 Turn = namedtuple('Turn', 'tables survey words state given quantum threshold output')
@@ -189,23 +189,33 @@ class Script:
             [plan_word(NOT, 0)] * self.rng.randint(1, 8) + list(words[start:end])
         return words[:start] + tuple(grown) + words[end:]
 
+    def other_year(self, words):
+        """The plan with another word of a year before its head, mostly beside a limit; now and then with another variable too."""
+        year = self.rng.choice([0, 1, 2026, MOST_YEAR, MOST_YEAR + 1, MOST_YEAR + 1, 0xfffffff])
+        words = (plan_word(YEAR, year), *(words[1:] if kind(words[0]) == YEAR else words))
+        return self.other_variable(words) if read_plan(words) and self.rng.random() < .3 else words
+
     def plan_damage(self, call):
         if read_plan(call.words) is None:
             return call
-        way = self.rng.choice([self.other_end, self.other_count, self.other_variable, self.other_condition,
+        way = self.rng.choice([self.other_end, self.other_count, self.other_variable, self.other_condition, self.other_year,
                                lambda words: self.nudged(words, self.some_word())])
         return call._replace(words=way(call.words))
 
     def table_damage(self, call):
         tables, count = call.tables, len(call.tables.pos)
-        way = self.rng.randrange(5)
+        way = self.rng.randrange(6)
+        if way == 5 and count:
+            at, rows = COLUMNS * self.rng.randrange(count), list(tables.rows)
+            rows[at] = self.rng.choice([number(0), number(MOST_YEAR + 1), number(-1), name(2026), number(MOST_YEAR), number(1)])
+            return call._replace(tables=tables._replace(rows=tuple(rows)))
         if way == 0 and count > 1:
-            at, rows = 3 * self.rng.randrange(count - 1), list(tables.rows)
-            rows[at:at + 3] = rows[at + 3:at + 6]
+            at, rows = COLUMNS * self.rng.randrange(count - 1), list(tables.rows)
+            rows[at:at + COLUMNS] = rows[at + COLUMNS:at + 2 * COLUMNS]
             return call._replace(tables=tables._replace(rows=tuple(rows)))
         if way == 1 and count > 1:
-            at, rows = 3 * self.rng.randrange(count - 1), list(tables.rows)
-            rows[at:at + 6] = rows[at + 3:at + 6] + rows[at:at + 3]
+            at, rows = COLUMNS * self.rng.randrange(count - 1), list(tables.rows)
+            rows[at:at + 2 * COLUMNS] = rows[at + COLUMNS:at + 2 * COLUMNS] + rows[at:at + COLUMNS]
             return call._replace(tables=tables._replace(rows=tuple(rows)))
         if way == 2:
             word = self.rng.choice([UNBOUND, number(3), self.some_term()])
@@ -215,7 +225,7 @@ class Script:
 
     def state_damage(self, call):
         if isinstance(call, Open) or self.rng.random() < .2:
-            return call._replace(state=call.state[:self.rng.choice([self.rng.randrange(9), 9])])
+            return call._replace(state=call.state[:self.rng.choice([self.rng.randrange(LEAST_STATE_WORDS - 1), LEAST_STATE_WORDS - 1])])
         if self.rng.random() < .4:
             return call._replace(given=self.rng.choice([0, 1, max(0, call.given - 1), call.given + 1, len(call.state),
                                                         len(call.state) + 1]))
@@ -224,13 +234,13 @@ class Script:
         state, given, at = list(call.state), call.given, self.rng.randrange(call.given)
         way = self.rng.randrange(5)
         if way == 0:
-            state[at] = plan_word(self.rng.choice([SURVEY, STATE, PLACE, PLACE, 1]), self.rng.choice([0, 1, 2, 3, 16, 17, 18, 33, 64, 65]))
+            state[at] = plan_word(self.rng.choice([SURVEY, YEAR, STATE, PLACE, PLACE, 1]), self.rng.choice([0, 1, 2, 3, 16, 17, 18, 33, 64, 65, 2025, 2026]))
         elif way == 1:
             state[at] = (state[at] + self.rng.choice([-2, -1, 1, 1, 2])) & MOST_WORD
-        elif way == 2 and given > 1:
-            state[1] = (state[1] + 16 * self.rng.choice([1, 1, 2, 3, 4])) & MOST_WORD
-        elif way == 3 and 1 < given < len(state):
-            state[1], state[given] = (state[1] + 1) & MOST_WORD, plan_word(PLACE, self.rng.randrange(len(self.tables.pos) + 2))
+        elif way == 2 and given > 2:
+            state[2] = (state[2] + 16 * self.rng.choice([1, 1, 2, 3, 4])) & MOST_WORD
+        elif way == 3 and 2 < given < len(state):
+            state[2], state[given] = (state[2] + 1) & MOST_WORD, plan_word(PLACE, self.rng.randrange(len(self.tables.pos) + 2))
             given += 1
         else:
             words = state_words(self.survey, self.rng.choice(self.states))

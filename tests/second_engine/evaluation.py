@@ -7,13 +7,13 @@ that a misreading is a subclass with one other method (misreadings.py).
 from collections import namedtuple
 
 from inputs import (ascend, delivered_term, kinds_right, lengths_right, order_right, osp_key, pos_key, rows_of, state_of,
-                    state_right, state_words, survey_of)
+                    state_right, state_words, survey_of, years_right)
 from lists import Lists
 from plan_reader import named_right, read_plan, width
 from running import Running, remember
-from words import GROUP, ROWS, SURVEYS, TOP
+from words import GROUP, MOST_YEAR, ROWS, SURVEYS, TOP
 
-LEAST_STATE_WORDS = 10
+LEAST_STATE_WORDS = 11
 MOST_QUANTUM = 1000000
 DONE, SPENT, FULL, REFUSED = range(4)
 
@@ -42,14 +42,15 @@ class Evaluation(Running, Lists):
 
     def table_tests(self, tables):
         rows = lambda: rows_of(tables)
-        return [(1, lambda: lengths_right(tables)), (2, lambda: kinds_right(tables)), (3, lambda: self.rows_ascend(rows())),
+        return [(1, lambda: lengths_right(tables)), (2, lambda: kinds_right(tables)), (23, lambda: years_right(tables)),
+                (3, lambda: self.rows_ascend(rows())),
                 (4, lambda: order_right(rows(), tables.pos, pos_key) and order_right(rows(), tables.osp, osp_key))]
 
     def rows_ascend(self, rows):
         return ascend(rows)
 
     def plan_tests(self, words, plan):
-        return [(5, lambda: plan is not None), (6, lambda: named_right(words))]
+        return [(5, lambda: plan is not None), (6, lambda: named_right(words)), (23, lambda: (plan.year or 0) <= MOST_YEAR)]
 
     def least_output(self, plan):
         return width(plan) * (self.best_count(plan) if plan.kind == TOP else 1)
@@ -66,6 +67,10 @@ class Evaluation(Running, Lists):
         """Test 10: the uncut run passes through the state."""
         return state in self.walk(tables, words).number
 
+    def year_read(self, tables, plan, state):
+        """That a state's year is one that is being read."""
+        return state_of(state)[0] in self.years(rows_of(tables), plan)
+
     # Surveys: test 22.
 
     def number_right(self, survey):
@@ -77,7 +82,7 @@ class Evaluation(Running, Lists):
 
     def state_tests(self, tables, survey, words, plan, state):
         """Tests 9, 22 and 10 of a state's words; none stand for words that are not there."""
-        return [(9, lambda: state is not None and state_right(plan, state)), (22, lambda: self.survey_right(survey, state)),
+        return [(9, lambda: state is not None and state_right(plan, state) and self.year_read(tables, plan, state)), (22, lambda: self.survey_right(survey, state)),
                 (10, lambda: self.accepts(tables, words, state_of(state)))]
 
     def room_right(self, state):

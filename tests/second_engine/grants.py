@@ -2,10 +2,10 @@
 
 Woods are those of plans.py, and stems of stands of farms; a grant has names that they have, so that some rows are visible and some hidden.
 """
-from inputs import MOST_ROWS, Tables, rows_of
-from plans import tables_of, wood
+from inputs import COLUMNS, MOST_ROWS, Tables, rows_of
+from plans import YEARS, surveyed, tables_of, wood
 from viewing import View
-from words import MOST_VALUE, NAME, UNBOUND, name, number, term, term_kind, text
+from words import MOST_VALUE, MOST_YEAR, NAME, UNBOUND, name, number, term, term_kind, text
 
 SPARES = [0, 0, 0, 1, 2, 7]
 
@@ -32,7 +32,7 @@ class Grants:
             yield name(stand), name(11), rng.choice([text(stand), name(200)])
 
     def wood(self):
-        return tables_of(self.farms()) if self.rng.random() < .3 else wood(self.rng)
+        return tables_of(surveyed(self.rng, self.farms())) if self.rng.random() < .3 else wood(self.rng)
 
     def name_in(self, rows):
         """A name that a grant may have: a subject, what a row says of one, or another."""
@@ -47,7 +47,7 @@ class Grants:
     def membership(self, rows):
         """A predicate, mostly one that rows have; no name now and then."""
         if rows and self.rng.random() < .8:
-            return self.rng.choice(rows)[1]
+            return self.rng.choice(rows)[2]
         return self.rng.choice([name(0), name(MOST_VALUE), number(3), text(0), UNBOUND, self.rng.getrandbits(32)])
 
     # Calls.
@@ -100,12 +100,15 @@ class Grants:
     def table_damage(self, call):
         """A kind, an order, a list or a length."""
         rows, pos, osp = map(list, call.tables)
-        way = self.rng.randrange(6)
+        way = self.rng.randrange(7)
         if way == 0 and rows:
             rows[self.rng.randrange(len(rows))] |= 3 << 30
-        elif way == 1 and len(rows) > 3:
-            at = 3 * self.rng.randrange(len(rows) // 3 - 1)
-            rows[at:at + 6] = rows[at + 3:at + 6] + (rows[at:at + 3] if self.rng.random() < .5 else rows[at + 3:at + 6])
+        elif way == 1 and len(rows) > COLUMNS:
+            at = COLUMNS * self.rng.randrange(len(rows) // COLUMNS - 1)
+            one, other = rows[at:at + COLUMNS], rows[at + COLUMNS:at + 2 * COLUMNS]
+            rows[at:at + 2 * COLUMNS] = other + (one if self.rng.random() < .5 else other)
+        elif way == 6 and rows:
+            rows[COLUMNS * self.rng.randrange(len(rows) // COLUMNS)] = self.rng.choice([number(0), number(MOST_YEAR + 1), number(-1)])
         elif way == 2 and pos:
             pos[self.rng.randrange(len(pos))] = self.rng.choice([0, len(pos), len(pos) - 1])
         elif way == 3 and len(osp) > 1:
@@ -135,20 +138,21 @@ class Grants:
         """The same call over a wood that differs in rows alone that are hidden where they stand: some left out, changed or new."""
         rows = rows_of(call.tables)
         seen = self.right.seen(rows, set(call.grant), call.membership)
-        kept = [row for row in rows if row[0] in seen]
+        kept = [row for row in rows if seen(row)]
         for row in rows:
-            if row[0] not in seen and self.rng.random() < .6:
-                kept.append(row if self.rng.random() < .5 else (row[0], row[1], number(self.rng.randrange(1000))))
+            if not seen(row) and self.rng.random() < .6:
+                kept.append(row if self.rng.random() < .5 else (*row[:3], number(self.rng.randrange(1000))))
         for _ in range(self.rng.randrange(3)):
             subject = name(self.rng.choice([0, 1, 2, 77, MOST_VALUE]))
-            if subject not in seen:
-                kept.append((subject, name(self.rng.choice([0, 1, 100, 500])), number(self.rng.randrange(1000))))
+            row = (number(self.rng.choice(YEARS)), subject, name(self.rng.choice([0, 1, 100, 500])), number(self.rng.randrange(1000)))
+            if not seen(row):
+                kept.append(row)
         return call._replace(tables=tables_of(kept))
 
     def largest(self):
         """The most rows and one more; nothing, a few stems, a stand and all stands are granted."""
         for count in (MOST_ROWS - 1, MOST_ROWS, MOST_ROWS + 1):
-            rows = [(name(row // 2), name(10 + row % 2), name(200 + row % 7) if row % 2 == 0 else number(row % 1000)) for row in range(count)]
+            rows = [(number(2025 + row % 4 // 2), name(row // 2), name(10 + row % 2), name(200 + row % 7) if row % 2 == 0 else number(row % 1000)) for row in range(count)]
             tables = tables_of(rows)
             for grant in [(), (name(0), name(7), name(count // 2 - 1)), (name(203),), tuple(map(name, range(200, 207)))]:
                 if count <= MOST_ROWS:

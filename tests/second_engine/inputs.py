@@ -1,29 +1,45 @@
-"""Tables, states and lists as words: what tests 1 to 4, 9, 22 and 12 of the rules (docs/RULES.md, 10) look at."""
+"""Tables, states and lists as words: what tests 1 to 4, 23, 9, 22 and 12 of the rules (docs/RULES.md, 10) look at."""
 from collections import namedtuple
 
 from plan_reader import width
-from words import NAME, NUMBER, PLACE, STATE, SURVEY, UNBOUND, VARIABLE, kind, low, number_value, plan_word, term_kind
+from words import (MOST_YEAR, NAME, NUMBER, PLACE, STATE, SURVEY, UNBOUND, VARIABLE, YEAR, kind, low, number_value, plan_word, term_kind,
+                   term_value)
 
 MOST_ROWS = 65536
+COLUMNS = 4                  # of a row: year, subject, predicate, object
 
 Tables = namedtuple('Tables', 'rows pos osp')               # words of the rows, and two lists of row numbers
 Totals = namedtuple('Totals', 'rows numbers sum least greatest')
 NOTHING = Totals(0, 0, 0, UNBOUND, UNBOUND)                 # the totals of no rows
 
 
-# Tables: tests 1 to 4.
+# Tables: tests 1, 2, 23, 3 and 4.
 
 def rows_of(tables):
-    return [tuple(tables.rows[i:i + 3]) for i in range(0, len(tables.rows), 3)]
+    return [tuple(tables.rows[i:i + COLUMNS]) for i in range(0, len(tables.rows), COLUMNS)]
 
 
 def lengths_right(tables):
-    count, over = divmod(len(tables.rows), 3)
+    count, over = divmod(len(tables.rows), COLUMNS)
     return over == 0 and len(tables.pos) == count and len(tables.osp) == count and count <= MOST_ROWS
 
 
 def kinds_right(tables):
-    return all(term_kind(s) == NAME and term_kind(p) == NAME and term_kind(o) != VARIABLE for s, p, o in rows_of(tables))
+    return all(row_kinds_right(row) for row in rows_of(tables))
+
+
+def row_kinds_right(row):
+    year, subject, predicate, object_ = map(term_kind, row)
+    return year == NUMBER and subject == NAME and predicate == NAME and object_ != VARIABLE
+
+
+def year_right(word):
+    """Whether a number is a year that rows may have, by its bits."""
+    return 1 <= term_value(word) <= MOST_YEAR
+
+
+def years_right(tables):
+    return all(year_right(row[0]) for row in rows_of(tables))
 
 
 def ascend(keys):
@@ -31,11 +47,11 @@ def ascend(keys):
 
 
 def pos_key(row):
-    return row[1], row[2], row[0]
+    return row[0], row[2], row[3], row[1]
 
 
 def osp_key(row):
-    return row[2], row[0], row[1]
+    return row[0], row[3], row[1], row[2]
 
 
 def order_right(rows, numbers, key):
@@ -45,16 +61,16 @@ def order_right(rows, numbers, key):
 # States and terms.
 
 def state_words(survey, state):
-    branch, places = state
-    return [plan_word(SURVEY, survey), plan_word(STATE, branch * 16 + len(places))] + [plan_word(PLACE, place) for place in places]
+    year, branch, places = state
+    return [plan_word(SURVEY, survey), plan_word(YEAR, year), plan_word(STATE, branch * 16 + len(places)), *(plan_word(PLACE, place) for place in places)]
 
 
 def state_right(plan, words):
-    """Test 9 on a state's words: a survey's word, whatever its number, and the shape behind it."""
-    if len(words) < 2 or kind(words[0]) != SURVEY or kind(words[1]) != STATE or any(kind(w) != PLACE for w in words[2:]):
+    """Test 9 on a state's words, but for the year: a survey's word, whatever its number, a year's, and the shape behind them."""
+    if len(words) < 3 or list(map(kind, words[:3])) != [SURVEY, YEAR, STATE] or any(kind(w) != PLACE for w in words[3:]):
         return False
-    branch, places = divmod(low(words[1]), 16)
-    return branch < len(plan.branches) and 1 <= places <= len(plan.branches[branch].patterns) and len(words) == places + 2
+    branch, places = divmod(low(words[2]), 16)
+    return branch < len(plan.branches) and 1 <= places <= len(plan.branches[branch].patterns) and len(words) == places + 3
 
 
 def survey_of(words):
@@ -63,7 +79,7 @@ def survey_of(words):
 
 
 def state_of(words):
-    return low(words[1]) // 16, tuple(map(low, words[2:]))
+    return low(words[1]), low(words[2]) // 16, tuple(map(low, words[3:]))
 
 
 def delivered_term(word):

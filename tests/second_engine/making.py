@@ -6,8 +6,7 @@ It is written from the rules' text alone. What the rules say is a method, so tha
 from collections import namedtuple
 
 from evaluation import first_failing, written
-from inputs import MOST_ROWS, Tables, osp_key, pos_key
-from words import NAME, VARIABLE, term_kind
+from inputs import COLUMNS, MOST_ROWS, Tables, osp_key, pos_key, row_kinds_right, year_right
 
 KEPT, WRONG_KIND, REPEAT = range(3)
 
@@ -20,11 +19,10 @@ class Making:
 
     def rows_of(self, upload):
         """The whole rows of an upload."""
-        return [tuple(upload[at:at + 3]) for at in range(0, len(upload) - 2, 3)]
+        return [tuple(upload[at:at + COLUMNS]) for at in range(0, len(upload) - COLUMNS + 1, COLUMNS)]
 
     def kinds_right(self, row):
-        subject, predicate, object_ = map(term_kind, row)
-        return subject == NAME and predicate == NAME and object_ != VARIABLE
+        return row_kinds_right(row) and year_right(row[0])
 
     def fates(self, rows):
         """The fate of each row: kinds are tested first, then whether an earlier row is the same."""
@@ -49,7 +47,7 @@ class Making:
         return [word for place, fate in dropped for word in (place, fate)]
 
     def upload_right(self, upload):
-        return len(upload) % 3 == 0 and len(upload) // 3 <= MOST_ROWS
+        return len(upload) % COLUMNS == 0 and len(upload) // COLUMNS <= MOST_ROWS
 
     def asked(self, tables, report):
         """The words that each buffer has at least."""

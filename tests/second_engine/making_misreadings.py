@@ -1,8 +1,8 @@
 """Known misreadings of making tables, each as an evaluation with one other method, to see whether random uploads expose it."""
 from evaluation import written
-from inputs import Tables, osp_key, pos_key
+from inputs import COLUMNS, Tables, osp_key, pos_key, row_kinds_right
 from making import KEPT, REPEAT, WRONG_KIND, Making
-from words import NAME, term_kind
+from words import NAME, number, term_kind, term_value
 
 
 class RepeatIsWrong(Making):
@@ -95,13 +95,25 @@ class SecondsDropped(Making):
 class TextsNoObjects(Making):
     """an object is a name or a number"""
     def kinds_right(self, row):
-        return super().kinds_right(row) and term_kind(row[2]) != 2
+        return super().kinds_right(row) and term_kind(row[3]) != 2
 
 
 class PredicateUntested(Making):
     """the kind of a predicate is not tested"""
     def kinds_right(self, row):
-        return super().kinds_right((row[0], NAME << 30, row[2]))
+        return super().kinds_right((*row[:2], NAME << 30, row[3]))
+
+
+class YearsUntested(Making):
+    """any number is a year"""
+    def kinds_right(self, row):
+        return row_kinds_right(row)
+
+
+class YearKindUntested(Making):
+    """a year may be of any kind"""
+    def kinds_right(self, row):
+        return super().kinds_right((number(term_value(row[0])), *row[1:]))
 
 
 class OspAsPos(Making):
@@ -139,7 +151,7 @@ class RowsBeforeRoom(Making):
 class RoomForAll(Making):
     """each buffer is asked to have room for all rows of the upload"""
     def tests(self, upload, buffers):
-        count = len(upload) // 3
+        count = len(upload) // COLUMNS
         lengths = (3 * count, count, count, 2 * count)
         return [super().tests(upload, buffers)[0], (16, lambda: all(len(buffer) >= words for buffer, words in zip(buffers, lengths)))]
 
@@ -159,7 +171,7 @@ class RoomFirst(Making):
 class RestForgiven(Making):
     """words left over behind the last whole row are no fault"""
     def upload_right(self, upload):
-        return super().upload_right(upload[:len(upload) - len(upload) % 3])
+        return super().upload_right(upload[:len(upload) - len(upload) % COLUMNS])
 
 
 class TailsCleared(Making):
@@ -173,5 +185,5 @@ class TailsCleared(Making):
 
 ALL_MAKING_MISREADINGS = [
     RepeatIsWrong, LastKept, ReportSorted, ReportByReason, OneWordARow, OneWordCounted, PlacesFromOne, PlacesOfKinds, RepeatsFirst,
-    NeighboursAlone, FirstPairUnread, SecondsDropped, TextsNoObjects, PredicateUntested, OspAsPos, PlacesForNumbers, RowsAsUploaded,
+    NeighboursAlone, FirstPairUnread, SecondsDropped, TextsNoObjects, PredicateUntested, YearsUntested, YearKindUntested, OspAsPos, PlacesForNumbers, RowsAsUploaded,
     RowsBeforeRoom, RoomForAll, RoomPastWords, RoomFirst, RestForgiven, TailsCleared]

@@ -83,6 +83,123 @@ class ErrorIsUnequal(Misreading):
         return a != b if operator == UNEQUAL else super().compared(operator, a, b)
 
 
+# Years.
+
+class FirstForLatest(Misreading):
+    """the first year is taken for the latest"""
+    concerns = 'steps'
+
+    def latest(self, there):
+        return there[:1]
+
+
+class EveryWithoutWord(Misreading):
+    """every year is read where no year is said"""
+    concerns = 'steps'
+
+    def latest(self, there):
+        return there
+
+
+class YearSkipped(Misreading):
+    """a year between two is skipped"""
+    concerns = 'steps'
+
+    def years_there(self, rows):
+        there = super().years_there(rows)
+        return there[:1] + there[2:] if len(there) > 2 else there
+
+
+class YearsBackwards(Misreading):
+    """the latest year is read first"""
+    concerns = 'steps'
+
+    def years(self, rows, plan):
+        return super().years(rows, plan)[::-1]
+
+
+class AcrossYears(Misreading):
+    """deeper levels join rows of all years"""
+    concerns = 'steps'
+
+    def level(self, orders, year, branch, branch_number, places, bound, walk):
+        if not places:
+            return super().level(orders, year, branch, branch_number, places, bound, walk)
+        order, prefix = self.prefix(branch.patterns[len(places)], bound)
+        keys, rows = orders[order]
+        deepest = len(places) + 1 == len(branch.patterns)
+        found = [place for place, key in enumerate(keys) if key[1:len(prefix) + 1] == prefix]
+        for place in found:
+            now = self.matched(branch.patterns[len(places)], rows[place][1:], bound)
+            self.step(walk, (year, branch_number, places + (place,)), now if deepest else None)
+            if now is not None and not deepest:
+                self.level(orders, year, branch, branch_number, places + (place,), now, walk)
+        self.step(walk, (year, branch_number, places + (len(keys),)), None)
+
+
+class NamedMustBeThere(Misreading):
+    """a year without rows that a plan names is not read: the latest is"""
+    concerns = 'steps'
+
+    def years(self, rows, plan):
+        there = self.years_there(rows)
+        return super().years(rows, plan._replace(year=None) if plan.year and there and plan.year not in there else plan)
+
+
+class YearUntested(Misreading):
+    """a state's year is not compared with those that are read"""
+    concerns = 'calls'
+    calls = (Turn,)
+
+    def year_read(self, tables, plan, state):
+        return True
+
+
+class YearsBeforeKinds(Misreading):
+    """years are tested before kinds"""
+    concerns = 'calls'
+    calls = Open, Turn
+
+    def __init__(self, right):
+        super().__init__(right)
+        self.checked = {}
+
+    def table_tests(self, tables):
+        lengths, kinds, years, *others = super().table_tests(tables)
+        return [lengths, years, kinds, *others]
+
+
+class YearsAfterOrder(Misreading):
+    """years are tested after the rows' order"""
+    concerns = 'calls'
+    calls = Open, Turn
+
+    def __init__(self, right):
+        super().__init__(right)
+        self.checked = {}
+
+    def table_tests(self, tables):
+        lengths, kinds, years, order, lists = super().table_tests(tables)
+        return [lengths, kinds, order, years, lists]
+
+
+class PlanYearFirst(Misreading):
+    """a plan's year is tested before its variables"""
+    concerns = 'calls'
+
+    def plan_tests(self, words, plan):
+        form, variables, year = super().plan_tests(words, plan)
+        return [form, year, variables]
+
+
+class AnyPlanYear(Misreading):
+    """a plan may name any year"""
+    concerns = 'calls'
+
+    def plan_tests(self, words, plan):
+        return super().plan_tests(words, plan)[:2]
+
+
 # Steps and delivered rows.
 
 class RepeatsIgnored(Misreading):
@@ -109,7 +226,7 @@ class EndTooEarly(Misreading):
 
     def range(self, keys, prefix):
         first, end = super().range(keys, prefix)
-        return first, first if prefix else end
+        return first, first if len(prefix) > 1 else end
 
 
 class SubjectBeforeObject(Misreading):
@@ -141,9 +258,9 @@ class BranchDuplicates(Misreading):
     def deliveries(self, tables, words):
         delivered, states = super().deliveries(tables, words), self.walk(tables, words).states
         first = {}
-        for (branch, _), row in zip(states, delivered):
+        for (_, branch, _), row in zip(states, delivered):
             first.setdefault(row, branch)
-        return [row if first[row] == branch else None for (branch, _), row in zip(states, delivered)]
+        return [row if first[row] == branch else None for (_, branch, _), row in zip(states, delivered)]
 
 
 class AllDuplicates(Misreading):
@@ -513,8 +630,8 @@ class BelowEnd(Misreading):
         states, number = self.walk(tables, words).states, self.walk(tables, words).number
         if state not in number:
             return False
-        branch, places = states[number[state] + 1] if number[state] + 1 < len(states) else (-1, ())
-        return branch == state[0] and len(places) >= len(state[1])
+        year, branch, places = states[number[state] + 1] if number[state] + 1 < len(states) else (-1, -1, ())
+        return (year, branch) == state[:2] and len(places) >= len(state[2])
 
 
 class NumberNotCompared(Misreading):
@@ -570,8 +687,8 @@ class SavedUnderZero(Misreading):
         return super().save(0, state)
 
 
-class NineWords(Misreading):
-    """a state buffer of nine words is served"""
+class TenWords(Misreading):
+    """a state buffer of ten words is served"""
     concerns = 'calls'
     calls = Open, Turn
 
@@ -629,10 +746,11 @@ def starts_wrong(words):
 
 ALL_MISREADINGS = [
     NamesOrdered, ErrorIsFalse, LeftErrorDecides, ErrorDecidesOr, ErrorDecidesAnd, KeepsErrors, NumberIsNoText, ErrorIsUnequal,
-    RepeatsIgnored, EmptyAtZero, EndTooEarly, SubjectBeforeObject, BoundBefore, BranchDuplicates, AllDuplicates, RawWords,
-    UnboundFirstFalling, TextsBeforeNumbers, BitsCompared, BitsAsKeys, LeastByBits, SumOfBits, SumsUnsigned, SumsWrap, ZeroIsNone,
-    ZeroIsMost, LaterPushesOut, TurnFirst, ThresholdNotAfter, LeastFromZero, CarryDropped, SingleFloats, TextsCounted, NoNumberNoRow,
-    UnboundLeftOut, NoTotal, TotalOfUnfinished, TotalOfWholeAlone, TotalFromStart, TotalWithKey, NothingIsZero, NothingIsARow,
-    NothingRefused, NothingWithKeyPasses, NothingNotMerged, FullTakesStep, FullLosesRow, FullKnownGroup, FullAtOnce, DoneTakesStep,
-    SavedEarly, BelowEnd, NumberNotCompared, NumberCut, NumberAfterPlaces, NumberBeforeShape, SavedUnderZero, NineWords,
-    NumberBeforeRoom, SixBeforeFive, EqualRowsPass, RefusalWrites]
+    FirstForLatest, EveryWithoutWord, YearSkipped, YearsBackwards, AcrossYears, NamedMustBeThere, YearUntested, YearsBeforeKinds,
+    YearsAfterOrder, PlanYearFirst, AnyPlanYear, RepeatsIgnored, EmptyAtZero, EndTooEarly, SubjectBeforeObject, BoundBefore,
+    BranchDuplicates, AllDuplicates, RawWords, UnboundFirstFalling, TextsBeforeNumbers, BitsCompared, BitsAsKeys, LeastByBits,
+    SumOfBits, SumsUnsigned, SumsWrap, ZeroIsNone, ZeroIsMost, LaterPushesOut, TurnFirst, ThresholdNotAfter, LeastFromZero,
+    CarryDropped, SingleFloats, TextsCounted, NoNumberNoRow, UnboundLeftOut, NoTotal, TotalOfUnfinished, TotalOfWholeAlone,
+    TotalFromStart, TotalWithKey, NothingIsZero, NothingIsARow, NothingRefused, NothingWithKeyPasses, NothingNotMerged, FullTakesStep,
+    FullLosesRow, FullKnownGroup, FullAtOnce, DoneTakesStep, SavedEarly, BelowEnd, NumberNotCompared, NumberCut, NumberAfterPlaces,
+    NumberBeforeShape, SavedUnderZero, TenWords, NumberBeforeRoom, SixBeforeFive, EqualRowsPass, RefusalWrites]

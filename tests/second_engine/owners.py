@@ -5,7 +5,7 @@ as a turn is (calls.py); the lists are damaged in their owners, steps, counts an
 """
 import plans
 from calls import Script, Turn, some_survey
-from inputs import state_words
+from inputs import COLUMNS, state_words
 from queueing import MOST_ENTRIES, PLAN_ROOM, STATE_ROOM, Entry, Join, Serve, Top_up, padded
 from words import NUMBER, TEXT, VARIABLE, term, term_value
 
@@ -95,7 +95,7 @@ class Owners:
         rows = list(turn.tables.rows)
         if rows:
             at = self.rng.randrange(len(rows))
-            rows[at] = term(self.rng.choice([NUMBER, TEXT, VARIABLE]) if at % 3 < 2 else VARIABLE, term_value(rows[at]))
+            rows[at] = term(self.rng.choice([NUMBER, TEXT, VARIABLE]) if at % COLUMNS < COLUMNS - 1 else VARIABLE, term_value(rows[at]))
         return turn._replace(tables=turn.tables._replace(rows=tuple(rows)))
 
     def numbers_damage(self, turn):

@@ -1,16 +1,16 @@
-"""Plans read from their words: tests 5 and 6 of the rules (docs/RULES.md, 10)."""
+"""Plans read from their words: tests 5, 6 and 23 of the rules (docs/RULES.md, 10)."""
 from collections import namedtuple
 from functools import lru_cache
 
-from words import (AND, AT_LEAST, BRANCH, COMPARISON, FALLING, GROUP, HEAD, NOT, OR, RISING, ROWS, TOP, TRUE, is_variable, kind,
-                   low, term_value)
+from words import (AND, AT_LEAST, BRANCH, COMPARISON, FALLING, GROUP, HEAD, NOT, OR, RISING, ROWS, TOP, TRUE, YEAR, is_variable,
+                   kind, low, term_value)
 
 MOST_PLAN_WORDS = 256
 MOST_NODES, MOST_DEPTH = 31, 8
 MOST_VARIABLES = 16
 
 Branch = namedtuple('Branch', 'patterns condition')
-Plan = namedtuple('Plan', 'branches kind columns k keys group measured')
+Plan = namedtuple('Plan', 'branches kind columns k keys group measured year')     # year: None for the latest, 0 for every one
 Node = namedtuple('Node', 'kind operator parts')            # a condition: parts are conditions, or two terms
 
 
@@ -48,11 +48,16 @@ class Reader:
     def plan(self):
         if not 1 <= len(self.words) <= MOST_PLAN_WORDS:
             raise Wrong
+        self.year = self.year_word()
         branches = tuple(self.branch() for _ in range(self.part(HEAD, 1, 4)))
         plan = self.ending(branches)
         if self.at != len(self.words):
             raise Wrong
         return plan
+
+    def year_word(self):
+        """The number of a year's word, if the plan opens with one."""
+        return low(self.next()) if kind(self.words[0]) == YEAR else None
 
     def branch(self):
         patterns = tuple(self.terms(3) for _ in range(self.part(BRANCH, 1, 8)))
@@ -74,13 +79,13 @@ class Reader:
         word = self.next()
         self.at -= 1
         if kind(word) == ROWS:
-            return Plan(branches, ROWS, self.row(), None, None, None, None)
+            return Plan(branches, ROWS, self.row(), None, None, None, None, self.year)
         if kind(word) == TOP:
             k = self.part(TOP, 0, 64)
-            return Plan(branches, TOP, self.row(), k, self.sort_keys(), None, None)
+            return Plan(branches, TOP, self.row(), k, self.sort_keys(), None, None, self.year)
         group = self.variables(self.part(GROUP, 0, 4))
         measured, = self.variables(1)
-        return Plan(branches, GROUP, group + (measured,), None, None, group, measured)
+        return Plan(branches, GROUP, group + (measured,), None, None, group, measured, self.year)
 
     def row(self):
         return self.variables(self.part(ROWS, 1, 16))
@@ -101,6 +106,10 @@ class Marked(Reader):
         super().__init__(words)
         self.own, self.conditions = [], []
         self.plan()
+
+    def year_word(self):
+        self.own += [0] if kind(self.words[0]) == YEAR else []
+        return super().year_word()
 
     def part(self, wanted, least, most):
         self.own.append(self.at)

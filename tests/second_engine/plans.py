@@ -7,8 +7,8 @@ row, as a stand has that was clear-felled.
 from inputs import Tables, osp_key, pos_key, rows_of
 from plan_reader import MOST_DEPTH, MOST_NODES, MOST_PLAN_WORDS
 from running import TooLong
-from words import (AND, AT_LEAST, BRANCH, COMPARISON, EQUAL, FALLING, GROUP, HEAD, MOST_VALUE, NOT, NUMBERS, OR, RISING, ROWS, TOP, TRUE,
-                   UNEQUAL, is_variable, name, number, plan_word, term, term_kind, term_value, text, variable)
+from words import (AND, AT_LEAST, BRANCH, COMPARISON, EQUAL, FALLING, GROUP, HEAD, MOST_VALUE, MOST_YEAR, NOT, NUMBERS, OR, RISING, ROWS, TOP,
+                   TRUE, UNEQUAL, YEAR, is_variable, name, number, plan_word, term, term_kind, term_value, text, variable)
 
 
 # Woods.
@@ -19,6 +19,18 @@ def tables_of(rows):
     numbers = range(len(rows))
     return Tables(tuple(word for row in rows for word in row), tuple(sorted(numbers, key=lambda n: pos_key(rows[n]))),
                   tuple(sorted(numbers, key=lambda n: osp_key(rows[n]))))
+
+
+YEARS = [1, 2, 1999, 2025, 2026, MOST_YEAR - 1, MOST_YEAR]
+
+
+def surveyed(rng, rows):
+    """Rows of some years: each in one of them or in several, so that subjects come again from year to year."""
+    years = sorted(rng.sample(YEARS, rng.choice([1, 1, 1, 2, 2, 3, 4])))
+    again = rng.choice([0, .5, .9])
+    for row in rows:
+        for year in years if rng.random() < again else [rng.choice(years)]:
+            yield (number(year), *row)
 
 
 def stand_rows(rng, stems):
@@ -68,19 +80,19 @@ def measure_rows(rng, count):
 def wood(rng):
     shape = rng.choice([stand_rows, stand_rows, mixed_rows, mixed_rows, graph_rows, extreme_rows, measure_rows, measure_rows])
     most = {stand_rows: 9, measure_rows: 18}.get(shape, 24)
-    return tables_of(shape(rng, rng.choice([0, 1, 2] + [rng.randint(3, most)] * 12)))
+    return tables_of(surveyed(rng, shape(rng, rng.choice([0, 1, 2] + [rng.randint(3, most)] * 12))))
 
 
 def large_wood(count):
     """So many rows, one to a stem."""
-    return tables_of((name(stem), name(1 + stem % 3), number(stem % 1000)) for stem in range(count))
+    return tables_of((number(2025 + stem % 2), name(stem), name(1 + stem % 3), number(stem % 1000)) for stem in range(count))
 
 
 def large_plan():
     """A plan of few steps over a large wood: stems of one diameter and species, three times over, by the three orders."""
     stem, kind, size = map(variable, range(3))
     branches = [[stem, name(2), number(7)], [stem, kind, number(999)], [name(65535), kind, size]]
-    words = [plan_word(HEAD, len(branches))]
+    words = [plan_word(YEAR, 0), plan_word(HEAD, len(branches))]
     for pattern in branches:
         words += [plan_word(BRANCH, 1), *pattern, plan_word(TRUE, 0)]
     return (*words, plan_word(ROWS, 3), stem, kind, size)
@@ -92,7 +104,9 @@ class Draft:
     """A plan in the making: the wood's rows and terms, and the numbers of the plan's variables. Short sides have draws of their own, or there are none."""
 
     def __init__(self, rng, rows, sides=None):
-        self.rng, self.rows, self.sides = rng, rows, sides
+        self.rng, self.sides = rng, sides
+        self.years = sorted({term_value(row[0]) for row in rows})
+        self.rows = rows = [row[1:] for row in rows]
         self.terms = sorted({word for row in rows for word in row}) or [name(1), number(1), text(1)]
         self.numbers = rng.sample(range(16), 16)
         self.pool = rng.randint(2, 6)
@@ -230,6 +244,11 @@ class Draft:
         self.objects.update(pattern[2] for pattern in patterns)
         return [plan_word(BRANCH, count)] + [w for p in patterns for w in p] + self.some_condition(variables), variables
 
+    def year_word(self):
+        """The word before the head: none, every year, a year that rows have, or another."""
+        there = self.years or [2026]
+        return self.rng.choice([[], [], [0], [0], [0], [self.rng.choice(there)], [self.rng.choice(YEARS + [y + 1 for y in there if y < MOST_YEAR])]])
+
     def plan(self):
         """A plan's words, or None where this one did not come out well."""
         branches = [self.branch() for _ in range(self.rng.choice([1, 1, 1, 1, 2, 2, 3, 4]))]
@@ -239,7 +258,7 @@ class Draft:
         if not variables:
             return None
         ending = self.rng.choice([self.rows_ending, self.top_ending, self.group_ending])(variables)
-        words = [plan_word(HEAD, len(branches))] + [w for branch, _ in branches for w in branch] + ending
+        words = self.year_word() + [plan_word(HEAD, len(branches))] + [w for branch, _ in branches for w in branch] + ending
         return tuple(words) if len(words) <= MOST_PLAN_WORDS else None
 
 

@@ -15,7 +15,7 @@ import tempfile
 
 from engine import Engine
 from evaluation import DONE, REFUSED, Evaluation, LEAST_STATE_WORDS
-from inputs import Tables, in_parts, split_record
+from inputs import COLUMNS, Tables, in_parts, split_record
 from plan_reader import read_plan, width
 from stored import group_line, row_line
 from words import GROUP, ROWS
@@ -32,10 +32,10 @@ def parts_of(data):
     if len(data) > MOST_BYTES or len(data) % 4 != 0 or len(data) < 8:
         return None
     count, quantum, *words = struct.unpack(f'<{len(data) // 4}I', data)
-    if len(words) < 5 * count:
+    if len(words) < (COLUMNS + 2) * count:
         return None
-    tables = Tables(*(tuple(words[a * count:b * count]) for a, b in ((0, 3), (3, 4), (4, 5))))
-    return tables, quantum, tuple(words[5 * count:])
+    tables = Tables(*(tuple(words[a * count:b * count]) for a, b in ((0, COLUMNS), (COLUMNS, COLUMNS + 1), (COLUMNS + 1, COLUMNS + 2))))
+    return tables, quantum, tuple(words[(COLUMNS + 2) * count:])
 
 
 def list_lines(plan, words):

@@ -85,7 +85,7 @@ class Queueing:
         return self.calls.turn(call.tables, call.survey, self.plan_in(entry), entry.state, entry.state_words, quantum, call.threshold, call.output)
 
     def front_refused(self, call, line):
-        """The first of tests 1 to 11 and 22 that fails on the front entry and the call; of an empty line, of 1 to 4, 8 and 22."""
+        """The first of tests 1 to 11, 22 and 23 that fails on the front entry and the call; of an empty line, of 1 to 4, 23, 8 and 22."""
         if line:
             return self.turn(call, line[0], call.quantum)[0].refused
         return self.calls.tables_refused(call.tables) or first_failing(

@@ -1,4 +1,4 @@
-"""A wood as Turtle, a plan as SPARQL 1.1, and Apache Jena ARQ to answer it.
+"""A wood as TriG, a graph a year, a plan as SPARQL 1.1, and Apache Jena ARQ to answer it.
 
 Names and texts are padded with zeros, so that code-point order is the order of their numbers. Where SPARQL leaves an engine
 more freedom than the rules here, the query says what is meant: '=' between a number and a text is an error, each sort key
@@ -20,6 +20,7 @@ HERE = os.path.dirname(os.path.abspath(__file__))
 NAMES = 'http://wood/'
 NOWHERE = f'<{NAMES}nowhere>'
 XSD = 'http://www.w3.org/2001/XMLSchema#'
+PREFIX = f'PREFIX xsd: <{XSD}> '
 PACKAGES = ['libapache-jena-java', 'libslf4j-java', 'default-jdk-headless']
 JARS = '/usr/share/java'
 LIBRARIES = [
@@ -45,8 +46,14 @@ def read_term(shown):
     return {XSD + 'integer': number, XSD + 'string': text}[datatype](int(value))
 
 
-def turtle(rows):
-    return ''.join(' '.join(map(written_term, row)) + ' .\n' for row in rows)
+def graph(year):
+    """The name of a year's graph."""
+    return f'<{NAMES}year/{year}>'
+
+
+def trig(rows):
+    """Each year's rows in a graph of their own."""
+    return ''.join(f"{graph(term_value(year))} {{ {' '.join(map(written_term, row))} . }}\n" for year, *row in rows)
 
 
 # Queries.
@@ -80,8 +87,20 @@ def branch(part):
     return '{ ' + ' '.join(map(pattern, part.patterns)) + kept + ' }'
 
 
+def read_years(plan):
+    """Which graphs are read: the one that a plan names, every one, or the one of which no other is later."""
+    if plan.year:
+        return f'VALUES ?year {{ {graph(plan.year)} }}'
+    if plan.year == 0:
+        return ''
+    number_of = lambda year: f'xsd:integer(STRAFTER(STR({year}), "/year/"))'
+    later = f'GRAPH ?later {{ ?s ?p ?o }} FILTER({number_of("?later")} > {number_of("?year")})'
+    return f'FILTER NOT EXISTS {{ {later} }}'
+
+
 def where(plan):
-    return 'WHERE { ' + ' UNION '.join(map(branch, plan.branches)) + ' }'
+    """Each year's solutions over that year's graph, of all years that are read."""
+    return 'WHERE { GRAPH ?year { ' + ' UNION '.join(map(branch, plan.branches)) + f' }} {read_years(plan)} }}'
 
 
 def selected(variables):
@@ -89,7 +108,7 @@ def selected(variables):
 
 
 def rows_query(plan):
-    return f'SELECT {selected(plan.columns)} {where(plan)}'
+    return f'{PREFIX}SELECT {selected(plan.columns)} {where(plan)}'
 
 
 def sort_key(falling, v):
@@ -110,7 +129,7 @@ def group_query(plan):
     totals = [('COUNT(*)', 'rows'), (measured(plan, 'SUM', 1, 0), 'numbers'), (measured(plan, 'SUM', value, 0), 'sum'),
               (measured(plan, 'MIN', value, NUMBERS), 'least'), (measured(plan, 'MAX', value, -NUMBERS - 1), 'greatest')]
     by = f' GROUP BY {selected(plan.group)}' if plan.group else ''
-    return f"SELECT {selected(plan.group)} {' '.join(f'({e} AS ?{n})' for e, n in totals)} {where(plan)}{by}"
+    return f"{PREFIX}SELECT {selected(plan.group)} {' '.join(f'({e} AS ?{n})' for e, n in totals)} {where(plan)}{by}"
 
 
 def queries(plan):
@@ -157,9 +176,9 @@ class Jena:
         return line.rstrip('\n')
 
     def load(self, rows):
-        path = os.path.join(self.folder, 'wood.ttl')
+        path = os.path.join(self.folder, 'wood.trig')
         with open(path, 'w', encoding='utf-8') as file:
-            file.write(turtle(rows))
+            file.write(trig(rows))
         if self.line('LOAD ' + path) != f'loaded {len(rows)}':
             raise RuntimeError('Jena did not load every row')
 

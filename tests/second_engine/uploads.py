@@ -2,10 +2,10 @@
 
 Rows are those of random woods (plans.py), drawn so that many come twice, with wrong kinds among them.
 """
-from inputs import MOST_ROWS, rows_of
+from inputs import COLUMNS, MOST_ROWS, rows_of
 from making import Make
 from plans import wood
-from words import MOST_VALUE, NUMBER, TEXT, VARIABLE, is_variable, name, number, term, term_value, variable
+from words import MOST_VALUE, MOST_YEAR, NAME, NUMBER, TEXT, VARIABLE, is_variable, name, number, term, term_value
 
 SPARES = [0, 0, 0, 1, 2, 7]
 
@@ -23,25 +23,28 @@ class Uploads:
 
     def wronged(self, row):
         """A row with a field of a wrong kind."""
-        row, at = list(row), self.rng.randrange(3)
+        row, at = list(row), self.rng.randrange(COLUMNS)
         values = [0, 1, term_value(row[at]), MOST_VALUE]
-        row[at] = variable(self.rng.choice(values)) if at == 2 else term(self.rng.choice([NUMBER, TEXT, VARIABLE]), self.rng.choice(values))
+        kinds = {0: [NAME, TEXT, VARIABLE], COLUMNS - 1: [VARIABLE]}.get(at, [NUMBER, TEXT, VARIABLE])
+        row[at] = term(self.rng.choice(kinds), self.rng.choice(values))
+        if at == 0 and self.rng.random() < .6:
+            row[at] = number(self.rng.choice([0, MOST_YEAR + 1, -1, 1 << 28]))
         return tuple(row)
 
     def near(self, row):
         """A row that differs from another in one field by little, or by kind alone."""
-        row, at = list(row), self.rng.randrange(3)
-        row[at] ^= self.rng.choice([1, 2]) if at < 2 or self.rng.random() < .5 else 1 << 30
-        return tuple(row) if not is_variable(row[2]) else (row[0], row[1], number(1))
+        row, at = list(row), self.rng.randrange(COLUMNS)
+        row[at] ^= self.rng.choice([1, 2]) if at < COLUMNS - 1 or self.rng.random() < .5 else 1 << 30
+        return tuple(row) if not is_variable(row[3]) else (*row[:3], number(1))
 
     def rows(self):
         """Rows in the order in which they were measured."""
-        own = rows_of(wood(self.rng)) or [(name(1), name(2), number(3))]
+        own = rows_of(wood(self.rng)) or [(number(2026), name(1), name(2), number(3))]
         wrong, near = self.rng.choice([0, .1, .1, .5, 1]), self.rng.choice([0, .2, .6])
         rows = []
         for _ in range(self.rng.choice([0, 1, 2, 3] + [self.rng.randrange(4, 30)] * 8)):
             row = self.rng.choice(rows) if rows and self.rng.random() < .3 else self.rng.choice(own)
-            row = self.near(row) if self.rng.random() < near and not is_variable(row[2]) else row
+            row = self.near(row) if self.rng.random() < near and not is_variable(row[3]) else row
             rows.append(self.wronged(row) if self.rng.random() < wrong else row)
         order = self.rng.choice(['measured', 'measured', 'own', 'sorted', 'backwards'])
         if order == 'own':
@@ -71,13 +74,13 @@ class Uploads:
 
     def length_damage(self, call):
         """Words more or less than whole rows."""
-        more = self.filler(self.rng.choice([1, 2, 4]))
-        return call._replace(upload=self.rng.choice([call.upload + more, call.upload[:-1], call.upload[:-2], call.upload[:5], call.upload + more[:1]]))
+        more = self.filler(self.rng.choice([1, 2, 3]))
+        return call._replace(upload=self.rng.choice([call.upload + more, call.upload[:-1], call.upload[:-2], call.upload[:6], call.upload + more[:1]]))
 
     def word_damage(self, call):
         """Another bit in the upload, under the same buffers."""
         if not call.upload:
-            return call._replace(upload=self.filler(3))
+            return call._replace(upload=self.filler(COLUMNS))
         at = self.rng.randrange(len(call.upload))
         word = call.upload[at] ^ 1 << self.rng.choice([0, 1, 29, 30, 31])
         return call._replace(upload=call.upload[:at] + (word,) + call.upload[at + 1:])
@@ -90,7 +93,7 @@ class Uploads:
 
     def made_up(self):
         """Buffers that have nothing to do with each other."""
-        return Make(*(self.filler(self.rng.randrange(most)) for most in (13, 13, 5, 5, 9)))
+        return Make(*(self.filler(self.rng.randrange(most)) for most in (17, 17, 5, 5, 9)))
 
     def some(self):
         return self.rng.choice([self.call, self.call, self.damaged, self.damaged, self.damaged, self.made_up])()
@@ -98,14 +101,14 @@ class Uploads:
     def largest(self):
         """The most rows and one more, shuffled, some of them dropped; and the longest report."""
         for count in (MOST_ROWS - 1, MOST_ROWS, MOST_ROWS + 1):
-            rows = [(name(row // 2), name(10 + row % 2), number(row % 1000)) for row in range(count - count // 10)]
+            rows = [(number(2025 + row % 3), name(row // 2), name(10 + row % 2), number(row % 1000)) for row in range(count - count // 10)]
             rows += [self.rng.choice(rows) for _ in range(count // 20)]
             rows += [self.wronged(self.rng.choice(rows)) for _ in range(count - len(rows))]
             self.rng.shuffle(rows)
             upload = tuple(word for row in rows for word in row)
             yield Make(upload, *((0,) * (words + 1) for words in self.lengths(upload)))
-        same = (name(1), name(2), number(3)) * MOST_ROWS
+        same = (number(2026), name(1), name(2), number(3)) * MOST_ROWS
         yield Make(same, *((0,) * words for words in self.lengths(same)))
         yield Make(same, *((0,) * (words - (at == 3)) for at, words in enumerate(self.lengths(same))))
-        in_order = tuple(word for row in range(MOST_ROWS) for word in (name(row), name(10), name(100)))
+        in_order = tuple(word for row in range(MOST_ROWS) for word in (number(2026), name(row), name(10), name(100)))
         yield Make(in_order, *((0,) * words for words in self.lengths(in_order)))

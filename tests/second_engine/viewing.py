@@ -6,7 +6,7 @@ It is written from the rules' text alone. What the rules say is a method, so tha
 from collections import namedtuple
 
 from evaluation import Evaluation, first_failing, written
-from inputs import Tables, ascend, osp_key, pos_key, rows_of
+from inputs import COLUMNS, Tables, ascend, osp_key, pos_key, rows_of
 from words import NAME, term_kind
 
 View = namedtuple('View', 'tables grant membership rows pos osp')     # tables, an adviser's grant, and the three buffers
@@ -21,20 +21,21 @@ class Viewing:
 
     def admits(self, row, grant, membership):
         """Whether a row says that its subject belongs to something granted."""
-        return row[1] == membership and row[2] in grant
+        return row[2] == membership and row[3] in grant
 
     def members(self, rows, grant, membership):
-        """The subjects that belong to something granted."""
-        return {row[0] for row in rows if self.admits(row, grant, membership)}
+        """The subjects that belong to something granted, each with the year in which it does."""
+        return {row[:2] for row in rows if self.admits(row, grant, membership)}
 
     def seen(self, rows, grant, membership):
-        """The subjects whose rows are visible."""
-        return self.members(rows, grant, membership) | set(grant)
+        """A test of rows: whether they are visible."""
+        members = self.members(rows, grant, membership)
+        return lambda row: row[1] in grant or row[:2] in members
 
     def visible(self, rows, grant, membership):
         """The visible rows, in their order."""
         seen = self.seen(rows, set(grant), membership)
-        return [row for row in rows if row[0] in seen]
+        return [row for row in rows if seen(row)]
 
     def tables(self, rows, visible):
         """The tables of the visible rows."""
@@ -43,7 +44,7 @@ class Viewing:
                       sorted(numbers, key=lambda n: osp_key(visible[n])))
 
     def made(self, tables, grant, membership):
-        rows = [row for row in rows_of(tables) if len(row) == 3]
+        rows = [row for row in rows_of(tables) if len(row) == COLUMNS]
         return self.tables(rows, self.visible(rows, grant, membership))
 
     def names_right(self, grant):

@@ -8,13 +8,13 @@ from words import NAME, term_kind
 class PredicateIgnored(Viewing):
     """any row with a granted object admits its subject"""
     def admits(self, row, grant, membership):
-        return row[2] in grant
+        return row[3] in grant
 
 
 class ObjectIgnored(Viewing):
     """any row of membership admits its subject"""
     def admits(self, row, grant, membership):
-        return bool(grant) and row[1] == membership
+        return bool(grant) and row[2] == membership
 
 
 class DirectAlone(Viewing):
@@ -26,13 +26,21 @@ class DirectAlone(Viewing):
 class MembersAlone(Viewing):
     """only subjects that belong to something granted are visible"""
     def seen(self, rows, grant, membership):
-        return self.members(rows, grant, membership)
+        members = self.members(rows, grant, membership)
+        return lambda row: row[:2] in members
+
+
+class AcrossYears(Viewing):
+    """membership counts in every year"""
+    def members(self, rows, grant, membership):
+        subjects = {row[1] for row in rows if self.admits(row, grant, membership)}
+        return {row[:2] for row in rows if row[1] in subjects}
 
 
 class OtherSubject(Viewing):
     """a row of membership admits the subject of the next row too"""
     def members(self, rows, grant, membership):
-        return {other[0] for row, after in zip(rows, rows[1:] + rows[-1:]) if self.admits(row, grant, membership) for other in (row, after)}
+        return {other[:2] for row, after in zip(rows, rows[1:] + rows[-1:]) if self.admits(row, grant, membership) for other in (row, after)}
 
 
 class Transitive(Viewing):
@@ -41,33 +49,33 @@ class Transitive(Viewing):
         known, more = set(), super().members(rows, grant, membership)
         while more - known:
             known |= more
-            more = super().members(rows, grant | known, membership)
+            more = super().members(rows, grant | {subject for _, subject in known}, membership)
         return known
 
 
 class SubjectsMembers(Viewing):
     """what a granted subject belongs to is visible too"""
     def members(self, rows, grant, membership):
-        return super().members(rows, grant, membership) | {row[2] for row in rows if row[0] in grant and row[1] == membership}
+        return super().members(rows, grant, membership) | {(row[0], row[3]) for row in rows if row[1] in grant and row[2] == membership}
 
 
 class FirstRowDecides(Viewing):
     """only the first row of a subject can admit it"""
     def members(self, rows, grant, membership):
-        firsts = [row for before, row in zip([(None,)] + rows, rows) if before[0] != row[0]]
+        firsts = [row for before, row in zip([()] + rows, rows) if before[:2] != row[:2]]
         return super().members(firsts, grant, membership)
 
 
 class AdmittingLeftOut(Viewing):
     """the row that admits a subject is left out"""
     def visible(self, rows, grant, membership):
-        return [row for row in super().visible(rows, grant, membership) if row[0] in grant or not self.admits(row, grant, membership)]
+        return [row for row in super().visible(rows, grant, membership) if row[1] in grant or not self.admits(row, grant, membership)]
 
 
 class AdmittingAlone(Viewing):
     """of a subject that belongs to something granted, the row that says so is visible alone"""
     def visible(self, rows, grant, membership):
-        return [row for row in rows if row[0] in grant or self.admits(row, grant, membership)]
+        return [row for row in rows if row[1] in grant or self.admits(row, grant, membership)]
 
 
 class FromAdmittingOn(Viewing):
@@ -75,8 +83,8 @@ class FromAdmittingOn(Viewing):
     def visible(self, rows, grant, membership):
         admitted, kept = set(), []
         for row in rows:
-            admitted |= {row[0]} if row[0] in grant or self.admits(row, grant, membership) else set()
-            kept += [row] if row[0] in admitted else []
+            admitted |= {row[:2]} if row[1] in grant or self.admits(row, grant, membership) else set()
+            kept += [row] if row[:2] in admitted else []
         return kept
 
 
@@ -84,7 +92,7 @@ class ObjectsVisible(Viewing):
     """a row is visible by its object too"""
     def visible(self, rows, grant, membership):
         seen = self.seen(rows, set(grant), membership)
-        return [row for row in rows if row[0] in seen or row[2] in grant]
+        return [row for row in rows if seen(row) or row[3] in grant]
 
 
 class OldNumbers(Viewing):
@@ -157,7 +165,7 @@ class MembershipTested(Viewing):
 
 
 class GrantFirst(Viewing):
-    """20 is tested before 1 to 4"""
+    """20 is tested before the tests of the tables"""
     def tests(self, tables, grant, membership, buffers):
         own = self.own_tests(tables, grant, membership, buffers)
         return [own[0], *self.table_tests(tables), *own[1:]]
@@ -208,7 +216,7 @@ class TailsCleared(Viewing):
 
 
 ALL_VIEWING_MISREADINGS = [
-    PredicateIgnored, ObjectIgnored, DirectAlone, MembersAlone, OtherSubject, Transitive, SubjectsMembers, FirstRowDecides, AdmittingLeftOut,
+    PredicateIgnored, ObjectIgnored, DirectAlone, MembersAlone, AcrossYears, OtherSubject, Transitive, SubjectsMembers, FirstRowDecides, AdmittingLeftOut,
     AdmittingAlone, FromAdmittingOn, ObjectsVisible, OldNumbers, OspAsPos, ListsUnsorted, EqualGrants, LastPairUnread, OrderUntested,
     NamesUntested, LastNameUntested, EmptyRefused, EmptyShowsAll, MembershipTested, GrantFirst, RoomFirst, RoomForAll, RoomPastWords,
     ListsUnasked, RowsBeforeRoom, TailsCleared]

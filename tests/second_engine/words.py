@@ -6,6 +6,8 @@ MOST_VALUE = (1 << 30) - 1   # of a name or a text; a number's 30 bits are two's
 NUMBERS = 1 << 29            # numbers lie from -NUMBERS to NUMBERS - 1
 MOST_WORD = (1 << 32) - 1
 
+YEAR = 0                     # before a plan's head, and in a state behind the survey
+MOST_YEAR = 9999
 HEAD, BRANCH, TRUE, AND, OR, NOT, COMPARISON, ROWS, TOP, RISING, FALLING, GROUP = range(1, 13)
 SURVEY, STATE, PLACE = 13, 14, 15
 SURVEYS = 1 << 28            # the numbers that a survey may have are below

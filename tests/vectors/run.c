@@ -9,9 +9,11 @@
 
 enum { SET = 1, FILL, STEMS, OPEN, TURN, MERGE, MAKE, SHUFFLED, MAKE_STEMS, ENTRIES, JOIN, SERVE, TOP_UP, VIEW, VIEW_ALL };
 enum { ROWS, POS, OSP, PLAN, STATE, THRESHOLD, OUTPUT, KEPT, LIST, UPLOAD, REPORT, LINE, ASIDE, GRANT, SEEN_ROWS, SEEN_POS, SEEN_OSP, BUFFERS };
-enum { GUARDS = 8, NUMBERS = 23, ENTRY_WORDS = sizeof(struct sotjarn_entry) / sizeof(uint32_t) };
+enum { GUARDS = 8, NUMBERS = 24, ENTRY_WORDS = sizeof(struct sotjarn_entry) / sizeof(uint32_t) };
 
 #define GUARD UINT32_C(0xA5A5C3C3)
+/* The year of the stems that are made by a rule. */
+#define YEAR UINT32_C(0x400007EA)
 
 /* A buffer: its words as they are lent, between guard words, and as they must be. */
 struct buffer {
@@ -81,14 +83,22 @@ static void set(int filled)
     lend(number);
 }
 
+/* The row of a stem: its year, its name, and that it grows in stand n100. */
+static void put_stem(uint32_t *row, uint32_t stem)
+{
+    row[0] = YEAR;
+    row[1] = stem;
+    row[2] = 10;
+    row[3] = 100;
+}
+
 static void stems(void)
 {
     uint32_t count = word();
-    uint32_t *rows = resize(ROWS, (size_t)3 * count), *pos = resize(POS, count), *osp = resize(OSP, count);
+    uint32_t *rows = resize(ROWS, (size_t)SOTJARN_ROW_WORDS * count), *pos = resize(POS, count), *osp = resize(OSP, count);
     for (uint32_t i = 0; i < count; i++) {
-        rows[3 * i] = pos[i] = osp[i] = i;
-        rows[3 * i + 1] = 10;
-        rows[3 * i + 2] = 100;
+        put_stem(rows + (size_t)SOTJARN_ROW_WORDS * i, i);
+        pos[i] = osp[i] = i;
     }
     lend(ROWS);
     lend(POS);
@@ -99,12 +109,9 @@ static void stems(void)
 static void shuffled(void)
 {
     uint32_t count = word();
-    uint32_t *rows = resize(UPLOAD, (size_t)3 * count);
-    for (uint32_t i = 0; i < count; i++) {
-        rows[3 * i] = (uint32_t)((uint64_t)i * 40507 % count);
-        rows[3 * i + 1] = 10;
-        rows[3 * i + 2] = 100;
-    }
+    uint32_t *rows = resize(UPLOAD, (size_t)SOTJARN_ROW_WORDS * count);
+    for (uint32_t i = 0; i < count; i++)
+        put_stem(rows + (size_t)SOTJARN_ROW_WORDS * i, (uint32_t)((uint64_t)i * 40507 % count));
     lend(UPLOAD);
 }
 
@@ -201,15 +208,13 @@ static void run_make(void)
 /* Tables of so many stems must be made, by the rule of STEMS. */
 static void run_make_stems(void)
 {
-    uint32_t many = word(), words[4] = {3 * many, many, many, 0};
-    if (buffers[ROWS].len < 3 * (size_t)many || buffers[POS].len < many || buffers[OSP].len < many)
+    uint32_t many = word(), words[4] = {SOTJARN_ROW_WORDS * many, many, many, 0};
+    if (buffers[ROWS].len < SOTJARN_ROW_WORDS * (size_t)many || buffers[POS].len < many || buffers[OSP].len < many)
         fail("the file asks for more words than the buffer");
     must_make(0, words);
     for (uint32_t i = 0; i < many; i++) {
-        uint32_t *row = buffers[ROWS].right + GUARDS + 3 * (size_t)i;
-        row[0] = buffers[POS].right[GUARDS + i] = buffers[OSP].right[GUARDS + i] = i;
-        row[1] = 10;
-        row[2] = 100;
+        put_stem(buffers[ROWS].right + GUARDS + SOTJARN_ROW_WORDS * (size_t)i, i);
+        buffers[POS].right[GUARDS + i] = buffers[OSP].right[GUARDS + i] = i;
     }
 }
 

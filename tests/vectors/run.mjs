@@ -12,7 +12,7 @@ const [PLAN_ROOM, STATE_ROOM] = [256, 11];
 const ENTRY_WORDS = 5 + PLAN_ROOM + STATE_ROOM;
 const GUARDS = 8;
 const GUARD = 0xa5a5c3c3;
-const NUMBERS = 23;
+const NUMBERS = 24;
 const PAGE = 65536;
 
 let calls = 0;
@@ -32,7 +32,7 @@ if (vectorFile === undefined) {
 const { instance } = await WebAssembly.instantiate(readFileSync(libraryFile));
 const { memory, sotjarn_open, sotjarn_turn, sotjarn_merge, sotjarn_make, sotjarn_join, sotjarn_serve, sotjarn_top_up, sotjarn_view } = instance.exports;
 const answerAt = memory.buffer.byteLength;
-const ROOM = 16 * PAGE;
+const ROOM = 17 * PAGE;
 memory.grow(1 + (BUFFERS * ROOM) / PAGE);
 const roomAt = (number) => answerAt + PAGE + number * ROOM;
 
@@ -71,9 +71,12 @@ function fill() {
   lend(number, Array.from({ length: count }, (_, i) => Math.imul(i + 1, 0x9e3779b9) >>> 0));
 }
 
+// The row of a stem: its year, 2026, its name, and that it grows in stand n100.
+const stem = (number) => [0x400007ea, number, 10, 100];
+
 function stems() {
   const numbers = Array.from({ length: word() }, (_, i) => i);
-  lend(ROWS, numbers.flatMap((i) => [i, 10, 100]));
+  lend(ROWS, numbers.flatMap(stem));
   lend(POS, numbers);
   lend(OSP, numbers);
 }
@@ -81,7 +84,7 @@ function stems() {
 // The stems as an upload, in an order that visits each once.
 function shuffled() {
   const count = word();
-  lend(UPLOAD, Array.from({ length: count }, (_, i) => [(i * 40507) % count, 10, 100]).flat());
+  lend(UPLOAD, Array.from({ length: count }, (_, i) => stem((i * 40507) % count)).flat());
 }
 
 // Calls.
@@ -140,9 +143,9 @@ function make() {
 // Tables of so many stems must be made, by the rule of STEMS.
 function makeStems() {
   const many = word();
-  mustMake(0, [3 * many, many, many, 0]);
+  mustMake(0, [4 * many, many, many, 0]);
   const numbers = Array.from({ length: many }, (_, i) => i);
-  const written = [numbers.flatMap((i) => [i, 10, 100]), numbers, numbers];
+  const written = [numbers.flatMap(stem), numbers, numbers];
   written.forEach((made, i) => {
     right[tables[i]] = [...made, ...right[tables[i]].slice(made.length)];
   });

@@ -147,9 +147,12 @@ fn wood(stems: u32) -> TableWords {
             100 + stem.wrapping_mul(2_654_435_761) % 7,
             20 + stem.wrapping_mul(40_507) % 600,
         );
-        [[Name(stem), Name(10), Name(stand)], [Name(stem), Name(12), Number(size as i32)]]
+        [
+            [Name(stem), Name(10), Name(stand)],
+            [Name(stem), Name(12), Number(size as i32)],
+        ]
     };
-    TableWords::from_rows((0..stems).flat_map(stem)).expect("every value fits in 30 bits")
+    TableWords::of_year(2026, (0..stems).flat_map(stem)).expect("every value fits in 30 bits")
 }
 
 /// Stems with stand and diameter, from a diameter on.

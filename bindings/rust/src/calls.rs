@@ -5,10 +5,13 @@ use crate::refusals::Refusal;
 use crate::tables::{Survey, Tables};
 
 /// The words that a state buffer has at least.
-pub const STATE_WORDS: usize = 10;
+pub const STATE_WORDS: usize = 11;
 
 /// The numbers that a survey may have: below this.
 pub const SURVEYS: u32 = 1 << 28;
+
+/// The last year that rows and plans may have; the first is 1.
+pub const MOST_YEAR: u32 = 9_999;
 
 /// The most steps that a turn may take.
 pub const MOST_STEPS: u32 = 1_000_000;
@@ -53,7 +56,7 @@ pub struct Turned {
 /// What making tables answers: the words written over the front of each buffer.
 #[derive(Clone, Copy, Debug, PartialEq, Eq, Hash)]
 pub struct Made {
-    /// Three for each row that is kept.
+    /// Four for each row that is kept.
     pub rows_words: usize,
     /// One for each row that is kept.
     pub pos_words: usize,
@@ -129,18 +132,19 @@ fn turned(answer: engine::TurnedNumbers) -> Result<Turned, Refusal> {
     })
 }
 
-/// Writes the start state of a query over the front of `state`, and gives the words written. Refused by 1 to 7 and 22.
+/// Writes the start state of a query over the front of `state`, and gives the words written. Refused by 1, 2, 23, 3, 4, 5,
+/// 6, 23, 7 and 22, tested in this order: 23 is for a row's year, and then for the plan's.
 ///
 /// ```
 /// use sotjarn::{open, Refusal, Tables};
 ///
-/// let rows = [1, 10, 100]; // n1 n10 n100
+/// let rows = [0x4000_07EA, 1, 10, 100]; // i2026 n1 n10 n100
 /// let survey = Tables { rows: &rows, pos: &[0], osp: &[0] }.survey(7);
 /// let plan = [0x1000_0001, 0x2000_0001, 0xC000_0000, 10, 100, 0x3000_0000, 0x8000_0001, 0xC000_0000];
-/// let mut state = [0; 10];
-/// assert_eq!(open(survey, &plan, &mut state), Ok(3));
-/// assert_eq!(state[..3], [0xD000_0007, 0xE000_0001, 0xF000_0000]); // survey 7; branch 0, depth 1; place 0
-/// assert_eq!(open(survey, &plan, &mut state[..9]), Err(Refusal::BufferLengths));
+/// let mut state = [0; 11];
+/// assert_eq!(open(survey, &plan, &mut state), Ok(4));
+/// assert_eq!(state[..4], [0xD000_0007, 2026, 0xE000_0001, 0xF000_0000]); // survey 7; 2026; branch 0, depth 1; place 0
+/// assert_eq!(open(survey, &plan, &mut state[..10]), Err(Refusal::BufferLengths));
 /// assert_eq!(open(survey.tables.survey(1 << 28), &plan, &mut state), Err(Refusal::Survey));
 /// ```
 pub fn open(survey: Survey, plan: &[u32], state: &mut [u32]) -> Result<usize, Refusal> {
@@ -150,15 +154,16 @@ pub fn open(survey: Survey, plan: &[u32], state: &mut [u32]) -> Result<usize, Re
 
 /// Runs at most `quantum` steps from the saved state, which is the first `state_words` words of `state`: those that opening or the
 /// turn before wrote. `threshold` is empty, or for a best-of query the last row of a full list merged from earlier turns.
-/// Refused by 1 to 11, and by 22 after 9: a state goes on with the survey that it was saved under alone.
+/// Refused as an opening is by tables and plan, then by 7 to 11, with 22 after 9: a state goes on with the survey that it was saved under
+/// alone, and with a year that is being read.
 ///
 /// ```
 /// use sotjarn::{open, turn, Refusal, Tables, TurnEnding};
 ///
-/// let rows = [1, 10, 100]; // n1 n10 n100
+/// let rows = [0x4000_07EA, 1, 10, 100]; // i2026 n1 n10 n100
 /// let survey = Tables { rows: &rows, pos: &[0], osp: &[0] }.survey(7);
 /// let plan = [0x1000_0001, 0x2000_0001, 0xC000_0000, 10, 100, 0x3000_0000, 0x8000_0001, 0xC000_0000];
-/// let (mut state, mut output) = ([0; 10], [0; 1]);
+/// let (mut state, mut output) = ([0; 11], [0; 1]);
 /// let words = open(survey, &plan, &mut state)?;
 /// let later = survey.tables.survey(8); // after the next upload
 /// assert_eq!(turn(later, &plan, &mut state, words, 10, &[], &mut output), Err(Refusal::Survey));
@@ -193,7 +198,7 @@ pub fn turn(
 
 /// Merges a turn's whole list into the kept one, which is the first `kept_words` words of `kept`; none at first. The merged list is
 /// written over the front of `kept`, and its words are the answer. For best-of queries and groups; the lists of a row query are
-/// joined end to end instead. Refused by 5, 6 and 12 to 14.
+/// joined end to end instead. Refused by 5, 6, 23 and 12 to 14.
 ///
 /// ```
 /// use sotjarn::{merge, Refusal};
@@ -212,7 +217,7 @@ pub fn merge(plan: &[u32], kept: &mut [u32], kept_words: usize, list: &[u32]) ->
     written(engine::sotjarn_merge(plan, kept, kept_words, list))
 }
 
-/// The words that test 7 asks of an output for a plan: one row, k rows or one group. Refused by 5 and 6.
+/// The words that test 7 asks of an output for a plan: one row, k rows or one group. Refused by 5, 6 and 23.
 ///
 /// ```
 /// use sotjarn::{least_output, Refusal};
@@ -229,20 +234,21 @@ pub fn least_output(plan: &[u32]) -> Result<usize, Refusal> {
     written(engine::sotjarn_least_output(plan))
 }
 
-/// Makes tables from an upload, rows of three words in any order, and a report of the rows that were dropped. Rows of wrong kinds are
+/// Makes tables from an upload, rows of four words in any order, and a report of the rows that were dropped. Rows of wrong kinds or years are
 /// dropped, and of equal rows all but the first; the others are written over the front of `rows`, in ascending order, and their row numbers
 /// over the front of `pos` and `osp`. The report has two words for each dropped row, in upload order: its place from 0, and 1 for a wrong
-/// kind, tested first, or 2 for a repeat; [`read_report`](crate::read_report) reads it. Buffers of exactly the words written are enough.
+/// kind or year, tested first, or 2 for a repeat; [`read_report`](crate::read_report) reads it. Buffers of exactly the words written are enough.
 /// Refused by 15 and 16. It needs [`MAKE_STACK`] bytes of stack.
 ///
 /// ```
 /// use sotjarn::{make, Made, Refusal};
 ///
-/// let upload = [2, 10, 100, 1, 10, 100, 2, 10, 100]; // n2 n10 n100, n1 n10 n100, and the first again
-/// let (mut rows, mut pos, mut osp, mut report) = ([0; 6], [0; 2], [0; 2], [0; 2]);
+/// let (first, second) = ([0x4000_07EA, 2, 10, 100], [0x4000_07EA, 1, 10, 100]); // i2026 n2 n10 n100, i2026 n1 n10 n100
+/// let upload = [first, second, first].concat();
+/// let (mut rows, mut pos, mut osp, mut report) = ([0; 8], [0; 2], [0; 2], [0; 2]);
 /// let made = make(&upload, &mut rows, &mut pos, &mut osp, &mut report)?;
-/// assert_eq!(made, Made { rows_words: 6, pos_words: 2, osp_words: 2, report_words: 2 });
-/// assert_eq!((rows, pos, osp), ([1, 10, 100, 2, 10, 100], [0, 1], [0, 1]));
+/// assert_eq!(made, Made { rows_words: 8, pos_words: 2, osp_words: 2, report_words: 2 });
+/// assert_eq!((rows[..4] == second, rows[4..] == first, pos, osp), (true, true, [0, 1], [0, 1]));
 /// assert_eq!(report, [2, 2]); // the row at 2 is a repeat
 /// assert_eq!(make(&upload[1..], &mut rows, &mut pos, &mut osp, &mut report), Err(Refusal::UploadLength));
 /// assert_eq!(make(&upload, &mut rows, &mut pos, &mut osp, &mut []), Err(Refusal::MadeLengths));
@@ -262,20 +268,21 @@ pub fn make(upload: &[u32], rows: &mut [u32], pos: &mut [u32], osp: &mut [u32], 
 }
 
 /// Writes the tables of the rows that an adviser may see over the front of `rows`, `pos` and `osp`. The grant has names in strictly ascending
-/// order, or none. A row is visible if its subject is granted, or if some row of the same subject has `membership` as predicate and a granted
-/// object. Visible rows keep their order and are numbered from 0; the adviser's queries run on these tables. Buffers of exactly the words
-/// written are enough. Refused by 1 to 4, 20 and 21. It needs [`VIEW_STACK`] bytes of stack.
+/// order, or none. A row is visible if its subject is granted, or if some row of the same year and subject has `membership` as predicate and a
+/// granted object. Visible rows keep their order and are numbered from 0; the adviser's queries run on these tables. Buffers of exactly the words
+/// written are enough. Refused by 1, 2, 23, 3, 4, 20 and 21. It needs [`VIEW_STACK`] bytes of stack.
 /// [`TableWords::view`](crate::TableWords::view) has buffers of its own.
 ///
 /// ```
 /// use sotjarn::{view, Refusal, Tables, Viewed};
 ///
-/// let rows = [1, 10, 100, 2, 10, 101, 2, 12, 0x4000_0136]; // n1 n10 n100, n2 n10 n101, n2 n12 i310
+/// // i2026 and: n1 n10 n100, n2 n10 n101, n2 n12 i310
+/// let rows = [0x4000_07EA, 1, 10, 100, 0x4000_07EA, 2, 10, 101, 0x4000_07EA, 2, 12, 0x4000_0136];
 /// let tables = Tables { rows: &rows, pos: &[0, 1, 2], osp: &[0, 1, 2] };
-/// let (mut seen, mut pos, mut osp) = ([0; 6], [0; 2], [0; 2]);
+/// let (mut seen, mut pos, mut osp) = ([0; 8], [0; 2], [0; 2]);
 /// let viewed = view(tables, &[101], 10, &mut seen, &mut pos, &mut osp)?; // what belongs, by n10, to n101
-/// assert_eq!(viewed, Viewed { rows_words: 6, pos_words: 2, osp_words: 2 });
-/// assert_eq!((&seen[..], pos, osp), (&rows[3..], [0, 1], [0, 1]));
+/// assert_eq!(viewed, Viewed { rows_words: 8, pos_words: 2, osp_words: 2 });
+/// assert_eq!((&seen[..], pos, osp), (&rows[4..], [0, 1], [0, 1]));
 /// assert_eq!(view(tables, &[101, 100], 10, &mut seen, &mut pos, &mut osp), Err(Refusal::Grant));
 /// assert_eq!(view(tables, &[100, 101], 10, &mut seen, &mut pos, &mut osp), Err(Refusal::ViewLengths)); // three rows are visible
 /// # Ok::<(), Refusal>(())
@@ -312,16 +319,16 @@ fn queued(answer: engine::QueuedNumbers) -> Result<Queued, Refusal> {
 
 /// An owner's query joins a queue over this survey: with steps at the end of the line, without at the end of the list set aside. The
 /// line is the first `line_entries` entries of `line`, the list set aside the first `aside_entries` of `aside`; both buffers have
-/// [`MOST_ENTRIES`] or more. `plan` and `state` are whole: those that a turn would accept. Refused by 1 to 6, 9, 22, 10, 17 and 18.
+/// [`MOST_ENTRIES`] or more. `plan` and `state` are whole: those that a turn would accept. Refused by 1, 2, 23, 3, 4, 5, 6, 23, 9, 22, 10, 17 and 18.
 /// [`Queue`](crate::Queue) holds both lists.
 ///
 /// ```
 /// use sotjarn::{join, open, Queued, Refusal, Tables, MOST_ENTRIES, NO_ENTRY};
 ///
-/// let rows = [1, 10, 100]; // n1 n10 n100
+/// let rows = [0x4000_07EA, 1, 10, 100]; // i2026 n1 n10 n100
 /// let survey = Tables { rows: &rows, pos: &[0], osp: &[0] }.survey(7);
 /// let plan = [0x1000_0001, 0x2000_0001, 0xC000_0000, 10, 100, 0x3000_0000, 0x8000_0001, 0xC000_0000];
-/// let mut state = [0; 10];
+/// let mut state = [0; 11];
 /// let words = open(survey, &plan, &mut state)?;
 /// let (mut line, mut aside) = ([NO_ENTRY; MOST_ENTRIES], [NO_ENTRY; MOST_ENTRIES]);
 /// let queued = join(survey, &mut line, 0, &mut aside, 0, 7, 100, &plan, &state[..words])?;
@@ -361,8 +368,8 @@ pub fn join(
 
 /// Runs a turn of the query at the front of the line, for at most `quantum` steps and at most those left to it. Done, it leaves; else it
 /// goes to the back of the line, or to the end of the list set aside where no steps are left. Its list is written over the front of
-/// `output`, its new state in its entry. Refused by 1 to 11, with 22 after 9, on the front entry and the call, then 17, 18 and 19; with an
-/// empty line by 1 to 4, 8, 22, 17, 18 and 19.
+/// `output`, its new state in its entry. Refused as a turn is on the front entry and the call, then by 17, 18 and 19; with an
+/// empty line by 1, 2, 23, 3, 4, 8, 22, 17, 18 and 19.
 #[allow(clippy::too_many_arguments)]
 pub fn serve(
     survey: Survey,

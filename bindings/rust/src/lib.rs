@@ -32,7 +32,7 @@
 //!     rows.push([Name(stem), Name(10), Name(100)]);
 //!     rows.push([Name(stem), Name(12), Number(size)]);
 //! }
-//! let wood = TableWords::from_rows(rows)?;
+//! let wood = TableWords::of_year(2026, rows)?;
 //!
 //! let (stem, size) = (Variable(0), Variable(1));
 //! let branch = Branch::new()
@@ -79,7 +79,7 @@ use sotjarn_portable as engine;
 
 pub use calls::{
     join, least_output, make, merge, open, serve, top_up, turn, view, Made, Queued, Served, TurnEnding, Turned, Viewed, MAKE_STACK,
-    MOST_ENTRIES, MOST_ROWS, MOST_STEPS, STATE_WORDS, SURVEYS, VIEW_STACK,
+    MOST_ENTRIES, MOST_ROWS, MOST_STEPS, MOST_YEAR, STATE_WORDS, SURVEYS, VIEW_STACK,
 };
 pub use engine::Entry;
 pub use lists::{read_groups, read_rows, Group, Kept, List, Row, Unreadable};

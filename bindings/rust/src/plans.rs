@@ -6,6 +6,7 @@
 use crate::terms::{Term, TooLarge, Variable};
 
 // The kinds of plan words, in their top four bits.
+pub(crate) const YEAR: u32 = 0;
 const HEAD: u32 = 1;
 const BRANCH: u32 = 2;
 const TRUE: u32 = 3;
@@ -213,14 +214,37 @@ impl PlanEnding {
     }
 }
 
-/// Branches that wait for the plan's ending.
+/// Branches that wait for the plan's ending. Without a word on years the latest year is read.
 #[derive(Clone, Debug, Default, PartialEq, Eq)]
 pub struct PlanBuilder {
+    year: Option<u32>,
     branches: usize,
     words: Words,
 }
 
 impl PlanBuilder {
+    /// Reads every year there is, one after the other. No row joins across years; lists and groups go over all of them.
+    ///
+    /// ```
+    /// use sotjarn::{Branch, Plan, Term::Name, Variable};
+    ///
+    /// let stems = Branch::new().pattern(Variable(0), Name(10), Name(100));
+    /// let plan = Plan::builder().every_year().branch(stems).rows([Variable(0)])?;
+    /// assert_eq!(plan.words()[..2], [0, 0x1000_0001]);
+    /// # Ok::<(), sotjarn::TooLarge>(())
+    /// ```
+    pub fn every_year(self) -> PlanBuilder {
+        PlanBuilder { year: Some(0), ..self }
+    }
+
+    /// Reads one year, even one that no row has: 1 to 9,999. 0 is every year.
+    pub fn year(self, year: u32) -> PlanBuilder {
+        PlanBuilder {
+            year: Some(year),
+            ..self
+        }
+    }
+
     /// Adds a branch. The branches run in this order, and a row that two of them deliver is delivered twice.
     pub fn branch(mut self, branch: Branch) -> PlanBuilder {
         self.branches += 1;
@@ -250,7 +274,10 @@ impl PlanBuilder {
 
     /// Ends the plan.
     pub fn ending(self, ending: PlanEnding) -> Result<Plan, TooLarge> {
-        let written = Words::default().word(HEAD, self.branches).all(self.words).all(ending.words());
+        let years = self
+            .year
+            .map_or(Words::default(), |year| Words::default().word(YEAR, year as usize));
+        let written = years.word(HEAD, self.branches).all(self.words).all(ending.words());
         match written.too_large {
             None => Ok(Plan {
                 words: written.words,

@@ -28,7 +28,7 @@ pub struct Turn {
 }
 
 impl<'a> Query<'a> {
-    /// Opens a query. Refused by 1 to 6 and 22.
+    /// Opens a query. Refused by 1 to 6, 22 and 23.
     pub fn open(survey: Survey<'a>, plan: &'a [u32]) -> Result<Query<'a>, Refusal> {
         let mut state = vec![0; STATE_WORDS];
         let state_words = open(survey, plan, &mut state)?;
@@ -88,7 +88,7 @@ impl<'a> Query<'a> {
     /// use sotjarn::Term::{Name, Number};
     /// use sotjarn::{Branch, Kept, Plan, Query, TableWords, Variable};
     ///
-    /// let wood = TableWords::from_rows([(1, 45), (2, 310), (3, 310)].map(|(stem, size)| [Name(stem), Name(12), Number(size)]))?;
+    /// let wood = TableWords::of_year(2026, [(1, 45), (2, 310), (3, 310)].map(|(stem, size)| [Name(stem), Name(12), Number(size)]))?;
     /// let size = Variable(1);
     /// let plan = Plan::builder().branch(Branch::new().pattern(Variable(0), Name(12), size)).group([], size)?;
     ///

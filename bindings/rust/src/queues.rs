@@ -32,7 +32,7 @@ pub fn state_in(entry: &Entry) -> &[u32] {
 /// use sotjarn::Term::{Name, Number};
 /// use sotjarn::{Branch, Plan, Query, Queue, Refusal, TableWords, TurnEnding, Variable};
 ///
-/// let wood = TableWords::from_rows([(1, 45), (2, 310), (3, 310)].map(|(stem, size)| [Name(stem), Name(12), Number(size)]))?;
+/// let wood = TableWords::of_year(2026, [(1, 45), (2, 310), (3, 310)].map(|(stem, size)| [Name(stem), Name(12), Number(size)]))?;
 /// let (stem, size) = (Variable(0), Variable(1));
 /// let plan = Plan::builder().branch(Branch::new().pattern(stem, Name(12), size)).rows([stem])?;
 /// let start = Query::open(wood.survey(1), plan.words())?.state().to_vec();

@@ -10,7 +10,7 @@ use std::fmt;
 ///
 /// assert_eq!(Refusal::Quantum.code(), 8);
 /// assert_eq!(Refusal::from_code(8), Some(Refusal::Quantum));
-/// assert_eq!(Refusal::from_code(23), None);
+/// assert_eq!(Refusal::from_code(24), None);
 /// assert_eq!(Refusal::Quantum.fault(), "the quantum is outside its range");
 /// assert_eq!(Refusal::Quantum.remedy(), "give 1 to 1,000,000 steps");
 /// assert_eq!(Refusal::Quantum.to_string(), "refused by 8: the quantum is outside its range; give 1 to 1,000,000 steps");
@@ -18,7 +18,7 @@ use std::fmt;
 #[derive(Clone, Copy, Debug, PartialEq, Eq, PartialOrd, Ord, Hash)]
 #[repr(u32)]
 pub enum Refusal {
-    /// Length of rows isn't a multiple of 3, a list's length differs from the row count, or more than 65,536 rows.
+    /// Length of rows isn't a multiple of 4, a list's length differs from the row count, or more than 65,536 rows.
     TableLengths = 1,
     /// A field's kind is wrong in some row.
     FieldKind = 2,
@@ -30,11 +30,11 @@ pub enum Refusal {
     PlanForm = 5,
     /// Plan: a variable above ?15, one that is not bound where it must be, a key that is no column, or a repeat.
     PlanVariables = 6,
-    /// Output holds less than one row, k rows or one group, by ending; or a state buffer under 10 words.
+    /// Output holds less than one row, k rows or one group, by ending; or a state buffer under 11 words.
     BufferLengths = 7,
     /// Quantum outside its range.
     Quantum = 8,
-    /// State empty, of wrong kinds, branch, depth or length.
+    /// State empty, of wrong kinds, branch, depth or length, or of a year that is not read.
     StateForm = 9,
     /// State that the uncut run doesn't pass through.
     StateNotPassed = 10,
@@ -46,7 +46,7 @@ pub enum Refusal {
     Totals = 13,
     /// Merge: the kept buffer is too short for the result.
     KeptLength = 14,
-    /// Making tables: the upload's length isn't a multiple of 3, or it has more than 65,536 rows.
+    /// Making tables: the upload's length isn't a multiple of 4, or it has more than 65,536 rows.
     UploadLength = 15,
     /// Making tables: a buffer is too short for the tables or the report.
     MadeLengths = 16,
@@ -63,10 +63,12 @@ pub enum Refusal {
     ViewLengths = 21,
     /// A survey's number above 28 bits, or a state of another survey. It stands after 9 and before 10.
     Survey = 22,
+    /// A row's year outside 1 to 9,999, after 2; or a plan's above 9,999, after 6.
+    Year = 23,
 }
 
 /// All of them, by their numbers from 1 on.
-const ALL: [Refusal; 22] = [
+const ALL: [Refusal; 23] = [
     Refusal::TableLengths,
     Refusal::FieldKind,
     Refusal::RowOrder,
@@ -89,6 +91,7 @@ const ALL: [Refusal; 22] = [
     Refusal::Grant,
     Refusal::ViewLengths,
     Refusal::Survey,
+    Refusal::Year,
 ];
 
 impl Refusal {
@@ -115,13 +118,13 @@ impl Refusal {
             Refusal::PlanVariables => "a variable of the plan is above ?15, is not bound, or is repeated",
             Refusal::BufferLengths => "the output or the state buffer is too short",
             Refusal::Quantum => "the quantum is outside its range",
-            Refusal::StateForm => "the state is empty, or its kinds, branch, depth or length are wrong",
+            Refusal::StateForm => "the state is empty, its kinds, branch, depth or length are wrong, or its year is not being read",
             Refusal::StateNotPassed => "the query never passes through this state",
             Refusal::Threshold => "the threshold is not one row of a best-of query",
             Refusal::MergedLists => "a list is not one that this plan makes, or the plan delivers plain rows",
             Refusal::Totals => "a count would pass 2^64 - 1, or a sum leave -2^63 to 2^63 - 1",
             Refusal::KeptLength => "the kept buffer is too short for the merged list",
-            Refusal::UploadLength => "the length of the upload is no multiple of 3, or it has more than 65,536 rows",
+            Refusal::UploadLength => "the length of the upload is no multiple of 4, or it has more than 65,536 rows",
             Refusal::MadeLengths => "a buffer is too short for the tables or the report",
             Refusal::Entries => {
                 "two entries have one owner, an entry is in the list that its steps do not belong to, or a top-up is 0 or for an \
@@ -132,17 +135,21 @@ impl Refusal {
             Refusal::Grant => "the grant has a word that is no name, or its words do not ascend strictly",
             Refusal::ViewLengths => "a buffer is too short for the visible rows",
             Refusal::Survey => "the survey's number is above 28 bits, or the state is of another survey",
+            Refusal::Year => "a row's year is outside 1 to 9,999, or the plan's is above 9,999",
         }
     }
 
     /// What to do about it.
     pub fn remedy(self) -> &'static str {
         match self {
-            Refusal::TableLengths => "lend three words a row, and in each list one number a row",
-            Refusal::FieldKind => "make every subject and predicate a name, and every object a name, a number or a text",
-            Refusal::RowOrder => "sort the rows as unsigned words by subject, predicate, object, and leave out repeats",
+            Refusal::TableLengths => "lend four words a row, and in each list one number a row",
+            Refusal::FieldKind => {
+                "make every year a number, every subject and predicate a name, and every object a name, a number or a text"
+            }
+            Refusal::RowOrder => "sort the rows as unsigned words by year, subject, predicate, object, and leave out repeats",
             Refusal::RowNumbers => {
-                "write the lists anew from these rows: one by predicate, object, subject, one by object, subject, predicate"
+                "write the lists anew from these rows: one by year, predicate, object, subject, one by year, object, subject, \
+                 predicate"
             }
             Refusal::PlanForm => {
                 "keep to 1 to 4 branches, 1 to 8 patterns, conditions of 31 nodes and 8 deep, 1 to 16 columns, k up to 64, \
@@ -153,7 +160,7 @@ impl Refusal {
                  take keys from the columns; name no column or group variable twice"
             }
             Refusal::BufferLengths => {
-                "lend a state buffer of 10 words, and an output for one row, k rows or one group, as the plan ends"
+                "lend a state buffer of 11 words, and an output for one row, k rows or one group, as the plan ends"
             }
             Refusal::Quantum => "give 1 to 1,000,000 steps",
             Refusal::StateForm => {
@@ -164,9 +171,9 @@ impl Refusal {
             Refusal::MergedLists => "merge whole lists of turns of the same plan; join the lists of a row query end to end instead",
             Refusal::Totals => "merge each list once; such totals no survey reaches",
             Refusal::KeptLength => "lend a longer buffer: the words of both lists are always enough",
-            Refusal::UploadLength => "send three words a row, and at most 65,536 rows",
+            Refusal::UploadLength => "send four words a row, and at most 65,536 rows",
             Refusal::MadeLengths => {
-                "for n uploaded rows lend 3 n words for rows, n for each list and 2 n for the report: that is always enough"
+                "for n uploaded rows lend 4 n words for rows, n for each list and 2 n for the report: that is always enough"
             }
             Refusal::Entries => {
                 "lend both lists as the last call left them; let an owner join once at a time, and top up, by at least one step, \
@@ -175,10 +182,11 @@ impl Refusal {
             Refusal::QueueRoom => "lend 32 entries for each list, and let others join when somebody has left",
             Refusal::EmptyLine => "serve again when somebody has joined or was topped up",
             Refusal::Grant => "sort the granted names as unsigned words, each once",
-            Refusal::ViewLengths => "for tables of n rows lend 3 n words for rows and n for each list: that is always enough",
+            Refusal::ViewLengths => "for tables of n rows lend 4 n words for rows and n for each list: that is always enough",
             Refusal::Survey => {
                 "number the surveys below 268,435,456; open the query anew over this survey, and let go what was kept of the other"
             }
+            Refusal::Year => "give rows a year from 1 to 9,999; ask for such a year, or for every year with 0",
         }
     }
 }

@@ -1,12 +1,12 @@
 //! A reader of plan words. The engine tests them first, so that what is read here is an accepted plan.
 
 use crate::calls::least_output;
-use crate::plans::{Key, Plan, PlanEnding, AND, COMPARISON, COUNT_BITS, FALLING, GROUP, NOT, OR, TOP};
+use crate::plans::{Key, Plan, PlanEnding, AND, COMPARISON, COUNT_BITS, FALLING, GROUP, NOT, OR, TOP, YEAR};
 use crate::refusals::Refusal;
 use crate::terms::{Term, Variable};
 
 impl Plan {
-    /// The plan of some words, as one that was stored or sent. Refused by 5 and 6, where every call with them would be.
+    /// The plan of some words, as one that was stored or sent. Refused by 5, 6 and 23, where every call with them would be.
     ///
     /// ```
     /// use sotjarn::{Plan, PlanEnding, Refusal, Variable};
@@ -17,11 +17,14 @@ impl Plan {
     /// assert_eq!(plan.ending(), &PlanEnding::Rows(vec![Variable(1), Variable(0)]));
     /// assert_eq!(plan.words(), words);
     /// assert_eq!(Plan::from_words(&words[1..]), Err(Refusal::PlanForm));
+    /// let of_every_year = [&[0], &words[..]].concat();
+    /// assert_eq!(Plan::from_words(&of_every_year)?.ending(), plan.ending());
     /// # Ok::<(), Refusal>(())
     /// ```
     pub fn from_words(words: &[u32]) -> Result<Plan, Refusal> {
         least_output(words)?;
         let mut rest = Accepted(words);
+        rest.skip_years();
         for _ in 0..rest.take().1 {
             rest.skip_branch();
         }
@@ -50,6 +53,13 @@ impl Accepted<'_> {
 
     fn skip(&mut self, words: usize) {
         self.0 = self.0.get(words..).unwrap_or_default();
+    }
+
+    /// Goes past the word that says which years are read, where there is one.
+    fn skip_years(&mut self) {
+        if self.0.first().is_some_and(|word| word >> COUNT_BITS == YEAR) {
+            self.skip(1);
+        }
     }
 
     /// Goes past a branch: its patterns, and the nodes of its condition.

@@ -9,16 +9,16 @@ use crate::terms::{Term, TooLarge};
 use crate::uploads::{read_report, Dropped, Reason};
 
 /// The words of a row.
-const ROW_WORDS: usize = 3;
+const ROW_WORDS: usize = 4;
 
-/// The tables of a call, lent: rows of three terms, and the two further orders as lists of row numbers.
+/// The tables of a call, lent: rows of a year and three terms, and the two further orders as lists of row numbers.
 #[derive(Clone, Copy, Debug, PartialEq, Eq)]
 pub struct Tables<'a> {
-    /// Three words a row (subject, predicate, object), in ascending order.
+    /// Four words a row (year, subject, predicate, object), in ascending order.
     pub rows: &'a [u32],
-    /// Row numbers by predicate, object, subject.
+    /// Row numbers by year, predicate, object, subject.
     pub pos: &'a [u32],
-    /// Row numbers by object, subject, predicate.
+    /// Row numbers by year, object, subject, predicate.
     pub osp: &'a [u32],
 }
 
@@ -37,7 +37,7 @@ impl<'a> Tables<'a> {
 /// use sotjarn::{Plan, Query, Refusal, TableWords, Term::Name, Variable};
 ///
 /// let stems = |count| (1..=count).map(|stem| [Name(stem), Name(10), Name(100)]);
-/// let (yesterday, today) = (TableWords::from_rows(stems(3))?, TableWords::from_rows(stems(4))?);
+/// let (yesterday, today) = (TableWords::of_year(2026, stems(3))?, TableWords::of_year(2026, stems(4))?);
 /// let plan = Plan::builder().branch(sotjarn::Branch::new().pattern(Variable(0), Name(10), Name(100))).rows([Variable(0)])?;
 /// let mut query = Query::open(yesterday.survey(20), plan.words())?;
 /// query.turn(2, &[], &mut [0; 2])?;
@@ -60,21 +60,21 @@ pub struct Survey<'a> {
 /// use sotjarn::{Term::Name, Term::Number, TableWords};
 ///
 /// let made = TableWords::from_rows([
-///     [Name(2), Name(12), Number(310)],
-///     [Name(1), Name(12), Number(45)],
-///     [Name(1), Name(10), Name(100)],
+///     [Number(2026), Name(2), Name(12), Number(310)],
+///     [Number(2026), Name(1), Name(12), Number(45)],
+///     [Number(2025), Name(1), Name(10), Name(100)],
 /// ])?;
-/// assert_eq!(made.rows[..6], [1, 10, 100, 1, 12, 0x4000_002D]);
+/// assert_eq!(made.rows[..8], [0x4000_07E9, 1, 10, 100, 0x4000_07EA, 1, 12, 0x4000_002D]);
 /// assert_eq!(made.tables().pos, [0, 1, 2]);
 /// # Ok::<(), sotjarn::RowFault>(())
 /// ```
 #[derive(Clone, Debug, Default, PartialEq, Eq)]
 pub struct TableWords {
-    /// Three words a row, in ascending order.
+    /// Four words a row, the year first, in ascending order.
     pub rows: Vec<u32>,
-    /// Row numbers by predicate, object, subject.
+    /// Row numbers by year, predicate, object, subject.
     pub pos: Vec<u32>,
-    /// Row numbers by object, subject, predicate.
+    /// Row numbers by year, object, subject, predicate.
     pub osp: Vec<u32>,
 }
 
@@ -83,7 +83,8 @@ pub struct TableWords {
 pub enum RowFault {
     /// A term's value is above 30 bits.
     TooLarge(TooLarge),
-    /// The row at this place, from 0, has a subject or predicate that is no name, or a variable as object.
+    /// The row at this place, from 0, has a year that is no number from 1 to 9,999, a subject or predicate that is no name, or a variable
+    /// as object.
     WrongKind(usize),
     /// The engine refuses them all: there are more than 65,536.
     Refused(Refusal),
@@ -95,7 +96,8 @@ impl fmt::Display for RowFault {
             RowFault::TooLarge(fault) => fault.fmt(f),
             RowFault::WrongKind(place) => write!(
                 f,
-                "the row at {place} has a field of a wrong kind: subject and predicate are names, an object is no variable"
+                "the row at {place} has a field of a wrong kind: a year is a number from 1 to 9,999, subject and predicate are names, an \
+                 object is no variable"
             ),
             RowFault::Refused(fault) => fault.fmt(f),
         }
@@ -117,15 +119,16 @@ impl From<Refusal> for RowFault {
 }
 
 impl TableWords {
-    /// Makes tables from an upload, three words a row in any order, by the engine's call ([`make`]), and gives them with what was dropped,
+    /// Makes tables from an upload, four words a row in any order, by the engine's call ([`make`]), and gives them with what was dropped,
     /// in upload order. Refused by 15.
     ///
     /// ```
     /// use sotjarn::{Dropped, Reason, Refusal, TableWords};
     ///
-    /// let upload = [2, 10, 100, 0x8000_0001, 10, 100, 1, 10, 100, 2, 10, 100]; // n2, t1 as subject, n1, and n2 again
+    /// let upload = [[2, 10, 100], [0x8000_0001, 10, 100], [1, 10, 100], [2, 10, 100]]; // n2, t1 as subject, n1, and n2 again
+    /// let upload = upload.map(|[s, p, o]| [0x4000_07EA, s, p, o]).concat(); // in 2026
     /// let (made, dropped) = TableWords::make(&upload)?;
-    /// assert_eq!(made.rows, [1, 10, 100, 2, 10, 100]);
+    /// assert_eq!(made.rows, [0x4000_07EA, 1, 10, 100, 0x4000_07EA, 2, 10, 100]);
     /// let (wrong_kind, repeat) = (Dropped { place: 1, reason: Reason::WrongKind }, Dropped { place: 3, reason: Reason::Repeat });
     /// assert_eq!(dropped, [wrong_kind, repeat]);
     /// assert_eq!(TableWords::make(&upload[..5]), Err(Refusal::UploadLength));
@@ -163,17 +166,30 @@ impl TableWords {
         }
     }
 
+    /// Makes tables from rows of one year, in any order.
+    ///
+    /// ```
+    /// use sotjarn::{TableWords, Term::Name, Term::Number};
+    ///
+    /// let made = TableWords::of_year(2026, [[Name(1), Name(10), Name(100)]])?;
+    /// assert_eq!(made, TableWords::from_rows([[Number(2026), Name(1), Name(10), Name(100)]])?);
+    /// # Ok::<(), sotjarn::RowFault>(())
+    /// ```
+    pub fn of_year(year: i32, rows: impl IntoIterator<Item = [Term; 3]>) -> Result<TableWords, RowFault> {
+        TableWords::from_rows(rows.into_iter().map(|[s, p, o]| [Term::Number(year), s, p, o]))
+    }
+
     /// The tables of the rows that a grant makes visible, by the engine's call ([`view`]): names in strictly ascending order, and the
-    /// predicate of membership. Refused by 1 to 4 and 20.
+    /// predicate of membership, which counts within its year. Refused by 1 to 4, 23 and 20.
     ///
     /// ```
     /// use sotjarn::{Refusal, TableWords, Term::Name, Term::Number};
     ///
     /// let stems = [(1, 100), (2, 101), (3, 100)].map(|(stem, stand)| [Name(stem), Name(10), Name(stand)]);
     /// let sizes = [(1, 45), (2, 310), (3, 310)].map(|(stem, size)| [Name(stem), Name(12), Number(size)]);
-    /// let wood = TableWords::from_rows(stems.into_iter().chain(sizes))?;
+    /// let wood = TableWords::of_year(2026, stems.into_iter().chain(sizes))?;
     /// let seen = TableWords::view(wood.tables(), &[101], 10)?; // stand n101 is granted
-    /// assert_eq!(seen, TableWords::from_rows([stems[1], sizes[1]])?);
+    /// assert_eq!(seen, TableWords::of_year(2026, [stems[1], sizes[1]])?);
     /// assert_eq!(TableWords::view(wood.tables(), &[], 10)?, TableWords::default()); // nothing is granted
     /// assert_eq!(TableWords::view(wood.tables(), &[101, 101], 10), Err(Refusal::Grant));
     /// # Ok::<(), Box<dyn std::error::Error>>(())

@@ -30,7 +30,11 @@ impl TooLarge {
 
 impl fmt::Display for TooLarge {
     fn fmt(&self, f: &mut fmt::Formatter<'_>) -> fmt::Result {
-        write!(f, "{} does not fit in its word: give a value from {} to {}", self.value, self.least, self.most)
+        write!(
+            f,
+            "{} does not fit in its word: give a value from {} to {}",
+            self.value, self.least, self.most
+        )
     }
 }
 

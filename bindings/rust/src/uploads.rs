@@ -11,7 +11,7 @@ const DROPPED_WORDS: usize = 2;
 #[derive(Clone, Copy, Debug, PartialEq, Eq, PartialOrd, Ord, Hash)]
 #[repr(u32)]
 pub enum Reason {
-    /// Its subject or predicate is no name, or its object is a variable. Tested first.
+    /// Its year is no number from 1 to 9,999, its subject or predicate is no name, or its object is a variable. Tested first.
     WrongKind = 1,
     /// An earlier row is the same.
     Repeat = 2,

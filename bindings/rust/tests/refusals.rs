@@ -30,9 +30,9 @@ fn stems() -> PlanBuilder {
 
 fn lent() -> Lent {
     let stem = |(stem, size)| [[Name(stem), Name(10), Name(100)], [Name(stem), Name(12), Number(size)]];
-    let wood = TableWords::from_rows([(1, 45), (2, 310), (3, 310)].into_iter().flat_map(stem)).expect("every value fits");
+    let wood = TableWords::of_year(2026, [(1, 45), (2, 310), (3, 310)].into_iter().flat_map(stem)).expect("every value fits");
     let plan = stems().rows([STEM, SIZE]).expect("every value fits").words().to_vec();
-    let mut state = vec![0; 10];
+    let mut state = vec![0; 11];
     let state_words = open(wood.survey(SURVEY), &plan, &mut state).expect("the opening is accepted");
     Lent {
         wood,
@@ -81,8 +81,8 @@ fn merge_refused(kept_rows: [u32; 2], list_rows: [u32; 2], kept_len: usize, kept
 
 /// What refuses making tables of the wood's rows, less some words, with a report of so many.
 fn make_refused(fewer: usize, report_words: usize) -> Option<u32> {
-    let rows = [lent().wood.rows, vec![1, 10, 100]].concat(); // the last is a repeat
-    let (mut made, mut pos, mut osp) = ([0; 18], [0; 6], [0; 6]);
+    let rows = [lent().wood.rows, vec![0x4000_07EA, 1, 10, 100]].concat(); // the last is a repeat
+    let (mut made, mut pos, mut osp) = ([0; 24], [0; 6], [0; 6]);
     let mut report = vec![0; report_words];
     make(&rows[fewer..], &mut made, &mut pos, &mut osp, &mut report)
         .err()
@@ -197,7 +197,8 @@ fn each_refusal_of_a_queue_has_its_call() {
     assert_eq!(served(|queue| queue.line[0].saved = 12), Some(9));
     assert_eq!(served(|queue| queue.line[0].state[0] += 1), Some(22));
     assert_eq!(served(|queue| queue.lent.survey += 1), Some(22));
-    assert_eq!(served(|queue| queue.line[0].state[2] += 4), Some(10));
+    assert_eq!(served(|queue| queue.line[0].state[1] += 1), Some(9)); // a year that is not being read
+    assert_eq!(served(|queue| queue.line[0].state[3] += 4), Some(10));
     assert_eq!(served(|queue| queue.line[0].allowance = 0), Some(17));
     assert_eq!(served(|queue| queue.aside[0].allowance = 1), Some(17));
     assert_eq!(served(|queue| queue.aside[0].owner = 7), Some(17));
@@ -227,7 +228,7 @@ fn each_refusal_of_a_queue_has_its_call() {
 fn view_refused(change: impl Fn(&mut Lent), grant: &[u32], rows: usize) -> Option<u32> {
     let mut lent = lent();
     change(&mut lent);
-    let (mut seen, mut pos, mut osp) = (vec![0; 3 * rows], vec![0; rows], vec![0; rows]);
+    let (mut seen, mut pos, mut osp) = (vec![0; 4 * rows], vec![0; rows], vec![0; rows]);
     view(lent.wood.tables(), grant, 10, &mut seen, &mut pos, &mut osp)
         .err()
         .map(Refusal::code)
@@ -236,9 +237,10 @@ fn view_refused(change: impl Fn(&mut Lent), grant: &[u32], rows: usize) -> Optio
 #[test]
 fn each_refusal_of_a_view_has_its_call() {
     assert_eq!(view_refused(|_| (), &[2], 2), None);
-    assert_eq!(view_refused(|lent| lent.wood.rows.truncate(17), &[2, 2], 0), Some(1));
-    assert_eq!(view_refused(|lent| lent.wood.rows[0] |= 1 << 30, &[2, 2], 0), Some(2));
-    assert_eq!(view_refused(|lent| lent.wood.rows[..6].rotate_left(3), &[2, 2], 0), Some(3));
+    assert_eq!(view_refused(|lent| lent.wood.rows.truncate(23), &[2, 2], 0), Some(1));
+    assert_eq!(view_refused(|lent| lent.wood.rows[1] |= 1 << 30, &[2, 2], 0), Some(2));
+    assert_eq!(view_refused(|lent| lent.wood.rows[0] = 1 << 30, &[2, 2], 0), Some(23));
+    assert_eq!(view_refused(|lent| lent.wood.rows[..8].rotate_left(4), &[2, 2], 0), Some(3));
     assert_eq!(view_refused(|lent| lent.wood.osp[5] = 3, &[2, 2], 0), Some(4));
     assert_eq!(view_refused(|_| (), &[2, 2], 0), Some(20));
     assert_eq!(view_refused(|_| (), &[1 << 30], 6), Some(20));
@@ -249,25 +251,28 @@ fn each_refusal_of_a_view_has_its_call() {
 #[test]
 fn each_refusal_has_its_call() {
     assert_eq!(refused(|_| ()), None);
-    assert_eq!(refused(|lent| lent.wood.rows.truncate(17)), Some(1));
-    assert_eq!(refused(|lent| lent.wood.rows[0] |= 1 << 30), Some(2));
-    assert_eq!(refused(|lent| lent.wood.rows[..6].rotate_left(3)), Some(3));
+    assert_eq!(refused(|lent| lent.wood.rows.truncate(23)), Some(1));
+    assert_eq!(refused(|lent| lent.wood.rows[1] |= 1 << 30), Some(2));
+    assert_eq!(refused(|lent| lent.wood.rows[0] = 1 << 30 | 10_000), Some(23));
+    assert_eq!(refused(|lent| lent.wood.rows[..8].rotate_left(4)), Some(3));
     assert_eq!(refused(|lent| lent.wood.pos[5] = 3), Some(4));
     assert_eq!(refused(|lent| lent.plan.push(0)), Some(5));
     assert_eq!(refused(|lent| *lent.plan.last_mut().expect("a plan has words") += 1), Some(6));
+    assert_eq!(refused(|lent| lent.plan.insert(0, 10_000)), Some(23));
+    assert_eq!(refused(|lent| lent.plan.insert(0, 2025)), Some(9)); // the state is of 2026
     assert_eq!(refused(|lent| lent.output.truncate(1)), Some(7));
     assert_eq!(refused(|lent| lent.quantum = 0), Some(8));
     assert_eq!(refused(|lent| lent.state_words = 0), Some(9));
     assert_eq!(refused(|lent| lent.state[0] += 1), Some(22));
     assert_eq!(refused(|lent| lent.survey = 1 << 28 | SURVEY), Some(22));
-    assert_eq!(refused(|lent| lent.state[2] += 4), Some(10));
+    assert_eq!(refused(|lent| lent.state[3] += 4), Some(10));
     assert_eq!(refused(|lent| lent.threshold = vec![1, 2]), Some(11));
     assert_eq!(merge_refused([1, 0], [1, 0], 8, 8), None);
     assert_eq!(merge_refused([1, 0], [1, 0], 8, 7), Some(12));
     assert_eq!(merge_refused([u32::MAX; 2], [1, 0], 8, 8), Some(13));
     assert_eq!(merge_refused([1, 0], [1, 0], 7, 0), Some(14));
     assert_eq!(make_refused(0, 2), None);
-    assert_eq!(make_refused(16, 2), Some(15));
+    assert_eq!(make_refused(15, 2), Some(15));
     assert_eq!(make_refused(0, 1), Some(16));
 }
 
@@ -308,15 +313,15 @@ fn a_record_of_no_rows_passes_only_without_keys() {
 
 #[test]
 fn each_refusal_says_its_number_and_something_of_its_own() {
-    let said: BTreeSet<String> = (1..=22)
+    let said: BTreeSet<String> = (1..=23)
         .filter_map(Refusal::from_code)
         .map(|refusal| refusal.to_string())
         .collect();
-    assert_eq!(said.len(), 22);
-    for code in 1..=22 {
+    assert_eq!(said.len(), 23);
+    for code in 1..=23 {
         let refusal = Refusal::from_code(code).expect("the rules have it");
         assert_eq!(refusal.code(), code);
         assert!(refusal.to_string().starts_with(&format!("refused by {code}: ")));
     }
-    assert_eq!((Refusal::from_code(0), Refusal::from_code(23)), (None, None));
+    assert_eq!((Refusal::from_code(0), Refusal::from_code(24)), (None, None));
 }

@@ -13,9 +13,12 @@ const SIZE: Variable = Variable(1);
 /// The number that the wood stands under, unless a case says another.
 const SEVEN: u32 = 7;
 
+/// The year of the wood, as a row has it.
+const I2026: u32 = 0x4000_07EA;
+
 fn wood() -> TableWords {
     let stem = |(stem, size)| [[Name(stem), Name(10), Name(100)], [Name(stem), Name(12), Number(size)]];
-    TableWords::from_rows([(1, 45), (2, 310), (3, 310)].into_iter().flat_map(stem)).expect("every value fits")
+    TableWords::of_year(2026, [(1, 45), (2, 310), (3, 310)].into_iter().flat_map(stem)).expect("every value fits")
 }
 
 fn branch(condition: Condition) -> Branch {
@@ -64,13 +67,13 @@ fn the_tables_are_those_of_the_rules() {
 
 /// The wood backwards, its fourth row twice, and a row with a text as subject between.
 fn measured() -> Vec<u32> {
-    let mut rows: Vec<[u32; 3]> = wood()
+    let mut rows: Vec<[u32; 4]> = wood()
         .rows
-        .chunks_exact(3)
+        .chunks_exact(4)
         .rev()
-        .map(|row| [row[0], row[1], row[2]])
+        .map(|row| [row[0], row[1], row[2], row[3]])
         .collect();
-    rows.splice(3..3, [[0x8000_0007, 12, 0x4000_0058], [2, 12, 0x4000_0136]]);
+    rows.splice(3..3, [[I2026, 0x8000_0007, 12, 0x4000_0058], [I2026, 2, 12, 0x4000_0136]]);
     rows.concat()
 }
 
@@ -85,7 +88,7 @@ fn an_upload_in_the_order_it_was_measured_makes_the_wood() {
 #[test]
 fn five_words_are_refused_by_15_and_a_short_report_by_16() {
     let upload = measured();
-    let (mut rows, mut pos, mut osp, mut report) = ([9; 18], [9; 6], [9; 6], [9; 4]);
+    let (mut rows, mut pos, mut osp, mut report) = ([9; 24], [9; 6], [9; 6], [9; 4]);
     assert_eq!(
         make(&upload[..5], &mut rows, &mut pos, &mut osp, &mut report),
         Err(Refusal::UploadLength)
@@ -94,9 +97,9 @@ fn five_words_are_refused_by_15_and_a_short_report_by_16() {
         make(&upload, &mut rows, &mut pos, &mut osp, &mut report[..3]),
         Err(Refusal::MadeLengths)
     );
-    assert_eq!((rows, pos, osp, report), ([9; 18], [9; 6], [9; 6], [9; 4]));
+    assert_eq!((rows, pos, osp, report), ([9; 24], [9; 6], [9; 6], [9; 4]));
     let words = Made {
-        rows_words: 18,
+        rows_words: 24,
         pos_words: 6,
         osp_words: 6,
         report_words: 4,
@@ -112,7 +115,7 @@ fn nothing_uploaded_makes_no_rows() {
 
 /// The tables of some of the wood's rows.
 fn part(rows: std::ops::Range<usize>) -> TableWords {
-    let words = &wood().rows[3 * rows.start..3 * rows.end];
+    let words = &wood().rows[4 * rows.start..4 * rows.end];
     TableWords::make(words).expect("the upload is taken").0
 }
 
@@ -149,7 +152,7 @@ fn nothing_granted_shows_nothing() {
 #[test]
 fn grants_out_of_order_are_refused_by_20_and_then_short_buffers_by_21() {
     let wood = wood();
-    let (mut rows, mut pos, mut osp) = ([9; 6], [9; 2], [9; 2]);
+    let (mut rows, mut pos, mut osp) = ([9; 8], [9; 2], [9; 2]);
     for grant in [&[3, 2][..], &[2, 2], &[2, 0x4000_0003], &[0x8000_0002], &[0xC000_0000]] {
         assert_eq!(
             view(wood.tables(), grant, 10, &mut rows, &mut pos, &mut osp),
@@ -173,19 +176,19 @@ fn grants_out_of_order_are_refused_by_20_and_then_short_buffers_by_21() {
         view(wood.tables(), &[2], 10, &mut rows, &mut pos, &mut osp[1..]),
         Err(Refusal::ViewLengths)
     );
-    assert_eq!((rows, pos, osp), ([9; 6], [9; 2], [9; 2]), "a refused view writes nothing");
+    assert_eq!((rows, pos, osp), ([9; 8], [9; 2], [9; 2]), "a refused view writes nothing");
     assert!(
         view(wood.tables(), &[2], 10, &mut rows, &mut pos, &mut osp).is_ok(),
         "exact lengths suffice"
     );
-    assert_eq!((&rows[..], pos, osp), (&wood.rows[6..12], [0, 1], [0, 1]));
+    assert_eq!((&rows[..], pos, osp), (&wood.rows[8..16], [0, 1], [0, 1]));
 }
 
 #[test]
 fn what_is_hidden_may_change_unseen_and_what_is_visible_may_not() {
     let seen = |stem: u32, size: u32| {
         let mut rows = wood().rows;
-        rows[6 * (stem as usize - 1) + 5] = 0x4000_0000 | size;
+        rows[8 * (stem as usize - 1) + 7] = 0x4000_0000 | size;
         let (other, _) = TableWords::make(&rows).expect("the upload is taken");
         TableWords::view(other.tables(), &[2], 10).expect("the view is written")
     };
@@ -224,6 +227,7 @@ fn nine_steps_are_spent_at_place_3() {
         State::read(query.state()),
         Ok(State {
             survey: SEVEN,
+            year: 2026,
             branch: 0,
             places: vec![Place(3)]
         })
@@ -241,7 +245,7 @@ fn an_output_of_one_row_is_full_after_seven_steps() {
 fn states_of_the_run_are_accepted_and_others_refused() {
     let (wood, plan) = (wood(), plan_a());
     let accepted = |places: &[u32]| {
-        let words = [0xD000_0000 + SEVEN, 0xE000_0000 + places.len() as u32]
+        let words = [0xD000_0000 + SEVEN, 2026, 0xE000_0000 + places.len() as u32]
             .into_iter()
             .chain(places.iter().map(|place| 0xF000_0000 + place));
         Query::load(wood.survey(SEVEN), plan.words(), &words.collect::<Vec<_>>())
@@ -394,9 +398,9 @@ fn errors_are_neither_true_nor_false() {
 fn a_list_ending_3_3_is_refused_by_4() {
     let (mut wood, plan) = (wood(), plan_a());
     wood.pos = vec![0, 2, 4, 1, 3, 3];
-    assert_eq!(open(wood.survey(SEVEN), plan.words(), &mut [0; 10]), Err(Refusal::RowNumbers));
+    assert_eq!(open(wood.survey(SEVEN), plan.words(), &mut [0; 11]), Err(Refusal::RowNumbers));
     assert_eq!(
-        turn(wood.survey(SEVEN), plan.words(), &mut [0; 10], 3, 1, &[], &mut [0; 2]),
+        turn(wood.survey(SEVEN), plan.words(), &mut [0; 11], 4, 1, &[], &mut [0; 2]),
         Err(Refusal::RowNumbers)
     );
     assert_eq!(Refusal::RowNumbers.code(), 4);
@@ -443,26 +447,29 @@ fn from(number: u32, saved: &[u32]) -> Result<u32, Refusal> {
 
 #[test]
 fn the_start_of_plan_a_is_of_its_survey() {
-    let (wood, plan, mut state) = (wood(), plan_a(), [9; 10]);
-    assert_eq!(open(wood.survey(SEVEN), plan.words(), &mut state), Ok(3));
-    assert_eq!(state[..4], [0xD000_0007, 0xE000_0001, 0xF000_0000, 9]);
-    assert_eq!(open(wood.survey((1 << 28) - 1), plan.words(), &mut state), Ok(3));
-    assert_eq!(state[..4], [0xDFFF_FFFF, 0xE000_0001, 0xF000_0000, 9]);
+    let (wood, plan, mut state) = (wood(), plan_a(), [9; 11]);
+    assert_eq!(open(wood.survey(SEVEN), plan.words(), &mut state), Ok(4));
+    assert_eq!(state[..5], [0xD000_0007, 2026, 0xE000_0001, 0xF000_0000, 9]);
+    assert_eq!(open(wood.survey((1 << 28) - 1), plan.words(), &mut state), Ok(4));
+    assert_eq!(state[..5], [0xDFFF_FFFF, 2026, 0xE000_0001, 0xF000_0000, 9]);
 }
 
 #[test]
 fn a_state_of_another_survey_is_refused_by_22_and_not_by_10() {
     let (seven, six) = (0xD000_0007, 0xD000_0006);
-    assert_eq!(from(7, &[seven, 0xE000_0001, 0xF000_0003]), Ok(1));
-    assert_eq!(from(7, &[seven, 0xE000_0001, 0xF000_0004]), Err(Refusal::StateNotPassed));
-    assert_eq!(from(7, &[six, 0xE000_0001, 0xF000_0003]), Err(Refusal::Survey));
+    assert_eq!(from(7, &[seven, 2026, 0xE000_0001, 0xF000_0003]), Ok(1));
     assert_eq!(
-        from(7, &[six, 0xE000_0001, 0xF000_0004]),
+        from(7, &[seven, 2026, 0xE000_0001, 0xF000_0004]),
+        Err(Refusal::StateNotPassed)
+    );
+    assert_eq!(from(7, &[six, 2026, 0xE000_0001, 0xF000_0003]), Err(Refusal::Survey));
+    assert_eq!(
+        from(7, &[six, 2026, 0xE000_0001, 0xF000_0004]),
         Err(Refusal::Survey),
         "its places are wrong too"
     );
     assert_eq!(
-        from(7, &[six, 0xE000_0002, 0xF000_0003]),
+        from(7, &[six, 2026, 0xE000_0002, 0xF000_0003]),
         Err(Refusal::StateForm),
         "a wrong shape comes first"
     );
@@ -471,34 +478,212 @@ fn a_state_of_another_survey_is_refused_by_22_and_not_by_10() {
         Err(Refusal::StateForm),
         "words of before have no survey"
     );
-    assert_eq!(from(6, &[six, 0xE000_0001, 0xF000_0003]), Ok(1));
+    assert_eq!(from(6, &[six, 2026, 0xE000_0001, 0xF000_0003]), Ok(1));
 }
 
 #[test]
 fn a_number_of_29_bits_is_refused_by_22() {
-    let (wood, plan, mut state) = (wood(), plan_a(), [9; 10]);
+    let (wood, plan, mut state) = (wood(), plan_a(), [9; 11]);
     for number in [1 << 28, 1 << 28 | 7, u32::MAX] {
         assert_eq!(open(wood.survey(number), plan.words(), &mut state), Err(Refusal::Survey));
         assert_eq!(
-            open(wood.survey(number), plan.words(), &mut state[..9]),
+            open(wood.survey(number), plan.words(), &mut state[..10]),
             Err(Refusal::BufferLengths),
             "7 comes first"
         );
-        assert_eq!(from(number, &[0xD000_0007, 0xE000_0001, 0xF000_0000]), Err(Refusal::Survey));
-        assert_eq!(from(number, &[0xD000_0007, 0xE000_0001, 0xF000_0009]), Err(Refusal::Survey));
-        assert_eq!(from(number, &[0xD000_0007, 0xE000_0001]), Err(Refusal::StateForm));
+        assert_eq!(
+            from(number, &[0xD000_0007, 2026, 0xE000_0001, 0xF000_0000]),
+            Err(Refusal::Survey)
+        );
+        assert_eq!(
+            from(number, &[0xD000_0007, 2026, 0xE000_0001, 0xF000_0009]),
+            Err(Refusal::Survey)
+        );
+        assert_eq!(from(number, &[0xD000_0007, 2026, 0xE000_0001]), Err(Refusal::StateForm));
     }
-    assert_eq!(state, [9; 10], "a refused opening writes nothing");
+    assert_eq!(state, [9; 11], "a refused opening writes nothing");
 }
 
 #[test]
-fn a_state_buffer_of_nine_words_is_refused_by_7() {
-    let (wood, plan, mut state) = (wood(), plan_a(), [9; 10]);
+fn a_state_buffer_of_ten_words_is_refused_by_7() {
+    let (wood, plan, mut state) = (wood(), plan_a(), [9; 11]);
     assert_eq!(
-        open(wood.survey(SEVEN), plan.words(), &mut state[..9]),
+        open(wood.survey(SEVEN), plan.words(), &mut state[..10]),
         Err(Refusal::BufferLengths)
     );
     let words = open(wood.survey(SEVEN), plan.words(), &mut state).expect("the opening is accepted");
-    let nine = turn(wood.survey(SEVEN), plan.words(), &mut state[..9], words, 1, &[], &mut [0; 2]);
-    assert_eq!(nine, Err(Refusal::BufferLengths));
+    let ten = turn(wood.survey(SEVEN), plan.words(), &mut state[..10], words, 1, &[], &mut [0; 2]);
+    assert_eq!(ten, Err(Refusal::BufferLengths));
+}
+
+/// Two years with one stem each: n2 in 2025, n3 in 2026.
+fn two_years() -> TableWords {
+    let stem = |(year, stem)| {
+        [
+            [Number(year), Name(stem), Name(10), Name(100)],
+            [Number(year), Name(stem), Name(12), Number(310)],
+        ]
+    };
+    TableWords::from_rows([(2025, 2), (2026, 3)].into_iter().flat_map(stem)).expect("every value fits")
+}
+
+/// Plan A of the year that is named, or with 0 of every year.
+fn of_year(year: u32) -> Plan {
+    one(at_least_70()).year(year).rows([STEM, SIZE]).expect("every value fits")
+}
+
+#[test]
+fn every_year_is_read_one_after_the_other() {
+    let rows = List::Rows(vec![row(2, 310), row(3, 310)]);
+    let (turns, list) = run(two_years().survey(SEVEN), &of_year(0), 10, 128);
+    assert_eq!((turns, &list), (vec![(8, TurnEnding::Done)], &rows));
+    for quantum in 1..8 {
+        assert_eq!(run(two_years().survey(SEVEN), &of_year(0), quantum, 2).1, rows);
+    }
+}
+
+#[test]
+fn the_latest_year_is_read_or_the_one_that_is_named() {
+    let of = |plan: &Plan| run(two_years().survey(SEVEN), plan, 10, 128);
+    assert_eq!(of(&plan_a()), (vec![(4, TurnEnding::Done)], List::Rows(vec![row(3, 310)])));
+    assert_eq!(of(&of_year(2026)), of(&plan_a()));
+    assert_eq!(
+        of(&of_year(2025)),
+        (vec![(4, TurnEnding::Done)], List::Rows(vec![row(2, 310)]))
+    );
+}
+
+#[test]
+fn a_year_without_rows_costs_a_step_a_branch() {
+    let nothing = |steps| (vec![(steps, TurnEnding::Done)], List::Rows(vec![]));
+    for year in [1, 2024, 2027, 9_999] {
+        assert_eq!(run(two_years().survey(SEVEN), &of_year(year), 10, 128), nothing(1));
+        assert_eq!(run(TableWords::default().survey(SEVEN), &of_year(year), 10, 128), nothing(1));
+        let branches = one(at_least_70()).branch(branch(at_least_70())).year(year);
+        let plan = branches.rows([STEM, SIZE]).expect("every value fits");
+        assert_eq!(run(two_years().survey(SEVEN), &plan, 10, 128), nothing(2));
+    }
+}
+
+#[test]
+fn without_rows_year_0_is_read_once() {
+    let (none, mut state) = (TableWords::default(), [9; 11]);
+    for plan in [plan_a(), of_year(0)] {
+        assert_eq!(open(none.survey(SEVEN), plan.words(), &mut state), Ok(4));
+        assert_eq!(state[..4], [0xD000_0007, 0, 0xE000_0001, 0xF000_0000]);
+        assert_eq!(
+            run(none.survey(SEVEN), &plan, 10, 2),
+            (vec![(1, TurnEnding::Done)], List::Rows(vec![]))
+        );
+    }
+}
+
+#[test]
+fn a_state_of_a_year_that_is_not_read_is_refused_by_9() {
+    let wood = two_years();
+    let from = |plan: Plan, year: u32, place: u32| {
+        Query::load(
+            wood.survey(SEVEN),
+            plan.words(),
+            &[0xD000_0007, year, 0xE000_0001, 0xF000_0000 + place],
+        )
+        .turn(1, &[], &mut [0; 4])
+        .map(|turned| turned.steps)
+    };
+    assert_eq!(from(plan_a(), 2026, 2), Ok(1));
+    assert_eq!(from(plan_a(), 2025, 0), Err(Refusal::StateForm));
+    assert_eq!(from(of_year(2025), 2025, 0), Ok(1));
+    assert_eq!(from(of_year(2025), 2026, 2), Err(Refusal::StateForm));
+    assert_eq!(from(of_year(0), 2025, 1), Ok(1));
+    assert_eq!(
+        from(of_year(0), 2025, 2),
+        Err(Refusal::StateNotPassed),
+        "a place of the next year"
+    );
+    assert_eq!(from(of_year(0), 2026, 2), Ok(1));
+    assert_eq!(from(of_year(0), 2024, 0), Err(Refusal::StateForm));
+    assert_eq!(from(of_year(0), 0, 0), Err(Refusal::StateForm));
+}
+
+#[test]
+fn years_are_refused_by_23_after_kinds_and_variables() {
+    let (plan, mut state) = (plan_a(), [9; 11]);
+    let opened = |rows: &[u32], plan: &Plan, state: &mut [u32]| {
+        let tables = TableWords {
+            rows: rows.to_vec(),
+            ..wood()
+        };
+        open(tables.survey(SEVEN), plan.words(), state)
+    };
+    for year in [0, 10_000, (1 << 30) - 1] {
+        let mut rows = wood().rows;
+        rows[4] = 1 << 30 | year;
+        assert_eq!(opened(&rows, &plan, &mut state), Err(Refusal::Year), "before the order");
+        rows[21] = 0x8000_0003;
+        assert_eq!(opened(&rows, &plan, &mut state), Err(Refusal::FieldKind), "kinds come first");
+    }
+    assert_eq!(opened(&wood().rows, &of_year(10_000), &mut state), Err(Refusal::Year));
+    assert_eq!(opened(&wood().rows, &of_year(9_999), &mut state), Ok(4));
+    let wrong = one(at_least_70())
+        .year(10_000)
+        .rows([Variable(16)])
+        .expect("every value fits");
+    assert_eq!(
+        opened(&wood().rows, &wrong, &mut state),
+        Err(Refusal::PlanVariables),
+        "variables come first"
+    );
+}
+
+#[test]
+fn totals_go_over_all_years_and_the_record_of_nothing_comes_once() {
+    let total = |condition| {
+        let plan = one(condition).every_year().group([], SIZE).expect("every value fits");
+        let mut lists = Vec::new();
+        let wood = two_years();
+        let mut query = Query::open(wood.survey(SEVEN), plan.words()).expect("the opening is accepted");
+        for turn in query.turns(1, 8) {
+            lists.push(turn.expect("the turn is served").list);
+        }
+        lists.retain(|list| !list.is_empty());
+        (lists.len(), run(wood.survey(SEVEN), &plan, 3, 8).1)
+    };
+    let both = Group {
+        keys: vec![],
+        rows: 2,
+        numbers: 2,
+        sum: 620,
+        least: Some(310),
+        greatest: Some(310),
+    };
+    assert_eq!(
+        total(Condition::always()),
+        (3, List::Groups(vec![both])),
+        "a row of each year, and that of nothing"
+    );
+    assert_eq!(total(Condition::not(Condition::always())), (1, nothing()));
+}
+
+#[test]
+fn membership_counts_within_its_year() {
+    let moved = TableWords::from_rows([
+        [Number(2025), Name(1), Name(10), Name(100)],
+        [Number(2025), Name(1), Name(12), Number(45)],
+        [Number(2026), Name(1), Name(10), Name(101)],
+        [Number(2026), Name(1), Name(12), Number(47)],
+    ])
+    .expect("every value fits");
+    let seen = |grant: &[u32]| TableWords::view(moved.tables(), grant, 10).expect("the view is written").rows;
+    assert_eq!(seen(&[100]), moved.rows[..8]);
+    assert_eq!(seen(&[101]), moved.rows[8..]);
+    assert_eq!(seen(&[1]), moved.rows, "a granted stem is visible in every year");
+}
+
+#[test]
+fn a_row_of_another_year_is_no_repeat_and_a_wrong_year_is_dropped() {
+    let row = |year: u32| [1 << 30 | year, 1, 10, 100];
+    let (made, dropped) = TableWords::make(&[2026, 0, 2025, 10_000, 2026].map(row).concat()).expect("the upload is taken");
+    assert_eq!(made.rows, [row(2025), row(2026)].concat());
+    let told = [(1, Reason::WrongKind), (3, Reason::WrongKind), (4, Reason::Repeat)];
+    assert_eq!(dropped, told.map(|(place, reason)| Dropped { place, reason }));
 }

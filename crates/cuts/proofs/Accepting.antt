@@ -9,7 +9,7 @@ use Rattle.words.specs.Words.{isValue}
 use Rattle.words.specs.Bindings.{Bindings, variableCount}
 use Rattle.words.specs.Sequences.{all}
 use Rattle.words.proofs.Booleans.{and-right}
-use Rattle.words.proofs.Testing.{all-passes, front-passes}
+use Rattle.words.proofs.Testing.{all-passes, front-passes, rest-passes}
 use Rattle.tables.specs.Tables.{Tables, tableTests}
 use Rattle.plans.specs.Plans.{readPlan, planOf, planTests}
 use Rattle.plans.proofs.Bounds.{PlanForm, plan-form, was-read}
@@ -32,6 +32,8 @@ opening-accepts v plan state o =
           (open-refusals v plan state .serves .0 o));
       read = was-read (readPlan plan) (open-passed v plan state 5 o);
       variables = open-passed v plan state 6 o;
+      years = front-passes (planTests plan) (ownOpenTests v state)
+          (rest-passes (tableTests (v .tables)) (planTests plan ++ ownOpenTests v state) (open-refusals v plan state .serves .0 o)) .1 .1 .0;
     }
 
 module _ (t : Tables) (plan : List ℕ) (a : Accepted t plan) where

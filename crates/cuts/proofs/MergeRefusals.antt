@@ -20,6 +20,7 @@ use Rattle.words.proofs.Booleans.{absurd-true, and-both}
 use Rattle.words.proofs.Testing.{none-some, some-injective, fails-first}
 use Rattle.tables.specs.Tables.{Tables}
 use Rattle.plans.specs.Endings.{Ending, rows, top, group}
+use Rattle.plans.specs.Years.{yearAllowed}
 use Rattle.plans.specs.Plans.{Plan, planOf, hasForm, readPlan, variablesRight}
 use Rattle.steps.specs.Steps.{after}
 use Rattle.lists.specs.Gathering.{gathered, merged, takenInto, listRight, totalsFit, rowsFit}
@@ -51,15 +52,16 @@ valid-right (top k vs keys) m list v = v
 valid-right (group vs g) m list v = v
 
 -- where the other tests pass, 13 fails, or 14 and not 13
-last-two : (a b c d e : Bool) (y : ℕ) → a ≡ true → b ≡ true → c ≡ true
-    → cond a (cond b (cond c (cond d (cond e none (some 14)) (some 13)) (some 12)) (some 6)) (some 5) ≡ some y
+last-two : (a b z c d e : Bool) (y : ℕ) → a ≡ true → b ≡ true → z ≡ true → c ≡ true
+    → cond a (cond b (cond z (cond c (cond d (cond e none (some 14)) (some 13)) (some 12)) (some 23)) (some 6)) (some 5) ≡ some y
     → ((y ≡ 13) × (d ≡ false)) ⊎ ((y ≡ 14) × (d ≡ true) × (e ≡ false))
-last-two true true true true true y p q r h = absurd (none-some h)
-last-two true true true true false y p q r h = inr (sym (some-injective h), refl, refl)
-last-two true true true false e y p q r h = inl (sym (some-injective h), refl)
-last-two true true false d e y p q r h = absurd-true r refl
-last-two true false c d e y p q r h = absurd-true q refl
-last-two false b c d e y p q r h = absurd-true p refl
+last-two true true true true true true y p q o r h = absurd (none-some h)
+last-two true true true true true false y p q o r h = inr (sym (some-injective h), refl, refl)
+last-two true true true true false e y p q o r h = inl (sym (some-injective h), refl)
+last-two true true true false d e y p q o r h = absurd-true r refl
+last-two true true false c d e y p q o r h = absurd-true o refl
+last-two true false z c d e y p q o r h = absurd-true q refl
+last-two false b z c d e y p q o r h = absurd-true p refl
 
 -- the totals of the lists taken so far fit
 abbrev pub TakenFits : Survey → List ℕ → Phone → Type 0
@@ -132,10 +134,10 @@ module _ (v : Survey) (plan : List ℕ) (a : Accepted (v .tables) plan) (h : Pho
         let fits : totalsFit (q .ending) (take (i .given) (i .kept)) (x .list) ≡ runFits (q .ending) (after t q (n + x .steps)) =
         ap (λ l. totalsFit (q .ending) l (x .list)) given-kept ∙ totals-are in
         let long = ap length (ap (λ l. merged (q .ending) l (x .list)) given-kept ∙ words-are) in
-        elim (last-two (hasForm (readPlan plan)) (variablesRight q)
+        elim (last-two (hasForm (readPlan plan)) (variablesRight q) (yearAllowed (q .years))
         (leb (i .given) (length (i .kept)) && (listRight (q .ending) (take (i .given) (i .kept)) && listRight (q .ending) (x .list)))
         (totalsFit (q .ending) (take (i .given) (i .kept)) (x .list)) (leb (length (mergedWords i)) (length (i .kept))) y
-        (ap hasForm (a .read)) (a .variables) lists-right (fails-first y (mergeTests i) (merge-refusals i .refused y .0 e))) [
+        (ap hasForm (a .read)) (a .variables) (a .years) lists-right (fails-first y (mergeTests i) (merge-refusals i .refused y .0 e))) [
           | inl g ↦ subst (NotTaken t q (n + x .steps) (length (h .kept ++ behind))) (sym (g .0)) (totals-pass (sym fits ∙ g .1))
           | inr g ↦ subst (NotTaken t q (n + x .steps) (length (h .kept ++ behind))) (sym (g .0))
               (no-room (sym fits ∙ g .1) (omega (arith, long, leb-false (length (mergedWords i)) (length (i .kept)) (g .2))))

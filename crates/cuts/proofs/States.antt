@@ -26,7 +26,7 @@ accepted-when-passed i a = (
       (and-both (leb (i .given) (length (i .state))) _ (le-leb (i .given) (length (i .state)) (p .there)) (x .0), x .1, x .2),
 )
   where
-    both : ((shapeRight (givenPlan i) (givenState i) ≡ true) × (surveyRight (i .survey .number) (givenState i) ≡ true)
+    both : ((shapeRight (i .survey .tables) (givenPlan i) (givenState i) ≡ true) × (surveyRight (i .survey .number) (givenState i) ≡ true)
         × (placesRight (i .survey .tables) (givenPlan i) (givenState i) ≡ true))
         ↔ RunPasses (i .survey .tables) (i .plan) (givenPlan i) (a .tables) (a .read) (i .survey .number) (givenState i)
     both = accepted-iff (i .survey .tables) (i .plan) (givenPlan i) (a .tables) (a .read) (i .survey .number) (givenState i)

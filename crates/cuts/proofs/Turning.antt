@@ -105,11 +105,11 @@ module _ (v : Survey) (plan : List ℕ) (a : Accepted (v .tables) plan) (h : Pho
       running : (s : State) × (after t q n .state ≡ some s)
       running = go (after t q n .state) refl
         where
-          shape : shapeRight q (givenState i) ≡ true
-          shape = and-right (leb (i .given) (length (i .state))) (shapeRight q (givenState i)) (turn-passed i 9 serve)
+          shape : shapeRight t q (givenState i) ≡ true
+          shape = and-right (leb (i .given) (length (i .state))) (shapeRight t q (givenState i)) (turn-passed i 9 serve)
 
           go : (o : Option State) → after t q n .state ≡ o → (s : State) × (after t q n .state ≡ some s)
-          go none e = absurd-true shape (ap (shapeRight q) (given ∙ k .saved ∙ ap (savedWords (v .number)) e) ∙ no-shape q)
+          go none e = absurd-true shape (ap (shapeRight t q) (given ∙ k .saved ∙ ap (savedWords (v .number)) e) ∙ no-shape t q)
           go (some s) e = (s, e)
 
       abbrev s : State

@@ -10,16 +10,18 @@ use lib.ListN.{length}
 use Rattle.words.specs.Words.{lowNumbers}
 use Rattle.words.specs.Tests.{firstFailing}
 use Rattle.tables.specs.Tables.{Tables, tableTests}
+use Rattle.plans.specs.Years.{yearAllowed}
 use Rattle.plans.specs.Plans.{readPlan, planOf, variablesRight}
 use Rattle.steps.specs.Steps.{State, after}
 use Rattle.steps.specs.Saved.{stateWords, shapeRight, surveyRight, placesRight}
 use Rattle.turns.specs.Turns.{TurnInput, givenState, givenPlan}
 
--- tests 1 to 6 pass: the tables' first, and the plan is read and its variables are right
+-- tests 1, 2, 23, 3, 4 and 5, 6, 23 pass: the tables' first, and the plan is read, its variables are right and its year is one that rows may have
 pub record Accepted (t : Tables) (plan : List ℕ) : Type 0 where
   pub tables : firstFailing (tableTests t) ≡ none
   pub read : readPlan plan ≡ some (planOf plan)
   pub variables : variablesRight (planOf plan) ≡ true
+  pub years : yearAllowed (planOf plan .years) ≡ true
 
 -- the given words are there, and are those, under the survey's number, of a state that the uncut run passes through
 pub record Passed (i : TurnInput) : Type 0 where
@@ -33,6 +35,6 @@ pub record Passed (i : TurnInput) : Type 0 where
 -- tests 9, 22 and 10 of a turn all pass
 abbrev pub StateAccepted : TurnInput → Type 0
 StateAccepted i =
-    ((leb (i .given) (length (i .state)) && shapeRight (givenPlan i) (givenState i)) ≡ true)
+    ((leb (i .given) (length (i .state)) && shapeRight (i .survey .tables) (givenPlan i) (givenState i)) ≡ true)
     × (surveyRight (i .survey .number) (givenState i) ≡ true)
     × (placesRight (i .survey .tables) (givenPlan i) (givenState i) ≡ true)

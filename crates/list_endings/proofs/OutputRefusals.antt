@@ -1,5 +1,5 @@
 -- What a plan asks of an output, for every list of words: refused with a number exactly where that test is the first to fail, answered
--- exactly where both pass, and then with the words that test 7 compares.
+-- exactly where all pass, and then with the words that test 7 compares.
 use Prim.Native.Nat.{ℕ}
 use native.Mathlib.Omega.{arith}
 use mathlib.Core.Path.{_≡_, refl, sym, _∙_, ap}

@@ -16,7 +16,7 @@ use Rattle.lists.specs.Gathering.{listRight}
 use Rattle.list_best.specs.BestLists.{TopParts}
 use Rattle.merges.specs.Merging.{MergeResult, mergeOf}
 
--- a plan that passes tests 5 and 6, with its ending
+-- a plan that passes tests 5, 6 and 23, with its ending
 pub record AcceptedPlan (plan : List ℕ) (e : Ending) : Type 0 where
   pub passes : firstFailing (planTests plan) ≡ none
   pub ending : planOf plan .ending ≡ e

@@ -34,7 +34,7 @@ givenEnding i = planOf (i .plan) .ending
 abbrev pub mergedWords : MergeInput → List ℕ
 mergedWords i = merged (givenEnding i) (givenKept i) (i .list)
 
--- 5, 6; 12: both lists; 13: the totals; 14: room for the result
+-- 5, 6, 23; 12: both lists; 13: the totals; 14: room for the result
 abbrev pub listTests : MergeInput → List Test
 listTests i =
     (12, leb (i .given) (length (i .kept)) && (listRight (givenEnding i) (givenKept i) && listRight (givenEnding i) (i .list)))

@@ -27,7 +27,7 @@ Merges i = (x : ℕ) → ¬ (mergeOf i .answer ≡ Refused x)
 
 pub record MergeRefusals (i : MergeInput) : Type 0 where
   -- the table's numbers, in the table's order
-  pub order : map (λ (x : Test). x .0) (mergeTests i) ≡ 5 ∷ 6 ∷ 12 ∷ 13 ∷ 14 ∷ []
+  pub order : map (λ (x : Test). x .0) (mergeTests i) ≡ 5 ∷ 6 ∷ 23 ∷ 12 ∷ 13 ∷ 14 ∷ []
   -- its answer has the number of the first test that fails, 0 where all pass, and the words of the merged list where all pass
   pub number : MergeAnswers i (mergeOf i .answer)
   -- it is refused with x exactly where x is the number of the first test that fails

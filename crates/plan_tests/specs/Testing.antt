@@ -3,6 +3,7 @@ use Prim.Native.Nat.{ℕ}
 use mathlib.Core.Bool.{Bool, cond}
 use mathlib.Core.Option.{Option, none, some}
 use Rattle.plans.specs.Conditions.{Read}
+use Rattle.plans.specs.Years.{yearAllowed}
 use Rattle.plans.specs.Plans.{Plan, variablesRight}
 use Rattle.plan_tests.specs.declared.Part.{Part}
 use Rattle.plan_tests.specs.declared.Part.the-variants.{Ends, Broken}
@@ -15,4 +16,4 @@ partOf test (some x) = Ends (x .1) (test (x .0))
 -- a plan: the number of the test that it fails, 0 where it fails none
 abbrev pub planNumber : Option Plan → ℕ
 planNumber none = 5
-planNumber (some q) = cond (variablesRight q) 0 6
+planNumber (some q) = cond (variablesRight q) (cond (yearAllowed (q .years)) 0 23) 6

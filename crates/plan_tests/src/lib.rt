@@ -1,9 +1,11 @@
-// The test of a plan's form (5) and that of its variables (6).
+// The tests of a plan's form (5), of its variables (6) and of a year that it names (23).
 mod branches;
 
 use plan_ending_forms::ending_form;
 use plan_ending_variables::ending_right;
+use plans::Years;
 use plans::both;
+use plans::year_allowed;
 ghost use mathlib.Core.Path.{_≡_};
 ghost use mathlib.Core.List.{_∷_, []};
 ghost use Rattle.words.specs.Tests.{firstFailing, numberOf};
@@ -18,39 +20,48 @@ pub const FORM: u32 = 5;
 
 pub const VARIABLES: u32 = 6;
 
+pub const YEAR: u32 = 23;
+
 // A part of a plan that was read: its words, and whether its variables are right; or no such part.
 pub enum Part {
     Ends { words: usize, right: bool },
     Broken,
 }
 
-// The number of the first of tests 5 and 6 that fails, or 0.
-fn number_of(form: bool, variables: bool) -> u32
-    ensures { λ r. ⌜ r ≡ numberOf (firstFailing ((5, form) ∷ (6, variables) ∷ [])) ⌝ }
+// The number of the first of tests 5, 6 and 23 that fails, or 0.
+fn number_of(form: bool, variables: bool, year: bool) -> u32
+    ensures { λ r. ⌜ r ≡ numberOf (firstFailing ((5, form) ∷ (6, variables) ∷ (23, year) ∷ [])) ⌝ }
 {
     if form {
         if variables {
-            return 0;
+            if year {
+                return 0;
+            }
+            return YEAR;
         }
         return VARIABLES;
     }
     FORM
 }
 
-// The check of a plan from the word after its head on, where so many branches and one ending are to stand.
-fn check_body(body: &[u32], count: u32) -> u32
-    ensures { λ r. ⌜ r ≡ planNumber (withEnding (now (body .entry)) (readBranches count (now (body .entry)))) ⌝ }
+// The check of a plan of some years from the word after its head on, where so many branches and one ending are to stand.
+fn check_body(years: Years, body: &[u32], count: u32) -> u32
+    ensures { λ r. ⌜ r ≡ planNumber (withEnding years (now (body .entry)) (readBranches count (now (body .entry)))) ⌝ }
 {
     match branches::branches(body, count) {
         Part::Broken => FORM,
         Part::Ends { words, right } => {
             let e = &body[words..];
-            number_of(ending_form(e), both(right, ending_right(body, count, e)))
+            number_of(
+                ending_form(e),
+                both(right, ending_right(body, count, e)),
+                year_allowed(years),
+            )
         }
     }
 }
 
-// 0, or the number of the first test that a plan fails: 5 over the whole plan, and then 6.
+// 0, or the number of the first test that a plan fails: 5 over the whole plan, then 6, and then 23.
 pub fn check(plan: &[u32]) -> u32
     ensures { λ r. ⌜ r ≡ numberOf (firstFailing (planTests (now (plan .entry)))) ⌝ }
 {
@@ -61,5 +72,6 @@ pub fn check(plan: &[u32]) -> u32
     if count == 0 {
         return FORM;
     }
-    check_body(&plan[1..], count)
+    let part = plans::from_head(plan);
+    check_body(plans::years_in(plan), &part[1..], count)
 }

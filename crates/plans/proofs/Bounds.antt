@@ -16,6 +16,8 @@ use Rattle.words.proofs.Testing.{none-some, some-injective}
 use Rattle.words.proofs.Elements.{all-take, all-at}
 use Rattle.plans.specs.declared.Last.{Last}
 use Rattle.plans.specs.declared.Last.the-variants.{Rows, Top, Group, Neither}
+use Rattle.plans.specs.declared.Years.{Years}
+use Rattle.plans.specs.Years.{yearsIn, headOf, bodyOf}
 use Rattle.plans.specs.Conditions.{Condition, Read, next, readCondition, nodes, mostDepth, mostNodes}
 use Rattle.plans.specs.Branches.{Branch, patternWidth, mostPatterns, patternCount, withCondition, readBranch, readBranches, nthBranch}
 use Rattle.plans.specs.Endings.{Ending, rows, top, group, mostRowVariables, mostBest, defaultBest, mostKeys, mostGroupVariables, bestCount, rowWidth}
@@ -197,10 +199,10 @@ pub record PlanForm (q : Plan) : Type 0 where
   pub branch : (i : ℕ) → i < length (q .branches) → BranchForm (branchAt q i)
   pub ending : EndingForm (q .ending)
 
-with-ending : (ws : List ℕ) (x : Read (List Branch)) (q : Plan) → withEnding ws x ≡ some q
+with-ending : (years : Years) (ws : List ℕ) (x : Read (List Branch)) (q : Plan) → withEnding years ws x ≡ some q
     → (y : List Branch × ℕ) × (x ≡ some y) × (q .branches ≡ y .0) × EndingForm (q .ending)
-with-ending ws none q e = absurd (none-some e)
-with-ending ws (some y) q e =
+with-ending years ws none q e = absurd (none-some e)
+with-ending years ws (some y) q e =
     let c = cond-some (endingForm (drop (y .1) ws)) _ q e in
     let p = some-injective (c .1) in (
       y,
@@ -212,12 +214,12 @@ with-ending ws (some y) q e =
 pub plan-form : (ws : List ℕ) (q : Plan) → readPlan ws ≡ some q → PlanForm q
 unfolding readPlan
 plan-form ws q e =
-    let n = branchCount (getD ws 0 0) in
+    let n = branchCount (headOf ws) in
     let c = cond-some (leb (length ws) mostPlanWords && not (eqb n 0)) _ q e in
-    let w = with-ending (drop 1 ws) (readBranches n (drop 1 ws)) q (c .1) in
-    let f = branches-form n (drop 1 ws) (w .0) (w .1) in
+    let w = with-ending (yearsIn ws) (bodyOf ws) (readBranches n (bodyOf ws)) q (c .1) in
+    let f = branches-form n (bodyOf ws) (w .0) (w .1) in
     let z = eqb-false n 0 (not-true (eqb n 0) (and-right (leb (length ws) mostPlanWords) _ (c .0))) in
-    let m : n ≤ mostBranches = named-at-most (eqb (kind (getD ws 0 0)) headKind) _ (low (getD ws 0 0)) mostBranches refl in
+    let m : n ≤ mostBranches = named-at-most (eqb (kind (headOf ws)) headKind) _ (low (headOf ws)) mostBranches refl in
     let l : length (q .branches) ≡ n = ap length (w .2) ∙ f .0 in
     record {
       least = omega arith;

@@ -9,4 +9,5 @@ pub mod BranchWalk
 pub mod EndingForms
 pub mod EndingRead
 pub mod Former
+pub mod YearWords
 pub mod PlanRead

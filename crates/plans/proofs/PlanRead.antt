@@ -1,5 +1,5 @@
 -- From words to the tree: what stands where in the words of a plan that was read.
-use Prim.Native.Nat.{ℕ, _-_, _≤_, _<_}
+use Prim.Native.Nat.{ℕ, _+_, _-_, _≤_, _<_}
 use native.Mathlib.Omega.{arith}
 use mathlib.Core.Path.{_≡_, refl, sym, _∙_, ap}
 use mathlib.Core.Bool.{true, _&&_, not}
@@ -12,6 +12,7 @@ use borrow.Author.Tests.{leb-true, eqb-false, not-true}
 use Rattle.words.proofs.Booleans.{and-left, and-right}
 use Rattle.words.proofs.Testing.{none-some, some-injective}
 use Rattle.words.proofs.Walking.{rest-of, first-none}
+use Rattle.plans.specs.Years.{yearsIn, yearWords, fromHead, headOf, bodyOf}
 use Rattle.plans.specs.Conditions.{Read}
 use Rattle.plans.specs.Branches.{Branch, readBranch, readBranches}
 use Rattle.plans.specs.Endings.{endingForm, endingAt}
@@ -20,15 +21,12 @@ use Rattle.plans.specs.Reading.{isRead, wordsRead, Gives, branchesIn, br
 use Rattle.plans.proofs.Given.{cond-some}
 use Rattle.plans.proofs.BranchList.{some-read, branch-at, branches-length, branches-fit}
 
--- the words that a plan's branches are read from
-abbrev pub bodyOf : List ℕ → List ℕ
-bodyOf ws = drop 1 ws
-
--- the words of a plan: at most 256, a head, its branches one after the other, and its ending to the last word
+-- the words of a plan: at most 256, the year's where there is one, a head, its branches one after the other, and its ending to the last word
 pub record PlanRead (ws : List ℕ) (q : Plan) : Type 0 where
   pub short : length ws ≤ mostPlanWords
+  pub years : q .years ≡ yearsIn ws
   pub some-branch : length (q .branches) ≡ 0 → ⊥
-  pub head : branchCount (getD ws 0 0) ≡ length (q .branches)
+  pub head : branchCount (headOf ws) ≡ length (q .branches)
   pub read : isRead (readBranches (length (q .branches)) (bodyOf ws)) ≡ true
   pub branch : (i : ℕ) → i < length (q .branches) → Gives (readBranch (drop (branchStart i ws) ws)) (branchAt q i)
   pub form : endingForm (drop (branchStart (length (q .branches)) ws) ws) ≡ true
@@ -36,11 +34,12 @@ pub record PlanRead (ws : List ℕ) (q : Plan) : Type 0 where
 
 -- from the start of a branch on, in the body and in the whole
 from-start : (ws : List ℕ) (i : ℕ) → drop (wordsRead (readBranches i (bodyOf ws))) (bodyOf ws) ≡ drop (branchStart i ws) ws
-from-start ws i = drop-drop (wordsRead (readBranches i (bodyOf ws))) 1 ws
+from-start ws i =
+    let m = wordsRead (readBranches i (bodyOf ws)) in drop-drop m 1 (fromHead ws) ∙ drop-drop (1 + m) (yearWords ws) ws
 
-module _ (ws : List ℕ) (q : Plan) (short : length ws ≤ mostPlanWords) (n : ℕ) (en : n ≡ branchCount (getD ws 0 0)) (hn : n ≡ 0 → ⊥)
+module _ (ws : List ℕ) (q : Plan) (short : length ws ≤ mostPlanWords) (n : ℕ) (en : n ≡ branchCount (headOf ws)) (hn : n ≡ 0 → ⊥)
   where
-    with-branches : (r : Read (List Branch)) → readBranches n (bodyOf ws) ≡ r → withEnding (bodyOf ws) r ≡ some q → PlanRead ws q
+    with-branches : (r : Read (List Branch)) → readBranches n (bodyOf ws) ≡ r → withEnding (yearsIn ws) (bodyOf ws) r ≡ some q → PlanRead ws q
     with-branches none er e = absurd (none-some e)
     with-branches (some x) er e =
         let c = cond-some (endingForm (drop (x .1) (bodyOf ws))) _ q e in
@@ -52,6 +51,7 @@ module _ (ws : List ℕ) (q : Plan) (short : length ws ≤ mostPlanWords) (n : �
         ∙ from-start ws n in
         record {
           short = short;
+          years = sym (ap (λ (z : Plan). z .years) p);
           some-branch = λ z. hn (sym len ∙ z);
           head = sym en ∙ sym len;
           read = rw len read;
@@ -63,7 +63,7 @@ module _ (ws : List ℕ) (q : Plan) (short : length ws ≤ mostPlanWords) (n : �
 pub plan-read : (ws : List ℕ) (q : Plan) → readPlan ws ≡ some q → PlanRead ws q
 unfolding readPlan
 plan-read ws q e =
-    let n = branchCount (getD ws 0 0) in
+    let n = branchCount (headOf ws) in
     let c = cond-some (leb (length ws) mostPlanWords && not (eqb n 0)) _ q e in
     let short = leb-true (length ws) mostPlanWords (and-left (leb (length ws) mostPlanWords) (not (eqb n 0)) (c .0)) in
     let hn = eqb-false n 0 (not-true (eqb n 0) (and-right (leb (length ws) mostPlanWords) (not (eqb n 0)) (c .0))) in
@@ -82,21 +82,17 @@ module _ (ws : List ℕ) (h : hasForm (readPlan ws) ≡ true) where
   pub plan-in : PlanRead ws (planOf ws)
   plan-in = plan-read ws (planOf ws) (has-plan (readPlan ws) h)
 
-  pub plan-words : length ws ≡ 0 → ⊥
-  plan-words = some-words ws (length (planOf ws .branches)) (sym (plan-in .head)) (plan-in .some-branch)
+  pub plan-words : length (fromHead ws) ≡ 0 → ⊥
+  plan-words = some-words (fromHead ws) (length (planOf ws .branches)) (sym (plan-in .head)) (plan-in .some-branch)
 
-  -- the body, as it is lent, and the part from a branch on
-  module _ (i : ℕ) (l : i ≤ length (planOf ws .branches)) where
-    lent-body : take (length ws - 1) (drop 1 ws) ≡ bodyOf ws
-    lent-body = rest-of ws 1
+  -- the body, and the part from a branch on, as it is lent
+  module _ (i : ℕ) (l : i ≤ length (planOf ws .branches)) (body : List ℕ) (eb : body ≡ bodyOf ws) where
+    pub body-read : isRead (readBranches i body) ≡ true
+    body-read = rw eb (some-read (length (planOf ws .branches)) i (bodyOf ws) (plan-in .read) l)
 
-    pub body-read : isRead (readBranches i (take (length ws - 1) (drop 1 ws))) ≡ true
-    body-read = rw lent-body (some-read (length (planOf ws .branches)) i (bodyOf ws) (plan-in .read) l)
+    module _ (at : ℕ) (ea : at ≡ wordsRead (readBranches i body)) where
+      pub part-room : at ≤ length body
+      part-room = rw ea (branches-fit i body body-read)
 
-    module _ (at : ℕ) (ea : at ≡ wordsRead (readBranches i (take (length ws - 1) (drop 1 ws)))) where
-      pub part-room : at ≤ length (take (length ws - 1) (drop 1 ws))
-      part-room = rw ea (branches-fit i (take (length ws - 1) (drop 1 ws)) body-read)
-
-      pub part-from : take (length (take (length ws - 1) (drop 1 ws)) - at) (drop at (take (length ws - 1) (drop 1 ws)))
-          ≡ drop (branchStart i ws) ws
-      part-from = rest-of (take (length ws - 1) (drop 1 ws)) at ∙ rw (ea, lent-body) (from-start ws i)
+      pub part-from : take (length body - at) (drop at body) ≡ drop (branchStart i ws) ws
+      part-from = rest-of body at ∙ rw (ea, eb) (from-start ws i)

@@ -5,11 +5,12 @@ use mathlib.Core.Bool.{Bool, true, false, cond, _&&_}
 use mathlib.Core.Option.{none, some}
 use mathlib.Core.List.{List, []}
 use lib.Dec.{eqb, leb, ltb}
-use lib.ListN.{length, getD, drop}
+use lib.ListN.{length, getD}
 use Rattle.words.specs.Words.{kind, low}
 use Rattle.plans.specs.Conditions.{Condition, Read, comparisonWords, nodes, boundIn, allBound}
 use Rattle.plans.specs.Branches.{Branch, noBranch, readBranch, readBranches}
 use Rattle.plans.specs.Endings.{Ending, rows, top, group}
+use Rattle.plans.specs.Years.{yearWords, bodyOf}
 use Rattle.plans.specs.declared.Last.{Last}
 use Rattle.plans.specs.declared.Last.the-variants.{Rows, Top, Group}
 use Rattle.plans.specs.declared.Tree.{Tree}
@@ -75,7 +76,7 @@ branchesIn n ws = readOr [] (readBranches n ws)
 
 -- where a plan's branch with a number starts; the ending starts where the branch after the last would
 abbrev pub branchStart : ℕ → List ℕ → ℕ
-branchStart i ws = 1 + wordsRead (readBranches i (drop 1 ws))
+branchStart i ws = yearWords ws + (1 + wordsRead (readBranches i (bodyOf ws)))
 
 -- ---- the pieces of an ending
 abbrev pub lastIn : Ending → Last

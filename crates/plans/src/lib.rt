@@ -1,6 +1,7 @@
 // Plans: what stands in one that has the form.
 mod branches;
 mod endings;
+mod heads;
 mod nodes;
 mod searches;
 
@@ -20,6 +21,9 @@ pub use endings::last_of;
 pub use endings::measured;
 pub use endings::row_width;
 pub use endings::variables;
+pub use heads::from_head;
+pub use heads::year_allowed;
+pub use heads::years_in;
 pub use nodes::COMPARISON_WORDS;
 pub use nodes::both;
 pub use nodes::condition;
@@ -29,10 +33,11 @@ use words::PlanWord;
 ghost use mathlib.Core.Path.{_≡_};
 ghost use mathlib.Core.Bool.{true};
 ghost use Prim.Native.Nat.{_≤_, _<_};
-ghost use lib.ListN.{getD, length, drop};
+ghost use lib.ListN.{length, drop};
 ghost use Rattle.plans.specs.Conditions.{nodeOf, readCondition, mostDepth};
 ghost use Rattle.plans.specs.Branches.{readBranch};
 ghost use Rattle.plans.specs.Endings.{endingForm, endingAt};
+ghost use Rattle.plans.specs.Years.{headOf, bodyOf};
 ghost use Rattle.plans.specs.Plans.{branchCount, mostBranches, readPlan, hasForm, planOf, branchAt};
 ghost use Rattle.plans.specs.Reading.{Gives, branchStart};
 
@@ -58,6 +63,13 @@ pub enum Tree {
         bound: bool,
     },
     Bad,
+}
+
+// The years whose rows a plan reads: the latest that the tables have, every one, or the one with a number.
+pub enum Years {
+    Latest,
+    Every,
+    Named(u32),
 }
 
 // What the first word of an ending begins.
@@ -95,9 +107,18 @@ pub fn node_of(word: u32) -> Node
 
 // The branches that a plan's head names, or 0 where it has none.
 pub fn branch_count(plan: &[u32]) -> u32
-    ensures { λ r. ⌜ (r ≡ branchCount (getD (now (plan .entry)) 0 0)) × (r ≤ mostBranches) ⌝ }
+    ensures { λ r. ⌜ (r ≡ branchCount (headOf (now (plan .entry)))) × (r ≤ mostBranches) ⌝ }
 {
-    searches::count_in(plan, PlanWord::HEAD, MOST_BRANCHES)
+    searches::count_in(heads::from_head(plan), PlanWord::HEAD, MOST_BRANCHES)
+}
+
+// The part of a plan behind its head.
+fn body_part(plan: &[u32]) -> &[u32]
+    requires { ⌜ hasForm (readPlan (now plan)) ≡ true ⌝ }
+    ensures { λ r. ⌜ now r ≡ bodyOf (now (plan .entry)) ⌝ }
+{
+    let part = heads::from_head(plan);
+    &part[1..]
 }
 
 // The part of a plan from its branch with a number (from 0) on.
@@ -106,7 +127,7 @@ pub fn branch_part(plan: &[u32], number: u32) -> &[u32]
     ensures start { λ r. ⌜ now r ≡ drop (branchStart number (now (plan .entry))) (now (plan .entry)) ⌝ }
     ensures branch { λ r. ⌜ Gives (readBranch (now r)) (branchAt (planOf (now (plan .entry))) number) ⌝ }
 {
-    let body = &plan[1..];
+    let body = body_part(plan);
     let at = branches::branches_words(body, number);
     &body[at..]
 }
@@ -132,7 +153,7 @@ pub fn ending_part(plan: &[u32]) -> &[u32]
     requires { ⌜ hasForm (readPlan (now plan)) ≡ true ⌝ }
     ensures { λ r. ⌜ (endingForm (now r) ≡ true) × (endingAt (now r) ≡ planOf (now (plan .entry)) .ending) ⌝ }
 {
-    let body = &plan[1..];
+    let body = body_part(plan);
     let at = branches::branches_words(body, branch_count(plan));
     &body[at..]
 }

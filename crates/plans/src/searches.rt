@@ -6,7 +6,7 @@ ghost use lib.ListN.{getD};
 ghost use Rattle.words.specs.Sequences.{member};
 ghost use Rattle.plans.specs.Reading.{countIn};
 
-// The first word of p, or 0, which begins no part of a plan, where there is none.
+// The first word of p, or 0, which begins no head, branch, condition or ending, where there is none.
 pub fn first(p: &[u32]) -> u32
     ensures { λ r. ⌜ r ≡ getD (now (p .entry)) 0 0 ⌝ }
 {

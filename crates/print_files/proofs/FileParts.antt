@@ -5,7 +5,7 @@ use mathlib.Core.Path.{_≡_, refl, sym, _∙_, ap, ap₂}
 use mathlib.Core.List.{List, [], _∷_}
 use lib.ListN.{length, take, drop, getD, length-drop}
 use lib.Seq.{take-all, take-take, getD-take}
-use Rattle.tables.specs.Tables.{tablesOf}
+use Rattle.tables.specs.Tables.{tablesOf, columnCount}
 use Rattle.print_lines.specs.declared.FileParts.{FileParts}
 use Rattle.print_lines.specs.declared.Layout.the-variants.{Parts}
 use Rattle.print_lines.specs.Files.{fileWords, rowCountIn, posAt, ospAt, planAt, partsOf, layoutOf}
@@ -50,7 +50,7 @@ module _ (bytes file : List ℕ) (p : FileParts) (h : layoutOf bytes ≡ Parts p
   part-at k a j b l d f = part-is k a l ∙ ap₂ (λ i c. take i (drop c ws)) d f
 
   rows-are : take (p .pos - 2) (drop 2 file) ≡ rowsIn ws
-  rows-are = part-at (p .pos - 2) 2 (3 * n) 2 (omega (arith, pos-at, words-at, enough)) (omega (arith, pos-at)) refl
+  rows-are = part-at (p .pos - 2) 2 (columnCount * n) 2 (omega (arith, pos-at, words-at, enough)) (omega (arith, pos-at)) refl
 
   pos-are : take (p .osp - p .pos) (drop (p .pos) file) ≡ posIn ws
   pos-are =

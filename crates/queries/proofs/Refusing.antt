@@ -56,7 +56,7 @@ module _ (i : TurnInput) (a : Accepted (i .survey .tables) (i .plan)) (p : Passe
   Caused y = Cause keep (i .survey .tables) (i .plan) (i .quantum) (length (i .output)) before steps y
 
   early : firstFailing (planTests (i .plan)) ≡ none
-  early = all-passes (planTests (i .plan)) (ap hasForm (a .read), (a .variables, tt))
+  early = all-passes (planTests (i .plan)) (ap hasForm (a .read), (a .variables, (a .years, tt)))
 
   late : (y : ℕ) → turnOf i .answer .ending ≡ Refused y → firstFailing (ownTests i) ≡ some y
   late y e =
@@ -82,7 +82,7 @@ module _ (i : TurnInput) (a : Accepted (i .survey .tables) (i .plan)) (p : Passe
   turn-stopped y e =
       elim (seven-or-eight (leb leastStateWords (length (i .state)) && leb (leastOutput (givenPlan i .ending)) (length (i .output)))
       (leb 1 (i .quantum) && leb (i .quantum) mostSteps)
-      (leb (i .given) (length (i .state)) && shapeRight (givenPlan i) (givenState i))
+      (leb (i .given) (length (i .state)) && shapeRight (i .survey .tables) (givenPlan i) (givenState i))
       (surveyRight (i .survey .number) (givenState i)) (placesRight (i .survey .tables) (givenPlan i) (givenState i))
       (thresholdRight (givenPlan i .ending) (i .threshold)) y
       (accepted-when-passed i a .1 p .0) (accepted-when-passed i a .1 p .1) (accepted-when-passed i a .1 p .2)

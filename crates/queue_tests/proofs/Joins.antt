@@ -5,18 +5,19 @@ use mathlib.Core.Path.{_≡_, refl, sym, _∙_, ap, subst}
 use mathlib.Core.Bool.{Bool, true, false, cond, _&&_, _||_, not}
 use mathlib.Core.Option.{Option, none}
 use mathlib.Core.List.{List, [], _∷_, _++_}
-use lib.Dec.{leb, ltb, eqb}
-use lib.ListN.{length, take, drop, getD, replicate, length-append, take-append-drop}
+use lib.Dec.{ltb, eqb}
+use lib.ListN.{length, take, drop, getD, replicate, length-append, length-drop, take-append-drop}
 use lib.Seq.{take-length, length-take-le, paste}
-use borrow.Author.Tests.{leb-true}
 use Rattle.words.specs.Sequences.{all, member}
 use Rattle.words.specs.Tests.{firstFailing, numberOf, AllPass}
 use Rattle.words.proofs.Booleans.{absurd-true, and-right}
 use Rattle.words.proofs.Numbering.{none-fails, one-fails}
 use Rattle.words.proofs.Testing.{passes-all, test-passed}
-use Rattle.plans.specs.Branches.{readBranches}
-use Rattle.plans.specs.Plans.{Plan, mostPlanWords, branchCount, withEnding, readPlan, hasForm, planOf}
-use Rattle.steps.specs.Saved.{leastStateWords, isSurvey, shapeBehind, shapeRight}
+use Rattle.tables.specs.Tables.{Tables}
+use Rattle.plans.specs.Plans.{readPlan, hasForm, planOf}
+use Rattle.plans.proofs.PlanRead.{plan-in}
+use Rattle.steps.specs.Years.{isYearRead}
+use Rattle.steps.specs.Saved.{leastStateWords, isSurvey, isYear, yearIn, shapeBehind, shapeRight}
 use Rattle.state_saving.proofs.Loads.{whole}
 use Rattle.turns.specs.Surveys.{Survey}
 use Rattle.queues.specs.declared.Entry.{Entry}
@@ -43,22 +44,15 @@ pub pasted : (n : ℕ) (ws : List ℕ) → paste (replicate n 0) 0 ws (length ws
 pasted n ws = λ i. take-length ws i ++ (ap (λ (k : ℕ). drop {A = ℕ} k (replicate n 0)) (let z : 0 + length ws ≡ length ws = omega arith in z)
     ∙ drop-zeros (length ws) n) i
 
--- a plan that has the form is short enough
-plan-short : (ws : List ℕ) → hasForm (readPlan ws) ≡ true → length ws ≤ mostPlanWords
-unfolding readPlan
-plan-short ws h =
-    by-test (leb (length ws) mostPlanWords) (not (eqb (branchCount (getD ws 0 0)) 0))
-    (withEnding (drop 1 ws) (readBranches (branchCount (getD ws 0 0)) (drop 1 ws))) refl h
-  where
-    by-test : (a b : Bool) (x : Option Plan) → leb (length ws) mostPlanWords ≡ a → hasForm (cond (a && b) x none) ≡ true → length ws ≤ mostPlanWords
-    by-test true b x e f = leb-true (length ws) mostPlanWords e
-    by-test false b x e f = absurd-true f refl
-
--- and so is a state that has the shape
-state-short : (plan ws : List ℕ) → hasForm (readPlan plan) ≡ true → shapeRight (planOf plan) ws ≡ true → length ws ≤ leastStateWords
-state-short plan [] h e = omega arith
-state-short plan (w ∷ ws) h e =
-    let f = whole plan ws h (and-right (isSurvey w) (shapeBehind (planOf plan) ws) e) .few in
+-- a state that has the shape is short enough
+state-short : (t : Tables) (plan ws : List ℕ) → hasForm (readPlan plan) ≡ true → shapeRight t (planOf plan) ws ≡ true
+    → length ws ≤ leastStateWords
+state-short t plan ws h e =
+    let q = planOf plan in
+    let y = and-right (isSurvey (getD ws 0 0)) _ e in
+    let r = and-right (isYear (getD ws 1 0)) _ y in
+    let f = whole plan (drop 2 ws) h (and-right (isYearRead t (q .years) (yearIn ws)) (shapeBehind q (drop 2 ws)) r) .few in
+    let l = length-drop 2 ws in
     omega arith
 
 -- ---- tests
@@ -127,8 +121,9 @@ module _ (v : Survey) (plan state : List ℕ) (entries : Bool) (seen : Seen) (gi
 
   pub joined-short : (length plan ≤ entryPlanRoom) × (length state ≤ entryStateRoom)
   joined-short =
-      let f = state-short plan state form (test-passed 9 (joinTestsBy v plan state entries (roomBy (seen .room) (seen .spare) given kept 1)) all-pass) in
-      (plan-short plan form, omega arith)
+      let shape = test-passed 9 (joinTestsBy v plan state entries (roomBy (seen .room) (seen .spare) given kept 1)) all-pass in
+      let f = state-short (v .tables) plan state form shape in
+      (plan-in plan form .short, omega arith)
 
 -- ---- where the entry goes
 module _ (line : List Entry) (given : ℕ) (aside : List Entry) (kept : ℕ) (e : Entry) (line-long : given < length line)

@@ -11,7 +11,7 @@ abbrev pub queryTests : Survey → List ℕ → List ℕ → List Test
 queryTests v plan state =
     tableTests (v .tables)
     ++ (planTests plan
-    ++ ((9, shapeRight (planOf plan) state)
+    ++ ((9, shapeRight (v .tables) (planOf plan) state)
     ∷ (22, surveyRight (v .number) state)
     ∷ (10, placesRight (v .tables) (planOf plan) state)
     ∷ []))

@@ -1,4 +1,4 @@
-// Joining: tests 1 to 6, 9, 22, 10, 17 and 18, and the new entry to the end of one of the lists.
+// Joining: the tests of tables and plan, 9, 22, 10, 17 and 18, and the new entry to the end of one of the lists.
 use queue_changes::Queueing;
 use queue_changes::appended;
 use queue_changes::first_of;
@@ -24,7 +24,7 @@ ghost use Rattle.queue_entries.specs.Seeing.{SeenOf};
 ghost use Rattle.queue_changes.specs.Changes.{Decides, admittedBy};
 ghost use Rattle.queue_tests.specs.Queries.{queryTests};
 
-// The number of the first of tests 1 to 6, 9, 22 and 10 that a query fails, or 0.
+// The number of the first of the tests of tables and plan, and of 9, 22 and 10, that a query fails, or 0.
 fn query_number(
     rows: &[u32],
     pos: &[u32],

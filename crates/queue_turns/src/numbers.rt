@@ -91,7 +91,7 @@ pub fn planned(e: Entry) -> usize
     e.planned as usize
 }
 
-// The number of the first of tests 1 to 11 and 22 that a turn of an entry fails, or 0.
+// The number of the first test of a turn that an entry fails, or 0.
 pub fn front_number(
     rows: &[u32],
     pos: &[u32],

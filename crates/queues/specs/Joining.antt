@@ -23,12 +23,12 @@ pub record Joining : Type 0 where
   pub plan : List ℕ
   pub state : List ℕ
 
--- 1 to 6, 9, 22 and 10 on the plan and the state that join; then 17 and 18 of both lists with the joining entry
+-- 1, 2, 23, 3 and 4 of the tables; 5, 6, 23, 9, 22 and 10 on the plan and the state that join; then 17 and 18 of both lists with the joining entry
 abbrev pub joinTestsBy : Survey → List ℕ → List ℕ → Bool → Bool → List Test
 joinTestsBy v plan state entries room =
     tableTests (v .tables)
     ++ (planTests plan
-    ++ ((9, shapeRight (planOf plan) state)
+    ++ ((9, shapeRight (v .tables) (planOf plan) state)
     ∷ (22, surveyRight (v .number) state)
     ∷ (10, placesRight (v .tables) (planOf plan) state)
     ∷ (17, entries)

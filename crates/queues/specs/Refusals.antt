@@ -52,7 +52,8 @@ pub record QueuedRefusals (l : LentLists) (numbers : List ℕ) (tests : List Tes
   pub serves : ((x : ℕ) → ¬ (r .answer ≡ Refused x)) ↔ AllPass tests
 
 abbrev pub JoinRefusals : Survey → LentLists → Joining → Type 0
-JoinRefusals v l j = QueuedRefusals l (1 ∷ 2 ∷ 3 ∷ 4 ∷ 5 ∷ 6 ∷ 9 ∷ 22 ∷ 10 ∷ 17 ∷ 18 ∷ []) (joinTests v l j) (joinQueueOf v l j)
+JoinRefusals v l j =
+    QueuedRefusals l (1 ∷ 2 ∷ 23 ∷ 3 ∷ 4 ∷ 5 ∷ 6 ∷ 23 ∷ 9 ∷ 22 ∷ 10 ∷ 17 ∷ 18 ∷ []) (joinTests v l j) (joinQueueOf v l j)
 
 abbrev pub TopUpRefusals : LentLists → ℕ → ℕ → Type 0
 TopUpRefusals l owner amount = QueuedRefusals l (17 ∷ 18 ∷ []) (topUpTests l owner amount) (topUpOf l owner amount)
@@ -60,8 +61,8 @@ TopUpRefusals l owner amount = QueuedRefusals l (17 ∷ 18 ∷ []) (topUpTests l
 -- ---- serving
 -- the tests of a front entry, and those of an empty line
 abbrev pub serveNumbers : List Entry → List ℕ
-serveNumbers [] = 1 ∷ 2 ∷ 3 ∷ 4 ∷ 8 ∷ 22 ∷ 17 ∷ 18 ∷ 19 ∷ []
-serveNumbers (e ∷ es) = 1 ∷ 2 ∷ 3 ∷ 4 ∷ 5 ∷ 6 ∷ 7 ∷ 8 ∷ 9 ∷ 22 ∷ 10 ∷ 11 ∷ 17 ∷ 18 ∷ 19 ∷ []
+serveNumbers [] = 1 ∷ 2 ∷ 23 ∷ 3 ∷ 4 ∷ 8 ∷ 22 ∷ 17 ∷ 18 ∷ 19 ∷ []
+serveNumbers (e ∷ es) = 1 ∷ 2 ∷ 23 ∷ 3 ∷ 4 ∷ 5 ∷ 6 ∷ 23 ∷ 7 ∷ 8 ∷ 9 ∷ 22 ∷ 10 ∷ 11 ∷ 17 ∷ 18 ∷ 19 ∷ []
 
 -- both lists and the output stand as they were lent, and every other number of the answer is 0
 pub record NotServed (l : LentLists) (s : Serving) (r : ServeResult) : Type 0 where

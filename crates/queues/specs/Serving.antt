@@ -41,7 +41,7 @@ quantumTests quantum = (8, leb 1 quantum && leb quantum mostSteps) ∷ []
 abbrev pub numberTests : ℕ → List Test
 numberTests survey = (22, numberRight survey) ∷ []
 
--- 1 to 11 and 22 on the front entry alone, with the quantum of the call; with no front entry, the tables, the quantum and the survey's number
+-- the tests of a turn on the front entry alone, with the quantum of the call; with no front entry, the tables, the quantum and the survey's number
 abbrev pub frontTests : Survey → Serving → List Entry → List Test
 frontTests v s [] = tableTests (v .tables) ++ (quantumTests (s .quantum) ++ numberTests (v .number))
 frontTests v s (e ∷ es) = turnTests (entryTurn v s e (s .quantum))

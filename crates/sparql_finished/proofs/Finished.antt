@@ -24,8 +24,8 @@ use Rattle.cuts.proofs.TurnRows.{rows-are-uncut}
 use Rattle.cuts.proofs.KeptFits.{kept-fits}
 use Rattle.sparql.specs.Algebra.{ToList}
 use Rattle.sparql.specs.Reading.{mappingOf, solutionsOf, isWord}
-use Rattle.sparql.specs.Answers.{Answer}
-use Rattle.sparql.proofs.Solutions.{solutions}
+use Rattle.sparql.specs.Answers.{YearByYear, Answer}
+use Rattle.sparql.proofs.Solutions.{solutions, year-by-year}
 use Rattle.sparql.proofs.Answered.{answered, answered-words}
 use Rattle.sparql_finished.specs.Finished.{SparqlAnswer, FinishedBy}
 
@@ -40,6 +40,7 @@ run-answers t plan a steps ends fits list l =
     record {
       ends = ends;
       run = solutions t plan (planOf plan) (a .tables) (a .read) (a .variables) steps (ends .over);
+      years = year-by-year t plan (planOf plan) (a .tables) (a .read) (a .variables) steps (ends .over);
       answer =
           subst (Answer t (planOf plan) (after t (planOf plan) steps .delivered) (planOf plan .ending)) (sym e)
           (answered t plan (planOf plan) (a .tables) (a .read) (a .variables) steps (ends .over) fits);
@@ -58,4 +59,8 @@ finished v plan state o es p done taken =
     let all-taken : servedIn h ≡ h .taken = ap (λ l. h .taken ++ l) taken ∙ append-nil (h .taken) in
     let rows = rows-are-uncut v plan state o es p ∙ ap (λ l. after (v .tables) (planOf plan) (stepsIn l) .delivered) all-taken in
     let k = run-answers (v .tables) plan (opening-accepts v plan state o) (stepsIn (h .taken)) (f .0) (kept-fits v plan state o es p) (h .kept) (f .1) in
-    record { delivered = subst (λ bs. ToList (solutionsOf (v .tables) (planOf plan)) (map mappingOf bs)) (sym rows) (k .run); kept = k }
+    record {
+      delivered = subst (λ bs. ToList (solutionsOf (v .tables) (planOf plan)) (map mappingOf bs)) (sym rows) (k .run);
+      years = subst (YearByYear (v .tables) (planOf plan)) (sym rows) (k .years);
+      kept = k;
+    }

@@ -13,19 +13,22 @@ use Rattle.cuts.specs.Histories.{Phone, stepsIn}
 use Rattle.cuts.specs.Uncut.{EndsAt}
 use Rattle.sparql.specs.Algebra.{ToList}
 use Rattle.sparql.specs.Reading.{mappingOf, solutionsOf, isWord}
-use Rattle.sparql.specs.Answers.{Answer}
+use Rattle.sparql.specs.Answers.{YearByYear, Answer}
 
--- the uncut run of so many steps is whole, it has delivered SPARQL's solutions, each as often, and a list is SPARQL's answer, in words of 32 bits
+-- the uncut run of so many steps is whole, it has delivered SPARQL's solutions, each as often, year after year, and a list is SPARQL's answer, in words
+-- of 32 bits
 pub record SparqlAnswer (t : Tables) (plan : List ℕ) (steps : ℕ) (list : List ℕ) : Type 0 where
   pub ends : EndsAt t (planOf plan) steps
   pub run : ToList (solutionsOf t (planOf plan)) (map mappingOf (after t (planOf plan) steps .delivered))
+  pub years : YearByYear t (planOf plan) (after t (planOf plan) steps .delivered)
   pub answer : Answer t (planOf plan) (after t (planOf plan) steps .delivered) (planOf plan .ending) list
   pub words : all isWord list ≡ true
 
--- a query whose turns delivered some rows, joined in order: these too are SPARQL's solutions, each as often. The turns' steps are the whole run's,
--- and the kept list is the answer
+-- a query whose turns delivered some rows, joined in order: these too are SPARQL's solutions, each as often, year after year. The turns' steps are
+-- the whole run's, and the kept list is the answer
 pub record FinishedBy (t : Tables) (plan : List ℕ) (rows : List Bindings) (h : Phone) : Type 0 where
   pub delivered : ToList (solutionsOf t (planOf plan)) (map mappingOf rows)
+  pub years : YearByYear t (planOf plan) rows
   pub kept : SparqlAnswer t plan (stepsIn (h .taken)) (h .kept)
 
 -- the first words of the kept buffer, so many as answered, are the answer, and those past them are as they were

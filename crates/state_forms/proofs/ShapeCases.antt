@@ -1,17 +1,22 @@
--- Test 9 by cases: of the word behind a survey's, of all words behind it, and with it; and test 22.
+-- Test 9 by cases: of the word behind a year's, of all words behind it, and with the survey's and the year's; and test 22.
 use Prim.Native.Nat.{ℕ, _+_, _≤_, _<_}
 use native.Mathlib.Omega.{arith}
-use mathlib.Core.Path.{_≡_, ap}
-use mathlib.Core.Bool.{true, false, _&&_}
+use mathlib.Core.Path.{_≡_, refl, sym, _∙_, ap, ap₂}
+use mathlib.Core.Bool.{Bool, true, false, _&&_}
 use mathlib.Core.List.{List}
 use lib.Dec.{eqb}
-use lib.ListN.{length, getD, drop}
+use lib.ListN.{length, getD, drop, length-drop}
 use borrow.Author.Tests.{lt-ltb, le-ltb, eq-eqb, ne-eqb}
-use Rattle.words.specs.Words.{kind, low, surveyKind, positionKind, branchOf, depthOf}
+use Rattle.words.specs.Words.{kind, low, surveyKind, yearKind, positionKind, branchOf, depthOf}
 use Rattle.words.specs.Sequences.{all}
 use Rattle.words.proofs.Walking.{first-none}
-use Rattle.plans.specs.Plans.{Plan, branchAt}
-use Rattle.steps.specs.Saved.{isPlace, depthRight, positionRight, shapeBehind, shapeRight, numberRight}
+use Rattle.tables.specs.Tables.{Tables}
+use Rattle.plans.specs.declared.Years.{Years}
+use Rattle.plans.specs.Years.{yearsIn}
+use Rattle.plans.specs.Plans.{Plan, readPlan, hasForm, planOf, branchAt}
+use Rattle.plans.proofs.PlanRead.{plan-in}
+use Rattle.steps.specs.Years.{isYearRead}
+use Rattle.steps.specs.Saved.{isPlace, depthRight, positionRight, yearIn, behindYear, shapeBehind, shapeRight, numberRight}
 
 module _ (q : Plan) (w : ℕ) where
   pub position-of-no-kind : (kind w ≡ positionKind → ⊥) → positionRight q w ≡ false
@@ -43,16 +48,38 @@ module _ (q : Plan) (ws : List ℕ) where
     unfolding shapeBehind
     shape-places h = rw (p, eq-eqb (length ws) (1 + depthOf (getD ws 0 0)) h)
 
--- ---- with the survey's word
-module _ (q : Plan) (ws : List ℕ) where
-  pub form-elsewhere : (kind (getD ws 0 0) ≡ surveyKind → ⊥) → shapeRight q ws ≡ false
+-- ---- with the survey's word and the year's
+and-false : (a : Bool) → (a && false) ≡ false
+and-false true = refl
+and-false false = refl
+
+module _ (t : Tables) (q : Plan) (ws : List ℕ) where
+  -- a position's word is missing
+  pub form-short : length ws < 2 → shapeRight t q ws ≡ false
+  form-short h =
+      rw (shape-none q (behindYear ws) (omega (arith, length-drop 2 ws)), and-false, and-false, and-false)
+
+  pub form-elsewhere : (kind (getD ws 0 0) ≡ surveyKind → ⊥) → shapeRight t q ws ≡ false
   form-elsewhere h = rw (ne-eqb (kind (getD ws 0 0)) surveyKind h)
 
-  pub form-none : length ws ≡ 0 → shapeRight q ws ≡ false
-  form-none h = let e = first-none ws h in form-elsewhere (λ k. omega arith)
+  module _ (survey : kind (getD ws 0 0) ≡ surveyKind) where
+    pub form-yearless : (kind (getD ws 1 0) ≡ yearKind → ⊥) → shapeRight t q ws ≡ false
+    form-yearless h = rw (eq-eqb (kind (getD ws 0 0)) surveyKind survey, ne-eqb (kind (getD ws 1 0)) yearKind h)
 
-  pub form-behind : kind (getD ws 0 0) ≡ surveyKind → shapeRight q ws ≡ shapeBehind q (drop 1 ws)
-  form-behind h = rw (eq-eqb (kind (getD ws 0 0)) surveyKind h)
+    module _ (year : kind (getD ws 1 0) ≡ yearKind) (read : Bool) (er : read ≡ isYearRead t (q .years) (yearIn ws)) where
+      by-year : shapeRight t q ws ≡ (read && shapeBehind q (behindYear ws))
+      by-year = rw (eq-eqb (kind (getD ws 0 0)) surveyKind survey, eq-eqb (kind (getD ws 1 0)) yearKind year, er)
+
+      pub form-unread : read ≡ false → shapeRight t q ws ≡ false
+      form-unread h = by-year ∙ rw h
+
+      pub form-behind : read ≡ true → shapeRight t q ws ≡ shapeBehind q (behindYear ws)
+      form-behind h = by-year ∙ rw h
+
+-- the year that was read, with the plan's years as code finds them
+pub year-told : (t : Tables) (plan ws : List ℕ) → hasForm (readPlan plan) ≡ true → (years : Years) → years ≡ yearsIn plan
+    → (n : ℕ) → n ≡ yearIn ws → isYearRead t years n ≡ isYearRead t (planOf plan .years) (yearIn ws)
+year-told t plan ws h years ey n en = ap₂ (isYearRead t) (ey ∙ sym (plan-in plan h .years)) en
 
 -- ---- its number
 module _ (survey w : ℕ) where

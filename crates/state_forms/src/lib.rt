@@ -1,5 +1,6 @@
-// The shape of a state's words: test 9, which needs the plan alone; and the number of its survey: test 22.
+// The shape of a state's words and the year that they name: test 9; and the number of its survey: test 22.
 use plans::PATTERN_WIDTH;
+use step_years::year_read;
 use words::NUMBERS;
 use words::StateWord;
 ghost use mathlib.Core.Path.{_≡_};
@@ -7,6 +8,8 @@ ghost use mathlib.Core.Bool.{true, _&&_};
 ghost use lib.Dec.{eqb};
 ghost use Rattle.words.specs.Words.{low};
 ghost use Rattle.words.specs.Sequences.{all};
+ghost use Rattle.tables.specs.Tables.{tablesOf};
+ghost use Rattle.tables.specs.Right.{Right};
 ghost use Rattle.plans.specs.Plans.{readPlan, hasForm, planOf};
 ghost use Rattle.steps.specs.Saved.{isPlace, depthRight, positionRight, shapeBehind, shapeRight, numberRight};
 
@@ -34,7 +37,7 @@ fn depth_right(terms: &[u32], depth: u32) -> bool
     (words::wide(depth) - 1) * PATTERN_WIDTH < terms.len()
 }
 
-// Whether the word behind a survey's names a branch of the plan and a depth of that branch.
+// Whether the word behind a year's names a branch of the plan and a depth of that branch.
 fn position_right(plan: &[u32], word: u32) -> bool
     requires { ⌜ hasForm (readPlan (now plan)) ≡ true ⌝ }
     ensures { λ r. ⌜ r ≡ positionRight (planOf (now (plan .entry))) word ⌝ }
@@ -50,7 +53,7 @@ fn position_right(plan: &[u32], word: u32) -> bool
     depth_right(plans::terms(plans::branch_part(plan, branch)), w.depth())
 }
 
-// Whether the words behind a survey's are a position in the plan and a place for each level to its depth.
+// Whether the words behind a year's are a position in the plan and a place for each level to its depth.
 fn has_shape(plan: &[u32], state: &[u32]) -> bool
     requires { ⌜ hasForm (readPlan (now plan)) ≡ true ⌝ }
     ensures { λ r. ⌜ r ≡ shapeBehind (planOf (now (plan .entry))) (now (state .entry)) ⌝ }
@@ -68,18 +71,27 @@ fn has_shape(plan: &[u32], state: &[u32]) -> bool
     all_places(&state[1..])
 }
 
-// Whether a state's words are a survey's, whatever its number, and the shape behind it. (9)
-pub fn has_form(plan: &[u32], state: &[u32]) -> bool
+// Whether a state's words are a survey's, whatever its number, a year that is being read, and the shape behind it. (9)
+pub fn has_form(rows: &[u32], pos: &[u32], osp: &[u32], plan: &[u32], state: &[u32]) -> bool
+    requires { ⌜ Right (tablesOf (now rows) (now pos) (now osp)) ⌝ }
     requires { ⌜ hasForm (readPlan (now plan)) ≡ true ⌝ }
-    ensures { λ r. ⌜ r ≡ shapeRight (planOf (now (plan .entry))) (now (state .entry)) ⌝ }
+    ensures { λ r. ⌜ r ≡ shapeRight (tablesOf (now (rows .entry)) (now (pos .entry)) (now (osp .entry))) (planOf (now (plan .entry)))
+        (now (state .entry)) ⌝ }
 {
-    if state.len() == 0 {
+    if state.len() < 2 {
         return false;
     }
     if StateWord(state[0]).kind() != StateWord::SURVEY {
         return false;
     }
-    has_shape(plan, &state[1..])
+    let year = StateWord(state[1]);
+    if year.kind() != StateWord::YEAR {
+        return false;
+    }
+    if !year_read(rows, pos, osp, plans::years_in(plan), year.number()) {
+        return false;
+    }
+    has_shape(plan, &state[2..])
 }
 
 // Whether a survey's number has 28 bits.

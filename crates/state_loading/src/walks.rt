@@ -1,4 +1,4 @@
-// A cursor's places against the tables: test 10, level by level from the outermost in.
+// A cursor's places against the rows of a year, which begin with its word: test 10, level by level from the outermost in.
 use step_cursors::Cursor;
 use step_levels::Tested;
 use step_levels::level_of;
@@ -10,13 +10,13 @@ ghost use mathlib.Core.Path.{_≡_};
 ghost use mathlib.Core.Bool.{true};
 ghost use Prim.Native.Nat.{_<_};
 ghost use lib.ListN.{length};
-ghost use Rattle.tables.specs.Tables.{tablesOf};
+ghost use Rattle.tables.specs.Tables.{tablesOf, sectionOf};
 ghost use Rattle.tables.specs.Ranges.{rangeEnd};
 ghost use Rattle.tables.specs.Right.{Right};
 ghost use Rattle.plans.specs.Branches.{mostPatterns};
 ghost use Rattle.steps.specs.Levels.{bindings, levelPrefix, Inside};
-ghost use Rattle.steps.specs.Steps.{upperRight, stateRight};
-ghost use Rattle.step_cursors.specs.Held.{upperOf, stateOf, EndsAbove};
+ghost use Rattle.steps.specs.Positions.{upperRight, stateRight};
+ghost use Rattle.step_cursors.specs.Held.{upperOf, positionOf, EndsAbove};
 ghost use Rattle.state_saving.specs.Loading.{upToEnd};
 
 // Upper places walked: whether they are right, and if so the ends of their levels' ranges.
@@ -37,18 +37,21 @@ fn upper_right(
     rows: &[u32],
     pos: &[u32],
     osp: &[u32],
+    year: u32,
     terms: &[u32],
     c: Cursor,
     bound: &mut [u32; 16],
 ) -> Above
     requires { ⌜ Right (tablesOf (now rows) (now pos) (now osp)) ⌝ }
     requires { ⌜ Inside (now terms) (c .level) × (c .level < mostPatterns) ⌝ }
-    ensures { λ r. ⌜ r .right ≡ upperRight (tablesOf (now (rows .entry)) (now (pos .entry)) (now (osp .entry)))
+    ensures { λ r. ⌜ r .right ≡ upperRight (sectionOf (now (rows .entry)) (now (pos .entry)) (now (osp .entry)) year)
         (now (terms .entry)) (upperOf (c .upper) (c .level)) ⌝ }
     ensures { λ r. ⌜ (r .right ≡ true → now (bound .exit)
-        ≡ bindings (tablesOf (now (rows .entry)) (now (pos .entry)) (now (osp .entry))) (now (terms .entry)) (upperOf (c .upper) (c .level))) ⌝ }
+        ≡ bindings (sectionOf (now (rows .entry)) (now (pos .entry)) (now (osp .entry)) year)
+        (now (terms .entry)) (upperOf (c .upper) (c .level))) ⌝ }
     ensures ends { λ r. ⌜ (r .right ≡ true → (length (r .ends) ≡ mostPatterns)
-        × EndsAbove (tablesOf (now (rows .entry)) (now (pos .entry)) (now (osp .entry))) (now (terms .entry)) (c .upper) (r .ends) (c .level)) ⌝ }
+        × EndsAbove (sectionOf (now (rows .entry)) (now (pos .entry)) (now (osp .entry)) year)
+        (now (terms .entry)) (c .upper) (r .ends) (c .level)) ⌝ }
 {
     let upper = c.upper;
     let last = c.level;
@@ -57,7 +60,7 @@ fn upper_right(
     let mut level: usize = 0;
     while level < last {
         let place = upper[level];
-        let tested = level_passes(rows, pos, osp, terms, level, place, bound);
+        let tested = level_passes(rows, pos, osp, year, terms, level, place, bound);
         if !tested.right {
             return Above {
                 right: false,
@@ -79,6 +82,7 @@ fn last_right(
     rows: &[u32],
     pos: &[u32],
     osp: &[u32],
+    year: u32,
     terms: &[u32],
     level: usize,
     place: Place,
@@ -87,11 +91,11 @@ fn last_right(
     requires { ⌜ Right (tablesOf (now rows) (now pos) (now osp)) ⌝ }
     requires { ⌜ Inside (now terms) level ⌝ }
     ensures { λ r. ⌜ r .right ≡ upToEnd (tablesOf (now (rows .entry)) (now (pos .entry)) (now (osp .entry)))
-        (levelPrefix (now (terms .entry)) level (now (bound .entry))) (place .0) ⌝ }
+        (levelPrefix year (now (terms .entry)) level (now (bound .entry))) (place .0) ⌝ }
     ensures ends { λ r. ⌜ r .end .0 ≡ rangeEnd (tablesOf (now (rows .entry)) (now (pos .entry)) (now (osp .entry)))
-        (levelPrefix (now (terms .entry)) level (now (bound .entry))) ⌝ }
+        (levelPrefix year (now (terms .entry)) level (now (bound .entry))) ⌝ }
 {
-    let range = level_range(rows, pos, osp, level_of(terms, level, bound), place);
+    let range = level_range(rows, pos, osp, level_of(year, terms, level, bound), place);
     let first = range.first;
     let end = range.end;
     if place.0 < first.0 {
@@ -112,24 +116,28 @@ pub fn places_right(
     rows: &[u32],
     pos: &[u32],
     osp: &[u32],
+    year: u32,
     terms: &[u32],
     c: Cursor,
     bound: &mut [u32; 16],
 ) -> Walk
     requires { ⌜ Right (tablesOf (now rows) (now pos) (now osp)) ⌝ }
     requires { ⌜ Inside (now terms) (c .level) × (c .level < mostPatterns) ⌝ }
-    ensures { λ r. ⌜ r .right ≡ stateRight (tablesOf (now (rows .entry)) (now (pos .entry)) (now (osp .entry))) (now (terms .entry)) (stateOf c) ⌝ }
+    ensures { λ r. ⌜ r .right ≡ stateRight (sectionOf (now (rows .entry)) (now (pos .entry)) (now (osp .entry)) year)
+        (now (terms .entry)) (positionOf c) ⌝ }
     ensures { λ r. ⌜ (r .right ≡ true → now (bound .exit)
-        ≡ bindings (tablesOf (now (rows .entry)) (now (pos .entry)) (now (osp .entry))) (now (terms .entry)) (upperOf (c .upper) (c .level))) ⌝ }
+        ≡ bindings (sectionOf (now (rows .entry)) (now (pos .entry)) (now (osp .entry)) year)
+        (now (terms .entry)) (upperOf (c .upper) (c .level))) ⌝ }
     ensures ends { λ r. ⌜ (r .right ≡ true → (r .end .0 ≡ rangeEnd (tablesOf (now (rows .entry)) (now (pos .entry)) (now (osp .entry)))
-        (levelPrefix (now (terms .entry)) (c .level) (now (bound .exit)))) × (length (r .ends) ≡ mostPatterns)
-        × EndsAbove (tablesOf (now (rows .entry)) (now (pos .entry)) (now (osp .entry))) (now (terms .entry)) (c .upper) (r .ends) (c .level)) ⌝ }
+        (levelPrefix year (now (terms .entry)) (c .level) (now (bound .exit)))) × (length (r .ends) ≡ mostPatterns)
+        × EndsAbove (sectionOf (now (rows .entry)) (now (pos .entry)) (now (osp .entry)) year)
+        (now (terms .entry)) (c .upper) (r .ends) (c .level)) ⌝ }
 {
-    let above = upper_right(rows, pos, osp, terms, c, bound);
+    let above = upper_right(rows, pos, osp, year, terms, c, bound);
     let ends = above.ends;
     let place = c.place;
     if above.right {
-        let last = last_right(rows, pos, osp, terms, c.level, place, bound);
+        let last = last_right(rows, pos, osp, year, terms, c.level, place, bound);
         let end = last.end;
         return Walk {
             right: last.right,

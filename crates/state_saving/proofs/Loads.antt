@@ -1,36 +1,40 @@
 -- Loading: what words that pass test 9 have, what the number of the first failing test is, and that the cursor read from
--- words that pass both tests can go on.
+-- words that pass all tests can go on.
 use Prim.Native.Nat.{ℕ, _+_, _-_, _≤_, _<_}
 use native.Mathlib.Omega.{arith}
 use native.Mathlib.Decide.{decLt}
-use mathlib.Core.Path.{_≡_, refl, sym, _∙_, ap, subst}
+use mathlib.Core.Path.{_≡_, sym, _∙_, ap, subst}
 use mathlib.Core.Bool.{Bool, true, false}
-use mathlib.Core.List.{List, [], _∷_}
+use mathlib.Core.List.{List}
 use lib.Dec.{eqb, ltb, leb}
 use lib.ListN.{length, getD, drop, length-drop, drop-of-length-le}
 use borrow.Author.Tests.{eqb-true, ltb-true, leb-true}
-use Rattle.words.specs.Words.{kind, positionKind, branchOf, depthOf}
+use Rattle.words.specs.Words.{kind, number, positionKind, branchOf, depthOf}
 use Rattle.words.specs.Bindings.{Bindings}
 use Rattle.words.specs.Tests.{firstFailing}
-use Rattle.words.proofs.Booleans.{absurd-true, and-left, and-right}
+use Rattle.words.proofs.Booleans.{and-left, and-right}
 use Rattle.tables.specs.declared.Place.{Place}
-use Rattle.tables.specs.Tables.{Tables}
+use Rattle.tables.specs.Tables.{Tables, Section, section}
 use Rattle.tables.specs.Ranges.{rangeEnd}
 use Rattle.plans.specs.Branches.{mostPatterns, readBranch}
 use Rattle.plans.specs.Plans.{Plan, readPlan, hasForm, planOf, branchAt}
 use Rattle.plans.specs.Reading.{Gives}
 use Rattle.steps.specs.declared.Fields.{Fields}
 use Rattle.steps.specs.Levels.{hasLevel, fieldsFixed, levelPrefix, bindings, under, Inside}
-use Rattle.steps.specs.Steps.{State, stateRight}
-use Rattle.steps.specs.Saved.{behindSurvey, positionRight, shapeBehind, shapeRight, surveyRight, positionIn}
+use Rattle.steps.specs.Positions.{Position, stateRight}
+use Rattle.steps.specs.Years.{isYearRead}
+use Rattle.steps.specs.Saved.{yearIn, behindYear, isSurvey, isYear, positionRight, shapeBehind, shapeRight, surveyRight, positionIn, stateIn}
+use Rattle.steps.proofs.SavedWords.{shape-of}
 use Rattle.step_cursors.specs.declared.Cursor.{Cursor}
-use Rattle.step_cursors.specs.Held.{upperOf, stateOf, currentBranch, BeginsAt, Held, EndsAbove, EndsHeld}
+use Rattle.step_cursors.specs.Carried.{yearOf}
+use Rattle.step_cursors.specs.Held.{upperOf, positionOf, stateOf, currentBranch, BeginsAt, HeldIn, Held, EndsAbove, EndsIn, EndsHeld}
 use Rattle.step_cursors.proofs.Agreement.{agrees-refl}
 use Rattle.step_cursors.proofs.Cursors.{upper-length, bound-length, level-inside, level-few}
+use Rattle.step_cursors.proofs.OverYears.{held-year}
 use Rattle.state_saving.specs.Loading.{Whole, placesBehind, placesRefusal, stateRefusal}
 
 -- ---- the number of the first test that fails
-module _ (t : Tables) (q : Plan) (ws : List ℕ) where
+module _ (t : Section) (q : Plan) (ws : List ℕ) where
   refused-places : placesBehind t q ws ≡ false → placesRefusal t q ws ≡ 10
   unfolding firstFailing
   refused-places h = rw h
@@ -40,25 +44,29 @@ module _ (t : Tables) (q : Plan) (ws : List ℕ) where
   refused-none h = rw h
 
 module _ (t : Tables) (survey : ℕ) (q : Plan) (ws : List ℕ) where
-  pub refused-shape : shapeRight q ws ≡ false → stateRefusal t survey q ws ≡ 9
+  pub refused-shape : shapeRight t q ws ≡ false → stateRefusal t survey q ws ≡ 9
   unfolding firstFailing
   refused-shape h = rw h
 
-  module _ (shape : shapeRight q ws ≡ true) where
+  module _ (shape : shapeRight t q ws ≡ true) where
     pub refused-survey : surveyRight survey ws ≡ false → stateRefusal t survey q ws ≡ 22
     unfolding firstFailing
     refused-survey h = rw (shape, h)
 
-    pub refused-behind : surveyRight survey ws ≡ true → stateRefusal t survey q ws ≡ placesRefusal t q (behindSurvey ws)
+    pub refused-behind : surveyRight survey ws ≡ true → stateRefusal t survey q ws ≡ placesRefusal (section t (yearIn ws)) q (behindYear ws)
     unfolding firstFailing
     refused-behind h = rw (shape, h)
 
--- words that pass test 9 are some
-pub some-word : (q : Plan) (ws : List ℕ) → shapeRight q ws ≡ true → 1 ≤ length ws
-some-word q [] e = absurd-true e refl
-some-word q (w ∷ ws) e = omega arith
+-- words that pass test 9 are two and more
+pub two-words : (t : Tables) (q : Plan) (ws : List ℕ) → shapeRight t q ws ≡ true → 2 ≤ length ws
+two-words t q ws e = omega (arith, ap length (shape-of t q ws e .words))
 
--- ---- words behind the survey's that pass test 9
+-- those behind the year's have the shape
+pub behind-right : (t : Tables) (q : Plan) (ws : List ℕ) → shapeRight t q ws ≡ true → shapeBehind q (behindYear ws) ≡ true
+behind-right t q ws e =
+    and-right (isYearRead t (q .years) (yearIn ws)) _ (and-right (isYear (getD ws 1 0)) _ (and-right (isSurvey (getD ws 0 0)) _ e))
+
+-- ---- words behind the year's that pass test 9
 -- the branch and the level are in the plan, and there is a place for each level to the last
 pub record Placed (q : Plan) (ws : List ℕ) : Type 0 where
   pub branch : branchOf (getD ws 0 0) < length (q .branches)
@@ -120,11 +128,11 @@ module _ (plan ws : List ℕ) (planned : hasForm (readPlan plan) ≡ true) (shap
       let f = level-few plan planned (branchOf (getD ws 0 0)) (depthOf (getD ws 0 0) - 1) (p .branch) (p .level) in
       record { deep = p .deep; whole = p .long; few = omega arith }
 
-  module _ (c : Cursor) (e : stateOf c ≡ positionIn ws) (d : c .level + 1 ≡ depthOf (getD ws 0 0)) (terms : List ℕ)
+  module _ (c : Cursor) (e : positionOf c ≡ positionIn ws) (d : c .level + 1 ≡ depthOf (getD ws 0 0)) (terms : List ℕ)
       (et : terms ≡ branchAt q (branchOf (getD ws 0 0)) .terms) where
     branch-is : c .branch ≡ branchOf (getD ws 0 0)
     unfolding positionIn
-    branch-is = ap (λ (s : State). s .branch) e
+    branch-is = ap (λ (s : Position). s .branch) e
 
     terms-are : terms ≡ currentBranch plan c .terms
     terms-are = et ∙ ap (λ i. branchAt q i .terms) (sym branch-is)
@@ -145,18 +153,19 @@ module _ (plan ws : List ℕ) (planned : hasForm (readPlan plan) ≡ true) (shap
     )
 
     -- the ends that its walk found
-    pub loads-ends : (t : Tables) (b : Bindings) → b ≡ bindings t terms (upperOf (c .upper) (c .level))
-        → (f : Fields) (end : Place) (ends : List Place) → end .0 ≡ rangeEnd t (levelPrefix terms (c .level) b) → length ends ≡ mostPatterns
-        → EndsAbove t terms (c .upper) ends (c .level) → EndsHeld t (currentBranch plan (withEnds c f end ends) .terms) (withEnds c f end ends)
+    pub loads-ends : (t : Section) (b : Bindings) → b ≡ bindings t terms (upperOf (c .upper) (c .level))
+        → (f : Fields) (end : Place) (ends : List Place) → end .0 ≡ rangeEnd (t .tables) (levelPrefix (t .year) terms (c .level) b)
+        → length ends ≡ mostPatterns → EndsAbove t terms (c .upper) ends (c .level)
+        → EndsIn t (currentBranch plan (withEnds c f end ends) .terms) (withEnds c f end ends)
     loads-ends t b eb f end ends last room above =
-        let x : levelPrefix terms (c .level) b ≡ under t terms (upperOf (c .upper) (c .level)) = rw (upper-length (c .upper) (c .level), eb) in
-        rw (← terms-are) (record { room = room; last = last ∙ ap (rangeEnd t) x; above = above })
+        let x : levelPrefix (t .year) terms (c .level) b ≡ under t terms (upperOf (c .upper) (c .level)) = rw (upper-length (c .upper) (c .level), eb) in
+        rw (← terms-are) (record { room = room; last = last ∙ ap (rangeEnd (t .tables)) x; above = above })
 
-    module _ (t : Tables) (r : Bool) (er : r ≡ stateRight t terms (stateOf c)) where
+    module _ (t : Section) (r : Bool) (er : r ≡ stateRight t terms (positionOf c)) where
       places-are : placesBehind t q ws ≡ r
       places-are =
-          ap (λ (s : State). stateRight t (branchAt q (s .branch) .terms) s) (sym e)
-          ∙ ap (λ (us : List ℕ). stateRight t us (stateOf c)) (sym terms-are)
+          ap (λ (s : Position). stateRight t (branchAt q (s .branch) .terms) s) (sym e)
+          ∙ ap (λ (us : List ℕ). stateRight t us (positionOf c)) (sym terms-are)
           ∙ sym er
 
       pub loads-not : r ≡ false → placesRefusal t q ws ≡ 10
@@ -167,7 +176,7 @@ module _ (plan ws : List ℕ) (planned : hasForm (readPlan plan) ≡ true) (shap
 
       pub loads-held : r ≡ true → BeginsAt plan (branchOf (getD ws 0 0)) (c .at) → length (c .upper) ≡ mostPatterns
           → (b : Bindings) → b ≡ bindings t terms (upperOf (c .upper) (c .level))
-          → (f : Fields) → f ≡ fieldsFixed terms (c .level) b → (end : Place) (ends : List Place) → Held t plan (withEnds c f end ends) b
+          → (f : Fields) → f ≡ fieldsFixed (t .year) terms (c .level) b → (end : Place) (ends : List Place) → HeldIn t plan (withEnds c f end ends) b
       loads-held h a l b eb f ef end ends =
           record {
             planned = planned;
@@ -179,3 +188,26 @@ module _ (plan ws : List ℕ) (planned : hasForm (readPlan plan) ≡ true) (shap
             agrees = rw (← terms-are, ← eb) (agrees-refl b (rw eb (bound-length t terms (upperOf (c .upper) (c .level)))));
             fields = rw (← terms-are) ef;
           }
+
+-- ---- the cursor that is held over the rows of a state's year, by its word
+module _ (t : Tables) (plan ws : List ℕ) (shape : shapeRight t (planOf plan) ws ≡ true) (word : ℕ) (ew : word ≡ number (yearIn ws))
+    (c : Cursor) (b : Bindings) (k : HeldIn (record { tables = t; year = word }) plan c b) where
+  year-word : c .fields .year ≡ word
+  year-word = held-year (record { tables = t; year = word }) plan c b k
+
+  year-is : yearOf c ≡ yearIn ws
+  year-is = omega (arith, year-word, ew)
+
+  pub loaded-state : positionOf c ≡ positionIn (behindYear ws) → stateOf c ≡ stateIn ws
+  loaded-state e = let y = year-is in λ i. record { year = y i; position = e i }
+
+  pub loaded-held : Held t plan c b
+  loaded-held =
+      record {
+        numbered = year-word ∙ ew ∙ ap number (sym year-is);
+        read = rw year-is (shape-of t (planOf plan) ws shape .year);
+        position = subst (λ n. HeldIn (record { tables = t; year = n }) plan c b) (sym year-word) k;
+      }
+
+  pub loaded-ends : (terms : List ℕ) → EndsIn (record { tables = t; year = word }) terms c → EndsHeld t terms c
+  loaded-ends terms e = subst (λ n. EndsIn (record { tables = t; year = n }) terms c) (sym year-word) e

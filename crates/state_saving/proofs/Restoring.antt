@@ -15,7 +15,7 @@ use Rattle.tables.specs.Tables.{Tables}
 use Rattle.tables.specs.Ranges.{rangeStart, rangeEnd}
 use Rattle.steps.specs.Saved.{upperIn, positionIn}
 use Rattle.step_cursors.specs.declared.Cursor.{Cursor}
-use Rattle.step_cursors.specs.Held.{upperOf, stateOf}
+use Rattle.step_cursors.specs.Held.{upperOf, positionOf}
 use Rattle.step_cursors.proofs.Cursors.{upper-next, place-set, upper-set}
 use Rattle.state_saving.specs.Loading.{upToEnd}
 
@@ -38,7 +38,7 @@ module _ (ws : List ℕ) where
 
   -- the cursor whose places are those of the words
   pub cursor-state : (c : Cursor) → c .branch ≡ branchOf (getD ws 0 0) → c .level + 1 ≡ depthOf (getD ws 0 0)
-      → upperOf (c .upper) (c .level) ≡ upperIn ws (c .level) → c .place .0 ≡ low (getD ws (c .level + 1) 0) → stateOf c ≡ positionIn ws
+      → upperOf (c .upper) (c .level) ≡ upperIn ws (c .level) → c .place .0 ≡ low (getD ws (c .level + 1) 0) → positionOf c ≡ positionIn ws
   unfolding positionIn
   cursor-state c b d u p =
       let above : c .level ≡ depthOf (getD ws 0 0) - 1 = omega arith in

@@ -16,16 +16,19 @@ use Rattle.words.specs.Sequences.{all, over}
 use Rattle.words.proofs.Buffers.{over-next}
 use Rattle.words.proofs.Elements.{all-head, all-tail}
 use Rattle.tables.specs.declared.Place.{Place}
-use Rattle.tables.specs.Tables.{Tables}
+use Rattle.tables.specs.Tables.{Tables, section}
 use Rattle.tables.specs.Right.{Right}
-use Rattle.plans.specs.Plans.{planOf}
-use Rattle.steps.specs.Saved.{upperWords, positionWords, stateWords}
+use Rattle.plans.specs.Plans.{readPlan, planOf}
+use Rattle.plans.proofs.Bounds.{was-read}
+use Rattle.steps.specs.Saved.{upperWords, positionWords}
+use Rattle.steps.proofs.YearsRead.{names-low, read-low}
 use Rattle.steps.proofs.SavedWords.{fitsLow, upper-length}
 use Rattle.steps.proofs.AcceptedStates.{right-fits}
 use Rattle.step_cursors.specs.declared.Cursor.{Cursor}
-use Rattle.step_cursors.specs.Carried.{placeAt}
-use Rattle.step_cursors.specs.Held.{upperOf, stateOf, Held}
-use Rattle.step_cursors.proofs.Cursors.{upper-length as places-length, form-of, level-few, held-right}
+use Rattle.step_cursors.specs.Carried.{yearOf, placeAt}
+use Rattle.step_cursors.specs.Held.{upperOf, positionOf, Held}
+use Rattle.step_cursors.proofs.Cursors.{upper-length as places-length, form-of, level-few}
+use Rattle.step_cursors.proofs.OverYears.{held-state}
 use Rattle.state_saving.specs.Loading.{Storable}
 
 -- the first word, and the places of the levels above one
@@ -64,13 +67,13 @@ module _ (c : Cursor) (w : ℕ) (position : w ≡ positionWord (c .branch) (c .l
   abbrev last : ℕ
   last = placeWord (c .place .0)
 
-  above-all : wordsAbove w (c .upper) (c .level) ++ (last ∷ []) ≡ positionWords (stateOf c)
+  above-all : wordsAbove w (c .upper) (c .level) ++ (last ∷ []) ≡ positionWords (positionOf c)
   unfolding positionWords
   above-all = rw (position, places-length (c .upper) (c .level), add-one)
 
   pub saved : (level : ℕ) (state buffer : List ℕ) → c .level + 1 < length buffer → level ≡ c .level
       → state ≡ over (wordsAbove (getD (set buffer 0 w) 0 0) (c .upper) level) (set buffer 0 w)
-      → (c .level + 2 ≡ length (positionWords (stateOf c))) × (set state (c .level + 1) last ≡ over (positionWords (stateOf c)) buffer)
+      → (c .level + 2 ≡ length (positionWords (positionOf c))) × (set state (c .level + 1) last ≡ over (positionWords (positionOf c)) buffer)
   saved level state buffer h l e =
       let ws = wordsAbove w (c .upper) (c .level) in
       let n = above-length w (c .upper) (c .level) in
@@ -85,17 +88,18 @@ module _ (c : Cursor) (w : ℕ) (position : w ≡ positionWord (c .branch) (c .l
             ∙ ap (λ (vs : List ℕ). over vs buffer) above-all,
       )
 
--- the survey's word is written before them
-first-of : (w x : ℕ) (ws behind buffer : List ℕ) (k : ℕ) → length buffer ≤ k → behind ≡ over ws (take k buffer)
-    → set (putMid 1 k (x ∷ buffer) behind) 0 w ≡ over (w ∷ ws) (x ∷ buffer)
-first-of w x ws behind buffer k h e =
-    ap (λ (l : List ℕ). w ∷ l)
+-- the survey's word and the year's are written before them
+both-of : (w y x z : ℕ) (ws behind buffer : List ℕ) (k : ℕ) → length buffer ≤ k → behind ≡ over ws (take k buffer)
+    → set (set (putMid 2 k (x ∷ z ∷ buffer) behind) 0 w) 1 y ≡ over (w ∷ y ∷ ws) (x ∷ z ∷ buffer)
+both-of w y x z ws behind buffer k h e =
+    ap (λ (l : List ℕ). w ∷ y ∷ l)
     (ap (λ (l : List ℕ). behind ++ l) (drop-of-length-le buffer {i = k} h) ∙ append-nil behind ∙ e ∙ ap (over ws) (take-all k buffer h))
 
-pub survey-first : (w : ℕ) (ws behind buffer : List ℕ) → 0 < length buffer → behind ≡ over ws (midOf 1 (length buffer - 1) buffer)
-    → set (putMid 1 (length buffer - 1) buffer behind) 0 w ≡ over (w ∷ ws) buffer
-survey-first w ws behind [] h e = absurd (omega arith)
-survey-first w ws behind (x ∷ buffer) h e = first-of w x ws behind buffer (length (x ∷ buffer) - 1) (omega arith) e
+pub both-first : (w y : ℕ) (ws behind buffer : List ℕ) → 1 < length buffer → behind ≡ over ws (midOf 2 (length buffer - 2) buffer)
+    → set (set (putMid 2 (length buffer - 2) buffer behind) 0 w) 1 y ≡ over (w ∷ y ∷ ws) buffer
+both-first w y ws behind [] h e = absurd (omega arith)
+both-first w y ws behind (x ∷ []) h e = absurd (omega arith)
+both-first w y ws behind (x ∷ z ∷ buffer) h e = both-of w y x z ws behind buffer (length (x ∷ z ∷ buffer) - 2) (omega arith) e
 
 -- ---- what a run holds can be saved
 places-fit : (ps : List Place) (level : ℕ) → all fitsLow (upperOf ps level) ≡ true → (i : ℕ) → i < level → placeAt ps i < lowNumbers
@@ -110,11 +114,14 @@ places-fit ps (suc level) e i h =
 
 pub held-storable : (t : Tables) (ws : List ℕ) (c : Cursor) (b : Bindings) → Right t → Held t ws c b → Storable c
 held-storable t ws c b w k =
-    let form = form-of ws (k .planned) in
-    let f = right-fits t (planOf ws) (w .sized .few) form (stateOf c) (held-right t ws c b k) in
+    let h = k .position .planned in
+    let form = form-of ws h in
+    let r = held-state t ws c b k in
+    let f = right-fits (section t (yearOf c)) (planOf ws) (w .sized .few) form (positionOf c) (r .position) in
     record {
-      branch = omega (arith, k .branch, form .most);
-      level = level-few ws (k .planned) (c .branch) (c .level) (k .branch) (k .level);
+      year = read-low t w (planOf ws .years) (names-low ws (planOf ws) (was-read (readPlan ws) h)) (yearOf c) (k .read);
+      branch = omega (arith, k .position .branch, form .most);
+      level = level-few ws h (c .branch) (c .level) (k .position .branch) (k .position .level);
       place = f .place;
       upper = λ i h. places-fit (c .upper) (c .level) (f .upper) i h;
     }

@@ -12,20 +12,20 @@ use borrow.Author.Tests.{eqb-true, eqb-false}
 use Rattle.words.specs.Bindings.{Bindings, nothingBound}
 use Rattle.words.proofs.Booleans.{and-left, and-right}
 use Rattle.tables.specs.declared.Place.{Place}
-use Rattle.tables.specs.Tables.{Tables}
+use Rattle.tables.specs.Tables.{Section}
 use Rattle.tables.specs.Ranges.{rangeEnd, inRange}
 use Rattle.steps.specs.Levels.{levelPrefix, passes, bindPlace, bindings, under}
-use Rattle.steps.specs.Steps.{upperRight, stateRight}
+use Rattle.steps.specs.Positions.{upperRight, stateRight}
 use Rattle.step_levels.specs.Showing.{shownAt, boundAfter}
 use Rattle.step_cursors.specs.declared.Cursor.{Cursor}
 use Rattle.step_cursors.specs.Carried.{placeAt}
-use Rattle.step_cursors.specs.Held.{upperOf, stateOf, EndsAbove}
+use Rattle.step_cursors.specs.Held.{upperOf, positionOf, EndsAbove}
 use Rattle.step_cursors.proofs.Cursors.{upper-length, upper-next, place-set, place-other}
 use Rattle.state_saving.specs.Loading.{upToEnd}
 
-module _ (t : Tables) (terms : List ℕ) where
+module _ (t : Section) (terms : List ℕ) where
   upper-right-next : (place : ℕ) (upper : List ℕ) → upperRight t terms (place ∷ upper)
-      ≡ (upperRight t terms upper && (inRange t (under t terms upper) place && passes t terms (length upper) place (bindings t terms upper)))
+      ≡ (upperRight t terms upper && (inRange (t .tables) (under t terms upper) place && passes t terms (length upper) place (bindings t terms upper)))
   unfolding upperRight
   upper-right-next place upper = refl
 
@@ -34,11 +34,11 @@ module _ (t : Tables) (terms : List ℕ) where
   unfolding bindings
   bindings-next place upper = refl
 
-  bound-passes : (level place : ℕ) (b : Bindings) → inRange t (levelPrefix terms level b) place && passes t terms level place b ≡ true
+  bound-passes : (level place : ℕ) (b : Bindings) → inRange (t .tables) (levelPrefix (t .year) terms level b) place && passes t terms level place b ≡ true
       → boundAfter t terms level place b ≡ bindPlace t terms level place b
   unfolding boundAfter shownAt
   bound-passes level place b h =
-      rw (and-left (inRange t (levelPrefix terms level b) place) _ h, and-right (inRange t (levelPrefix terms level b) place) _ h)
+      let within = inRange (t .tables) (levelPrefix (t .year) terms level b) place in rw (and-left within _ h, and-right within _ h)
 
   module _ (places : List Place) where
     -- the levels above one are right, and the values that they bind are in the array
@@ -56,7 +56,7 @@ module _ (t : Tables) (terms : List ℕ) where
 
     -- the test of one level, with the values that the array holds
     abbrev pub levelRight : ℕ → Bindings → Bool
-    levelRight level b = inRange t (levelPrefix terms level b) (placeAt places level) && passes t terms level (placeAt places level) b
+    levelRight level b = inRange (t .tables) (levelPrefix (t .year) terms level b) (placeAt places level) && passes t terms level (placeAt places level) b
 
     module _ (level : ℕ) (b : Bindings) (w : Walked level b) where
       right-level : upperRight t terms (upperOf places (level + 1)) ≡ levelRight level b
@@ -77,16 +77,16 @@ module _ (t : Tables) (terms : List ℕ) where
           }
 
       -- what the level selects, with the values that the array holds
-      pub walked-prefix : levelPrefix terms level b ≡ under t terms (upperOf places level)
+      pub walked-prefix : levelPrefix (t .year) terms level b ≡ under t terms (upperOf places level)
       walked-prefix = rw (upper-length places level, w .bound)
 
       -- its end, set beside those of the levels above it
-      pub ends-next : (ends : List Place) (e : Place) → level < length ends → e .0 ≡ rangeEnd t (levelPrefix terms level b)
+      pub ends-next : (ends : List Place) (e : Place) → level < length ends → e .0 ≡ rangeEnd (t .tables) (levelPrefix (t .year) terms level b)
           → EndsAbove t terms places ends level → EndsAbove t terms places (set ends level e) (level + 1)
       ends-next ends e room found k l h = go (eqb l level) refl
         where
-          go : (here : Bool) → eqb l level ≡ here → placeAt (set ends level e) l ≡ rangeEnd t (under t terms (upperOf places l))
-          go true q = rw (eqb-true l level q) (place-set ends level e room ∙ found ∙ ap (rangeEnd t) walked-prefix)
+          go : (here : Bool) → eqb l level ≡ here → placeAt (set ends level e) l ≡ rangeEnd (t .tables) (under t terms (upperOf places l))
+          go true q = rw (eqb-true l level q) (place-set ends level e room ∙ found ∙ ap (rangeEnd (t .tables)) walked-prefix)
           go false q =
               let n = eqb-false l level q in
               let g : l < level = omega arith in
@@ -105,11 +105,11 @@ module _ (t : Tables) (terms : List ℕ) where
 
   -- the last place, tested below right levels
   module _ (c : Cursor) where
-    pub upper-fails : upperRight t terms (upperOf (c .upper) (c .level)) ≡ false → stateRight t terms (stateOf c) ≡ false
+    pub upper-fails : upperRight t terms (upperOf (c .upper) (c .level)) ≡ false → stateRight t terms (positionOf c) ≡ false
     unfolding stateRight
     upper-fails h = rw h
 
     pub upper-passes : (b : Bindings) → Walked (c .upper) (c .level) b
-        → stateRight t terms (stateOf c) ≡ upToEnd t (levelPrefix terms (c .level) b) (c .place .0)
+        → stateRight t terms (positionOf c) ≡ upToEnd (t .tables) (levelPrefix (t .year) terms (c .level) b) (c .place .0)
     unfolding stateRight
     upper-passes b w = rw (w .right, upper-length (c .upper) (c .level), w .bound)

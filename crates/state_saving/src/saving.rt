@@ -1,19 +1,20 @@
 // Saving: a state as words.
 use step_cursors::Cursor;
 use words::StateWord;
+use words::Term;
 ghost use mathlib.Core.Path.{_≡_};
 ghost use Prim.Native.Nat.{_≤_, _<_};
 ghost use lib.ListN.{length};
 ghost use Rattle.words.specs.Sequences.{over};
 ghost use Rattle.words.specs.Words.{lowNumbers};
 ghost use Rattle.steps.specs.Saved.{positionWords, mostPositionWords, stateWords, leastStateWords};
-ghost use Rattle.step_cursors.specs.Held.{stateOf};
+ghost use Rattle.step_cursors.specs.Held.{positionOf, stateOf};
 ghost use Rattle.state_saving.specs.Loading.{Storable};
 
-// Writes the words behind the survey's of the state that a cursor stands for, and answers how many.
+// Writes the words of the position that a cursor stands for, and answers how many.
 fn save_behind(c: Cursor, state: &mut [u32]) -> usize
     requires { ⌜ Storable c × (mostPositionWords ≤ length (now state)) ⌝ }
-    ensures { λ r. ⌜ (r ≡ length (positionWords (stateOf c))) × (now (state .exit) ≡ over (positionWords (stateOf c)) (now (state .entry))) ⌝ }
+    ensures { λ r. ⌜ (r ≡ length (positionWords (positionOf c))) × (now (state .exit) ≡ over (positionWords (positionOf c)) (now (state .entry))) ⌝ }
 {
     let level = c.level;
     let upper = c.upper;
@@ -35,7 +36,9 @@ pub fn save(survey: u32, c: Cursor, state: &mut [u32]) -> usize
     ensures { λ r. ⌜ (r ≡ length (stateWords survey (stateOf c)))
         × (now (state .exit) ≡ over (stateWords survey (stateOf c)) (now (state .entry))) ⌝ }
 {
-    let behind = save_behind(c, &mut state[1..]);
+    let f = c.fields;
+    let behind = save_behind(c, &mut state[2..]);
     state[0] = StateWord::survey(survey).0;
-    behind + 1
+    state[1] = StateWord::year(Term(f.year).value()).0;
+    behind + 2
 }

@@ -1,9 +1,15 @@
 pub mod MachineRuns
 pub mod MachineStates
+pub mod GoingOn
 pub mod Runs
 pub mod Rules
 pub mod Right
 pub mod Reached
+pub mod YearsRead
+pub mod RightStates
+pub mod YearRuns
+pub mod YearLists
+pub mod YearSteps
 pub mod Ends
 pub mod SavedWords
 pub mod AcceptedStates

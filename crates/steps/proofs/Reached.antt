@@ -1,42 +1,44 @@
--- Every state that tests 9 and 10 accept is one that the uncut run passes through.
+-- The start of a year leads to every position that tests 9 and 10 accept, and to the last one, from which the year's end is the next step.
 use Prim.Native.Nat.{ℕ, zero, suc, _+_, _-_, _*_, _≤_, _<_}
 use native.Mathlib.Omega.{arith}
-use mathlib.Core.Path.{_≡_, refl, subst}
+use mathlib.Core.Path.{_≡_, refl, _∙_, subst}
 use mathlib.Core.Bool.{true}
 use mathlib.Core.Option.{some}
 use mathlib.Core.List.{List, [], _∷_}
 use lib.ListN.{length}
-use borrow.Author.Tests.{ltb-true, lt-ltb}
-use Rattle.tables.specs.Tables.{Tables}
+use borrow.Author.Tests.{ltb-true, lt-ltb, le-ltb}
+use Rattle.tables.specs.Tables.{Section}
 use Rattle.tables.proofs.Ranges.{start-le-end}
 use Rattle.plans.specs.Branches.{patternWidth}
 use Rattle.plans.specs.Plans.{Plan, branchAt}
+use Rattle.plans.proofs.Bounds.{PlanForm}
 use Rattle.steps.specs.Levels.{hasLevel, under}
 use Rattle.steps.specs.Machines as machine
-use Rattle.steps.specs.Steps.{State, Step, step, startOf, leave, after, upperRight}
+use Rattle.steps.specs.Machines.{ends}
+use Rattle.steps.specs.Positions.{Position, PositionStep, positionStep, startOf, leave, upperRight}
 use Rattle.steps.proofs.MachineStates as states
 use Rattle.steps.proofs.Rules.{levelStart, levelEnd, goesDeeper, Rule, skips, opens, gives, drops, starts, finishes, rule, step-opens, step-leaves}
 use Rattle.steps.proofs.Right.{Right, inner-of, level-above}
 
--- some number of steps leads from one state to another
-abbrev pub Leads : Tables → Plan → State → State → Type 0
-Leads t q a b = machine.Leads (step t q) a b
+-- some number of steps leads from one position to another
+abbrev pub Leads : Section → Plan → Position → Position → Type 0
+Leads t q a b = machine.Leads (positionStep t q) a b
 
-module _ (t : Tables) (q : Plan) where
-  pub leads-here : (a : State) → Leads t q a a
-  leads-here = states.leads-here (step t q)
+module _ (t : Section) (q : Plan) where
+  pub leads-here : (a : Position) → Leads t q a a
+  leads-here = states.leads-here (positionStep t q)
 
-  pub leads-on : (a b c : State) → Leads t q a b → Leads t q b c → Leads t q a c
-  leads-on = states.leads-on (step t q)
+  pub leads-on : (a b c : Position) → Leads t q a b → Leads t q b c → Leads t q a c
+  leads-on = states.leads-on (positionStep t q)
 
-  leads-step : (a b : State) (x : Step) → step t q a ≡ x → machine.stepped [] x .state ≡ some b → Leads t q a b
-  leads-step = states.leads-step (step t q)
+  leads-step : (a b : Position) (x : PositionStep) → positionStep t q a ≡ x → machine.stepped [] x .state ≡ some b → Leads t q a b
+  leads-step = states.leads-step (positionStep t q)
 
   module _ (i : ℕ) where
     abbrev terms : List ℕ
     terms = branchAt q i .terms
 
-    abbrev at : List ℕ → ℕ → State
+    abbrev at : List ℕ → ℕ → Position
     at upper place = record { branch = i; upper = upper; place = place }
 
     -- at the end of a level's range, the place above moves on
@@ -79,7 +81,7 @@ module _ (t : Tables) (q : Plan) where
             let z = levelEnd t terms (p ∷ upper) in
             leads-on (at upper p) (at (p ∷ upper) a) (at upper (p + 1)) (leads-step _ _ _ e refl)
             (leads-on (at (p ∷ upper) a) (at (p ∷ upper) z) (at upper (p + 1))
-            (sweeps (p ∷ upper) (deeper h) z (start-le-end t (under t terms (p ∷ upper))) (omega arith)) (leads-up p upper))
+            (sweeps (p ∷ upper) (deeper h) z (start-le-end (t .tables) (under t terms (p ∷ upper))) (omega arith)) (leads-up p upper))
         go (gives m e) = leads-step _ _ _ e refl
         go (drops place above m u e) = absurd (omega arith)
         go (starts m u h e) = absurd (omega arith)
@@ -110,7 +112,7 @@ module _ (t : Tables) (q : Plan) where
 
     -- and to the end of its own range
     pub to-end : Leads t q (startOf t q i) (at [] (levelEnd t terms []))
-    to-end = sweep [] (levelEnd t terms []) (start-le-end t (under t terms [])) (omega arith)
+    to-end = sweep [] (levelEnd t terms []) (start-le-end (t .tables) (under t terms [])) (omega arith)
 
     to-next : suc i < length (q .branches) → Leads t q (startOf t q i) (startOf t q (suc i))
     unfolding leave
@@ -123,10 +125,31 @@ module _ (t : Tables) (q : Plan) where
   to-branch zero h = leads-here (startOf t q 0)
   to-branch (suc i) h = leads-on (startOf t q 0) (startOf t q i) (startOf t q (suc i)) (to-branch i (omega arith)) (to-next i h)
 
-  -- and so to each right state
-  pub reached : (s : State) → Right t q s → (n : ℕ) × (after t q n .state ≡ some s)
-  unfolding after
+  -- and so to each right position
+  pub reached : (s : Position) → Right t q s → Leads t q (startOf t q 0) s
   reached s r =
       leads-on (startOf t q 0) (startOf t q (s .branch)) s (to-branch (s .branch) (r .branch))
       (leads-on (startOf t q (s .branch)) (at (s .branch) (s .upper) (levelStart t (terms (s .branch)) (s .upper))) s
       (enter (s .branch) (s .upper) (r .upper) (r .level)) (sweep (s .branch) (s .upper) (s .place) (r .start) (r .end)))
+
+  -- ---- the last position
+  -- the end of the last branch's range
+  pub lastPosition : Position
+  lastPosition =
+      record {
+        branch = length (q .branches) - 1;
+        upper = [];
+        place = levelEnd t (branchAt q (length (q .branches) - 1) .terms) [];
+      }
+
+  pub last-ends : PlanForm q → positionStep t q lastPosition ≡ ends
+  unfolding lastPosition leave
+  last-ends form =
+      step-leaves t q lastPosition (omega arith)
+      ∙ rw (le-ltb (suc (length (q .branches) - 1)) (length (q .branches)) (omega (arith, form .least)))
+
+  pub to-last : PlanForm q → Leads t q (startOf t q 0) lastPosition
+  unfolding lastPosition
+  to-last form =
+      leads-on (startOf t q 0) (startOf t q (length (q .branches) - 1)) lastPosition
+      (to-branch (length (q .branches) - 1) (omega (arith, form .least))) (to-end (length (q .branches) - 1))

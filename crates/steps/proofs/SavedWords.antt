@@ -1,4 +1,4 @@
--- A state's words read back as the state, and words of the right shape are those of the state that they stand for: behind the survey's word, and with it.
+-- A state's words read back as the state, and words of the right shape are those of the state that they stand for: behind the year's word, and with it.
 use Prim.Native.Nat.{ℕ, zero, suc, _+_, _-_, _*_, _≤_, _<_}
 use native.Mathlib.Omega.{arith}
 use native.Mathlib.Numerals.{add-one}
@@ -9,22 +9,26 @@ use lib.Dec.{ltb, leb, eqb}
 use lib.ListN.{length, take, getD, length-append}
 use lib.Seq.{getD-at, take-suc, take-all}
 use borrow.Author.Tests.{ltb-true, leb-true, eqb-true, lt-ltb, le-leb, eq-eqb}
-use Rattle.words.specs.Words.{kind, low, lowNumbers, depths, surveyKind, positionKind, placeKind, surveyWord, positionWord, placeWord, branchOf, depthOf}
+use Rattle.words.specs.Words.{kind, low, lowNumbers, depths, surveyKind, yearKind, positionKind, placeKind, surveyWord, yearWord, positionWord, placeWord}
+use Rattle.words.specs.Words.{branchOf, depthOf}
 use Rattle.words.specs.Sequences.{all}
 use Rattle.words.proofs.Booleans.{absurd-true, and-left, and-right, and-both}
 use Rattle.words.proofs.Elements.{all-at, all-append, all-tail, all-head}
+use Rattle.tables.specs.Tables.{Tables}
 use Rattle.plans.specs.Plans.{Plan, branchAt}
 use Rattle.steps.specs.Levels.{hasLevel}
+use Rattle.steps.specs.Positions.{Position}
+use Rattle.steps.specs.Years.{isYearRead}
 use Rattle.steps.specs.Steps.{State}
-use Rattle.steps.specs.Saved.{upperWords, positionWords, stateWords, behindSurvey, isSurvey, isPlace, positionRight, shapeBehind, shapeRight}
+use Rattle.steps.specs.Saved.{upperWords, positionWords, stateWords, yearIn, isSurvey, isYear, isPlace, positionRight, shapeBehind, shapeRight}
 use Rattle.steps.specs.Saved.{numberRight, surveyRight, upperIn, positionIn, stateIn}
 
 -- a number that a word's low bits hold
 abbrev pub fitsLow : ℕ → Bool
 fitsLow n = ltb n lowNumbers
 
--- a state whose words hold its numbers
-pub record Fits (s : State) : Type 0 where
+-- a position whose words hold its numbers
+pub record Fits (s : Position) : Type 0 where
   pub position : s .branch * depths + suc (length (s .upper)) < lowNumbers
   pub depth : suc (length (s .upper)) < depths
   pub upper : all fitsLow (s .upper) ≡ true
@@ -50,13 +54,13 @@ module _ (b d : ℕ) (h : b * depths + d < lowNumbers) (l : d < depths) where
 position-of : (w : ℕ) → kind w ≡ positionKind → positionWord (branchOf w) (depthOf w) ≡ w
 position-of w e = omega arith
 
--- ---- a state's words
+-- ---- a position's words
 pub upper-length : (upper : List ℕ) → length (upperWords upper) ≡ length upper
 unfolding upperWords
 upper-length [] = refl
 upper-length (p ∷ upper) = omega (arith, length-append (upperWords upper) (placeWord p ∷ []), upper-length upper)
 
-pub position-length : (s : State) → length (positionWords s) ≡ suc (suc (length (s .upper)))
+pub position-length : (s : Position) → length (positionWords s) ≡ suc (suc (length (s .upper)))
 unfolding positionWords
 position-length s =
     omega (arith, length-append (upperWords (s .upper)) (placeWord (s .place) ∷ []), upper-length (s .upper))
@@ -73,8 +77,8 @@ upper-back w (p ∷ upper) rest e =
     rw (append-assoc (upperWords upper) (placeWord p ∷ []) rest)
     (ap₂ _∷_ (ap low (word-behind w upper (placeWord p) rest) ∙ low-place p f) (upper-back w upper (placeWord p ∷ rest) (all-tail fitsLow p upper e)))
 
--- what reads back is the state
-pub position-back : (s : State) → Fits s → positionIn (positionWords s) ≡ s
+-- what reads back is the position
+pub position-back : (s : Position) → Fits s → positionIn (positionWords s) ≡ s
 unfolding positionIn positionWords
 position-back s f =
     let w = positionWord (s .branch) (suc (length (s .upper))) in
@@ -95,8 +99,8 @@ places-right (p ∷ upper) e =
     all-append isPlace (upperWords upper) (placeWord p ∷ []) (places-right upper (all-tail fitsLow p upper e))
     (and-both (isPlace (placeWord p)) true (is-place p (ltb-true p lowNumbers (all-head fitsLow p upper e))) refl)
 
--- a state in the plan has words of the right shape
-pub position-shape : (q : Plan) (s : State) → Fits s → s .branch < length (q .branches)
+-- a position in the plan has words of the right shape
+pub position-shape : (q : Plan) (s : Position) → Fits s → s .branch < length (q .branches)
     → hasLevel (branchAt q (s .branch) .terms) (length (s .upper)) ≡ true → shapeBehind q (positionWords s) ≡ true
 unfolding shapeBehind positionWords all
 position-shape q s f b l =
@@ -132,7 +136,7 @@ upper-words w ps (suc n) h e =
     let x = place-low (getD ps n 0) k in
     rw (add-one n, upper-words w ps n (omega arith) e, x, take-suc ps n 0 (omega arith))
 
--- what test 9 says of words behind the survey's
+-- what test 9 says of words behind the year's
 pub record Behind (q : Plan) (ws : List ℕ) : Type 0 where
   pub branch : positionIn ws .branch < length (q .branches)
   pub level : hasLevel (branchAt q (positionIn ws .branch) .terms) (length (positionIn ws .upper)) ≡ true
@@ -161,15 +165,19 @@ behind-in q w ps e l a =
           ∙ sym (take-suc ps (d - 1) 0 (omega arith)) ∙ take-all (suc (d - 1)) ps (omega arith));
     }
 
+none-behind : {A : Type 0} (q : Plan) → shapeBehind q [] ≡ true → A
+unfolding shapeBehind
+none-behind q e = absurd-true refl (sym e)
+
 behind-of : (q : Plan) (ws : List ℕ) → shapeBehind q ws ≡ true → Behind q ws
 unfolding shapeBehind
-behind-of q [] e = absurd-true refl (sym e)
+behind-of q [] e = none-behind q e
 behind-of q (w ∷ ps) e =
     let f = and-right (positionRight q w) _ e in
     let l = eqb-true (length (w ∷ ps)) (1 + depthOf w) (and-left (eqb (length (w ∷ ps)) (1 + depthOf w)) _ f) in
     behind-in q w ps (and-left (positionRight q w) _ e) (omega arith) (and-right (eqb (length (w ∷ ps)) (1 + depthOf w)) _ f)
 
--- ---- with the survey's word
+-- ---- with the survey's word and the year's
 pub survey-kind : (survey : ℕ) → survey < lowNumbers → isSurvey (surveyWord survey) ≡ true
 survey-kind survey h = eq-eqb (kind (surveyWord survey)) surveyKind (omega arith)
 
@@ -179,28 +187,59 @@ survey-low survey h = omega arith
 survey-of : (w : ℕ) → kind w ≡ surveyKind → surveyWord (low w) ≡ w
 survey-of w e = omega arith
 
--- a state in the plan has words that pass tests 9 and 22
-pub words-shape : (survey : ℕ) → survey < lowNumbers → (q : Plan) (s : State) → Fits s → s .branch < length (q .branches)
-    → hasLevel (branchAt q (s .branch) .terms) (length (s .upper)) ≡ true → shapeRight q (stateWords survey s) ≡ true
-words-shape survey h q s f b l =
-    and-both (isSurvey (surveyWord survey)) (shapeBehind q (positionWords s)) (survey-kind survey h) (position-shape q s f b l)
+pub year-kind : (year : ℕ) → year < lowNumbers → isYear (yearWord year) ≡ true
+year-kind year h = eq-eqb (kind (yearWord year)) yearKind (omega arith)
+
+pub year-low : (year : ℕ) → year < lowNumbers → low (yearWord year) ≡ year
+year-low year h = omega arith
+
+year-of : (w : ℕ) → kind w ≡ yearKind → yearWord (low w) ≡ w
+year-of w e = omega arith
+
+-- what reads back is the state
+pub state-back : (survey : ℕ) (s : State) → s .year < lowNumbers → Fits (s .position) → stateIn (stateWords survey s) ≡ s
+state-back survey s h f =
+    let y = year-low (s .year) h in
+    let p = position-back (s .position) f in
+    λ i. record { year = y i; position = p i }
+
+-- a state in the plan, of a year that is read, has words that pass tests 9 and 22
+pub words-shape : (survey : ℕ) → survey < lowNumbers → (t : Tables) (q : Plan) (s : State) → s .year < lowNumbers
+    → isYearRead t (q .years) (s .year) ≡ true → Fits (s .position) → s .position .branch < length (q .branches)
+    → hasLevel (branchAt q (s .position .branch) .terms) (length (s .position .upper)) ≡ true → shapeRight t q (stateWords survey s) ≡ true
+words-shape survey h t q s g e f b l =
+    let read : isYearRead t (q .years) (low (yearWord (s .year))) ≡ true = rw (year-low (s .year) g) e in
+    and-both (isSurvey (surveyWord survey)) _ (survey-kind survey h)
+    (and-both (isYear (yearWord (s .year))) _ (year-kind (s .year) g)
+    (and-both (isYearRead t (q .years) (low (yearWord (s .year)))) _ read (position-shape q (s .position) f b l)))
 
 pub words-survey : (survey : ℕ) → survey < lowNumbers → (s : State) → surveyRight survey (stateWords survey s) ≡ true
 words-survey survey h s =
     and-both (numberRight survey) _ (lt-ltb survey lowNumbers h) (eq-eqb (low (surveyWord survey)) survey (survey-low survey h))
 
 -- what test 9 says of words
-pub record Shape (q : Plan) (ws : List ℕ) : Type 0 where
-  pub branch : stateIn ws .branch < length (q .branches)
-  pub level : hasLevel (branchAt q (stateIn ws .branch) .terms) (length (stateIn ws .upper)) ≡ true
+pub record Shape (t : Tables) (q : Plan) (ws : List ℕ) : Type 0 where
+  pub year : isYearRead t (q .years) (yearIn ws) ≡ true
+  pub branch : stateIn ws .position .branch < length (q .branches)
+  pub level : hasLevel (branchAt q (stateIn ws .position .branch) .terms) (length (stateIn ws .position .upper)) ≡ true
   pub words : stateWords (low (getD ws 0 0)) (stateIn ws) ≡ ws
 
-pub shape-of : (q : Plan) (ws : List ℕ) → shapeRight q ws ≡ true → Shape q ws
-shape-of q [] e = absurd-true refl (sym e)
-shape-of q (w ∷ ws) e =
-    let b = behind-of q ws (and-right (isSurvey w) (shapeBehind q ws) e) in
-    let k = eqb-true (kind w) surveyKind (and-left (isSurvey w) (shapeBehind q ws) e) in
-    record { branch = b .branch; level = b .level; words = ap₂ _∷_ (survey-of w k) (b .words) }
+pub shape-of : (t : Tables) (q : Plan) (ws : List ℕ) → shapeRight t q ws ≡ true → Shape t q ws
+shape-of t q [] e = absurd-true refl (sym e)
+shape-of t q (w ∷ []) e =
+    none-behind q (and-right (isYearRead t (q .years) 0) (shapeBehind q []) (and-right (isSurvey w) _ e))
+shape-of t q (w ∷ y ∷ ws) e =
+    let f = and-right (isSurvey w) _ e in
+    let g = and-right (isYear y) _ f in
+    let b = behind-of q ws (and-right (isYearRead t (q .years) (low y)) (shapeBehind q ws) g) in
+    let k = eqb-true (kind w) surveyKind (and-left (isSurvey w) _ e) in
+    let l = eqb-true (kind y) yearKind (and-left (isYear y) _ f) in
+    record {
+      year = and-left (isYearRead t (q .years) (low y)) (shapeBehind q ws) g;
+      branch = b .branch;
+      level = b .level;
+      words = ap₂ _∷_ (survey-of w k) (ap₂ _∷_ (year-of y l) (b .words));
+    }
 
 -- and test 22 after it
 pub record OfSurvey (survey : ℕ) (ws : List ℕ) : Type 0 where
@@ -214,7 +253,7 @@ survey-right survey ws e =
       same = eqb-true (low (getD ws 0 0)) survey (and-right (numberRight survey) _ e);
     }
 
-pub words-under : (survey : ℕ) (q : Plan) (ws : List ℕ) → shapeRight q ws ≡ true → surveyRight survey ws ≡ true
+pub words-under : (survey : ℕ) (t : Tables) (q : Plan) (ws : List ℕ) → shapeRight t q ws ≡ true → surveyRight survey ws ≡ true
     → stateWords survey (stateIn ws) ≡ ws
-words-under survey q ws e f =
-    ap (λ n. stateWords n (stateIn ws)) (sym (survey-right survey ws f .same)) ∙ shape-of q ws e .words
+words-under survey t q ws e f =
+    ap (λ n. stateWords n (stateIn ws)) (sym (survey-right survey ws f .same)) ∙ shape-of t q ws e .words

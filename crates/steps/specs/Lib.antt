@@ -1,5 +1,7 @@
 pub mod Machines
 pub mod Levels
+pub mod Positions
+pub mod Years
 pub mod Steps
 pub mod Saved
 pub mod Computing

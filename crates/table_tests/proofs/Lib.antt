@@ -1,3 +1,5 @@
 pub mod RowKinds
+pub mod Keys
 pub mod Walking
 pub mod Refusing
+pub mod Bounds

@@ -4,17 +4,17 @@ use native.Mathlib.Omega.{arith}
 use native.Mathlib.Decide.{decLt}
 use native.Mathlib.Numerals.{add-one}
 use mathlib.Core.Path.{_≡_, refl, sym, _∙_, ap, subst}
-use mathlib.Core.Bool.{Bool, true, false, _&&_}
+use mathlib.Core.Bool.{Bool, true, false, cond, _&&_}
 use lib.Dec.{ltb}
 use borrow.Author.Tests.{lt-ltb, le-ltb, ltb-true, ltb-false}
 use Rattle.words.specs.Sequences.{allBelow, lexBefore}
 use Rattle.words.proofs.Booleans.{and-left, and-right, and-both}
-use Rattle.words.proofs.Counting.{fails-below}
+use Rattle.words.proofs.Counting.{all-at, fails-below}
 use Rattle.tables.specs.declared.Order.{Order}
 use Rattle.tables.specs.declared.Order.the-variants.{Osp}
-use Rattle.tables.specs.Tables.{Tables, rowCount, rowAt, fieldsAt}
+use Rattle.tables.specs.Tables.{Tables, rowCount, rowAt}
 use Rattle.table_tests.specs.declared.Reading.{Reading}
-use Rattle.table_tests.specs.Walk.{orderAt, orderCount, readingAt, rightUpto, orderRight, rightOrders}
+use Rattle.table_tests.specs.Walk.{orderAt, orderCount, keysAt, readingAt, rightUpto, orderRight, rightOrders}
 
 -- ---- numbers of orders
 pub third-order : (turn : ℕ) → (turn ≡ 0 → ⊥) → (turn ≡ 1 → ⊥) → Osp ≡ orderAt turn
@@ -22,12 +22,21 @@ third-order zero n m = absurd (n refl)
 third-order (suc zero) n m = absurd (m refl)
 third-order (suc (suc k)) n m = refl
 
+-- ---- the year that a row's own is compared with: where all are alike its own, else that of the row before it
+pub year-apart : (alike : Bool) (own before : ℕ) → (cond alike own before ≡ own → ⊥) → cond alike own before ≡ before
+year-apart true own before h = absurd (h refl)
+year-apart false own before h = refl
+
+pub year-same : (alike : Bool) (own before : ℕ) → cond alike own before ≡ own → (alike ≡ true → before ≡ own) → before ≡ own
+year-same true own before e f = f refl
+year-same false own before e f = e
+
 module _ (t : Tables) (o : Order) where
   abbrev names : ℕ → Bool
   names place = ltb (rowAt o t place) (rowCount t)
 
   abbrev climbs : ℕ → Bool
-  climbs place = lexBefore (fieldsAt o t place) (fieldsAt o t (suc place))
+  climbs place = lexBefore (keysAt o t place) (keysAt o t (suc place))
 
   -- ---- a place that was read
   module _ (place : ℕ) (r : Reading) (e : r ≡ readingAt t o place) where
@@ -38,8 +47,8 @@ module _ (t : Tables) (o : Order) where
     pub read-row : r .named ≡ true → rowAt o t place < rowCount t
     read-row h = ltb-true _ _ (sym (read-cases (names place) refl) ∙ h)
 
-    pub read-fields : r .named ≡ true → r .fields ≡ fieldsAt o t place
-    read-fields h = ap (λ x. x .fields) e ∙ rw (sym (read-cases (names place) refl) ∙ h)
+    pub read-keys : r .named ≡ true → r .keys ≡ keysAt o t place
+    read-keys h = ap (λ x. x .keys) e ∙ rw (sym (read-cases (names place) refl) ∙ h)
 
     pub read-none : r .named ≡ false → rowCount t ≤ rowAt o t place
     read-none h = ltb-false _ _ (sym (read-cases (names place) refl) ∙ h)
@@ -53,6 +62,10 @@ module _ (t : Tables) (o : Order) where
   unfolding rightUpto allBelow
   upto-first h = rw (lt-ltb (rowAt o t 0) (rowCount t) h)
 
+  pub upto-named : (n : ℕ) → rightUpto t o n ≡ true → (p : ℕ) → p < n → rowAt o t p < rowCount t
+  unfolding rightUpto
+  upto-named n e p h = ltb-true _ _ (all-at names n (and-left (allBelow names n) (allBelow climbs (n - 1)) e) p h)
+
   upto-more : (p : ℕ) → rightUpto t o (suc p) ≡ true → names (suc p) ≡ true → climbs p ≡ true → rightUpto t o (suc (suc p)) ≡ true
   unfolding rightUpto allBelow
   upto-more p e n c =
@@ -65,7 +78,7 @@ module _ (t : Tables) (o : Order) where
       (and-both (allBelow climbs p) (climbs p) (and-right (allBelow names (suc p)) (allBelow climbs p) e₁) c))
 
   pub upto-next : (place : ℕ) → 1 ≤ place → rightUpto t o place ≡ true → rowAt o t place < rowCount t
-      → lexBefore (fieldsAt o t (place - 1)) (fieldsAt o t place) ≡ true → rightUpto t o (place + 1) ≡ true
+      → lexBefore (keysAt o t (place - 1)) (keysAt o t place) ≡ true → rightUpto t o (place + 1) ≡ true
   upto-next zero h e n c = absurd (omega arith)
   upto-next (suc p) h e n c =
       let a : suc p - 1 ≡ p = omega arith in
@@ -85,7 +98,7 @@ module _ (t : Tables) (o : Order) where
       no-more false = refl
 
   pub descent-fault : (place : ℕ) → 1 ≤ place → place < rowCount t
-      → lexBefore (fieldsAt o t (place - 1)) (fieldsAt o t place) ≡ false → orderRight t o ≡ false
+      → lexBefore (keysAt o t (place - 1)) (keysAt o t place) ≡ false → orderRight t o ≡ false
   descent-fault zero l h e = absurd (omega arith)
   descent-fault (suc p) l h e = let a : suc p - 1 ≡ p = omega arith in climbs-not p h (rw a at e)
 

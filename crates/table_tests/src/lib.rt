@@ -1,11 +1,18 @@
 // The tests of lent tables.
 mod checking;
+mod own_order;
 
 pub use checking::check;
 use tables::COLUMNS;
 
-// A place of an order as the walk reads it: whether it names a row, and then that row's fields.
+// A place of an order as the walk reads it: whether it names a row, and then what is compared of that row.
 pub struct Reading {
     pub named: bool,
-    pub fields: [u32; COLUMNS],
+    pub keys: [u32; COLUMNS],
+}
+
+// What one pass over the rows finds: whether they pass the tests that are made of them alone, and whether the first and the last have one year.
+pub struct Found {
+    pub fine: bool,
+    pub alike: bool,
 }

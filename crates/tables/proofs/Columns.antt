@@ -31,6 +31,7 @@ field-at o rows row k h =
     default (map (fieldOf rows row) (columnsOf o)) 0 (fieldOf rows row 0) k (omega arith)
     ∙ List·getD-map (fieldOf rows row) (columnsOf o) k 0
 
--- one of a row's words that is neither the first nor the second is the third
-pub third-part : (words : List ℕ) (at : ℕ) → at < columnCount → (at ≡ 0 → ⊥) → (at ≡ 1 → ⊥) → getD words 2 0 ≡ getD words at 0
-third-part words at h n m = ap (λ k. getD words k 0) (let e : 2 ≡ at = omega arith in e)
+-- one of a row's words that is none of the first three is the last
+pub last-part : (words : List ℕ) (at : ℕ) → at < columnCount → (at ≡ 0 → ⊥) → (at ≡ 1 → ⊥) → (at ≡ 2 → ⊥)
+    → getD words 3 0 ≡ getD words at 0
+last-part words at h n m l = ap (λ k. getD words k 0) (let e : 3 ≡ at = omega arith in e)

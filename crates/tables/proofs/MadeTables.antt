@@ -1,4 +1,4 @@
--- The tables of rows that tables may have are right: tests 1 to 4 accept them.
+-- The tables of rows that tables may have are right: the tests accept them.
 use Prim.Native.Nat.{ℕ, suc, _-_, _/_, _<_}
 use native.Mathlib.Omega.{arith}
 use mathlib.Core.Path.{_≡_, sym, subst}
@@ -69,6 +69,7 @@ module _ (rows : List ℕ) (r : RowsRight rows) where
       record {
         sized = record { whole = r .whole; few = r .few; pos-length = list-length Pos rows; osp-length = list-length Osp rows };
         kinds = r .kinds;
+        years = r .years;
         named = named;
         up = up;
       }

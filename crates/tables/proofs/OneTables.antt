@@ -101,5 +101,6 @@ module _ (t u : Tables) (w : Right t) (x : Right u) (e : t .rows ≡ u .rows) wh
 pub made-again : (t : Tables) → Right t → t ≡ tablesFrom (t .rows)
 made-again t w =
     one-tables t (tablesFrom (t .rows)) w
-    (made-right (t .rows) (record { whole = w .sized .whole; few = w .sized .few; kinds = w .kinds; up = w .up Spo }))
+    (made-right (t .rows)
+    (record { whole = w .sized .whole; few = w .sized .few; kinds = w .kinds; years = w .years; up = w .up Spo }))
     refl

@@ -1,4 +1,4 @@
--- Tables are accepted by tests 1 to 4 exactly when they are right.
+-- Tables are accepted by their tests exactly when they are right.
 use Prim.Native.Nat.{ℕ, suc, _-_, _%_, _<_}
 use native.Mathlib.Omega.{arith}
 use mathlib.Core.Path.{_≡_, refl}
@@ -18,7 +18,7 @@ use Rattle.words.proofs.Elements.{all-element, element-all}
 use Rattle.tables.specs.declared.Order.{Order}
 use Rattle.tables.specs.declared.Order.the-variants.{Spo, Pos, Osp}
 use Rattle.tables.specs.Tables.{Tables, columnCount, mostRows, rowCount, fieldOf, rowAt, fieldsAt, fieldRight, rowRight, tableTests}
-use Rattle.tables.specs.Tables.{lengthsRight, kindsRight, ascends, namesRows, listsRight}
+use Rattle.tables.specs.Tables.{yearColumn, yearRight, lengthsRight, kindsRight, yearsRight, ascends, namesRows, listsRight}
 use Rattle.tables.specs.Right.{Sized, Right}
 
 module _ (t : Tables) where
@@ -59,6 +59,15 @@ module _ (t : Tables) where
   unfolding kindsRight rowRight
   at-kinds h = at-all _ (rowCount t) (λ row l. at-all _ columnCount (λ column k. h row column l k))
 
+  -- test 23
+  years-at : yearsRight t ≡ true → (row : ℕ) → row < rowCount t → yearRight (fieldOf (t .rows) row yearColumn) ≡ true
+  unfolding yearsRight
+  years-at e row h = all-at _ (rowCount t) e row h
+
+  at-years : ((row : ℕ) → row < rowCount t → yearRight (fieldOf (t .rows) row yearColumn) ≡ true) → yearsRight t ≡ true
+  unfolding yearsRight
+  at-years h = at-all _ (rowCount t) h
+
   -- tests 3 and 4
   abbrev Up : Order → Type 0
   Up o = (place : ℕ) → suc place < rowCount t → lexBefore (fieldsAt o t place) (fieldsAt o t (suc place)) ≡ true
@@ -90,6 +99,7 @@ module _ (t : Tables) where
       record {
         sized = s;
         kinds = kinds-at (p 2);
+        years = years-at (p 23);
         named =
             named (named-at (t .pos) (s .pos-length) (and-left (namesRows t (t .pos)) _ (p 4)))
             (named-at (t .osp) (s .osp-length) (and-left (namesRows t (t .osp)) _ l₁));
@@ -111,7 +121,7 @@ module _ (t : Tables) where
   pub accepted : Right t → firstFailing (tableTests t) ≡ none
   accepted r =
       all-passes (tableTests t)
-      (sized-lengths (r .sized), (at-kinds (r .kinds), (at-up Spo (r .up Spo), (lists, tt))))
+      (sized-lengths (r .sized), (at-kinds (r .kinds), (at-years (r .years), (at-up Spo (r .up Spo), (lists, tt)))))
     where
       lists : listsRight t ≡ true
       lists =

@@ -2,8 +2,8 @@
 use Rattle.tables.specs.Ranges.{startAmong, endAmong, rangeStart, rangeEnd, inRange}
 use Rattle.tables.specs.RowLists.{rowNumbers}
 use Rattle.tables.specs.Sides.{sideOf}
-use Rattle.tables.specs.Tables.{fieldsOf, lengthsRight, rowRight, kindsRight, ascends, namesRows}
+use Rattle.tables.specs.Tables.{fieldsOf, lengthsRight, rowRight, kindsRight, yearsRight, ascends, namesRows}
 
 unfoldable pub computing : Unit {0}
-unfolding startAmong endAmong rangeStart rangeEnd inRange rowNumbers sideOf fieldsOf lengthsRight rowRight kindsRight ascends namesRows
+unfolding startAmong endAmong rangeStart rangeEnd inRange rowNumbers sideOf fieldsOf lengthsRight rowRight kindsRight yearsRight ascends namesRows
 computing = tt

@@ -82,17 +82,19 @@ fn plans() {
     try_plan(b"9 deep", plan::with_tree(8, 0, 1));
     try_plan(b"256 words", plan::long(2));
     try_plan(b"257 words", plan::long(3));
+    try_plan(b"year 9999 named", plan::of_year(9999));
+    try_plan(b"year 10000 named", plan::of_year(10000));
 }
 
 fn states() {
     let mut enough = [0u32; STATE_WORDS];
     say_written(
-        b"10 words of state",
+        b"11 words of state",
         opened(MOST_SURVEY, plan::with_tree(0, 0, 1), &mut enough),
     );
-    let mut few = [0u32; 9];
+    let mut few = [0u32; 10];
     say_written(
-        b"9 words of state",
+        b"10 words of state",
         opened(MOST_SURVEY, plan::with_tree(0, 0, 1), &mut few),
     );
 }
@@ -112,5 +114,6 @@ fn main() {
     states();
     surveys();
     wood::quanta();
+    wood::years();
     wood::sizes();
 }

@@ -95,6 +95,12 @@ pub fn with_tree(nots: u32, levels: u32, leaves: u32) -> Draft {
     ended(with_branch(with(empty(), PlanWord::head(1).0), 1, nots, levels, leaves))
 }
 
+// The same of a year that it names, with one comparison.
+pub fn of_year(year: u32) -> Draft {
+    let named = with(empty(), PlanWord::year(year).0);
+    ended(with_branch(with(named, PlanWord::head(1).0), 1, 0, 0, 1))
+}
+
 // Four branches, 254 words and so many nots.
 pub fn long(nots: u32) -> Draft {
     let first = with_branch(with(empty(), PlanWord::head(4).0), 8, 0, 4, 16);

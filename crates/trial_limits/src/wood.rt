@@ -1,9 +1,10 @@
-// Turns at the limits of the quantum and of the rows.
+// Turns at the limits of the quantum, of a row's year and of the rows.
 use crate::say_turned;
 use tables::COLUMNS;
 use tables::OBJECT;
 use tables::PREDICATE;
 use tables::SUBJECT;
+use tables::YEAR;
 use turn_calls::STATE_WORDS;
 use turns::Turned;
 use words::PlanWord;
@@ -46,18 +47,19 @@ fn turned(rows: &[u32], list: &[u32], quantum: u32) -> Turned {
         MOST_SURVEY,
         &p,
         &mut state,
-        3,
+        4,
         quantum,
         &rows[..0],
         &mut output,
     )
 }
 
-// Row number r is (n r, n 0, i r), so that both lists count up.
+// Row number r is (i 2026, n r, n 0, i r), so that both lists count up.
 fn grow(rows: &mut [u32; ROW_WORDS], list: &mut [u32; ROWS]) {
     let mut r: usize = 0;
     while r < ROWS {
         let at = r * COLUMNS;
+        rows[at + YEAR] = Term::number(2026).0;
         rows[at + SUBJECT] = Term::name(r as u32).0;
         rows[at + PREDICATE] = Term::name(0).0;
         rows[at + OBJECT] = Term::number(r as u32).0;
@@ -74,6 +76,26 @@ pub fn quanta() {
     say_turned(b"quantum 1000001", turned(none, none, 1000001));
     say_turned(b"quantum 1", turned(none, none, 1));
     say_turned(b"quantum 0", turned(none, none, 0));
+}
+
+// One row of a year.
+fn try_year(what: &[u8], year: u32) {
+    let row = [
+        Term::number(year).0,
+        Term::name(0).0,
+        Term::name(0).0,
+        Term::number(0).0,
+    ];
+    let list = [0u32; 1];
+    say_turned(what, turned(&row, &list, 2));
+}
+
+// The years that a row may have: the first and the last, and those beside them.
+pub fn years() {
+    try_year(b"year 0", 0);
+    try_year(b"year 1", 1);
+    try_year(b"year 9999", 9999);
+    try_year(b"year 10000", 10000);
 }
 
 // One turn over the first rows, so many.

@@ -14,7 +14,7 @@ use Rattle.words.specs.Sequences.{all, over}
 use Rattle.words.specs.Tests.{Test, firstFailing, numberOf}
 use Rattle.words.proofs.Testing.{passes-all, testNumbered, test-passed}
 use Rattle.plans.specs.Plans.{planOf}
-use Rattle.steps.specs.Steps.{State, startOf}
+use Rattle.steps.specs.Steps.{State, start}
 use Rattle.step_cursors.specs.declared.Cursor.{Cursor}
 use Rattle.step_cursors.specs.Held.{stateOf}
 use Rattle.steps.specs.Saved.{stateWords, leastStateWords, numberRight}
@@ -72,7 +72,7 @@ module _ (v : Survey) (plan state : List ℕ) where
           (ltb-true (v .number) lowNumbers (s 22), leb-true leastStateWords (length state) (s 7))
 
   -- what is written is the start state's words
-  pub opened-words : (c : Cursor) → stateOf c ≡ startOf (v .tables) (planOf plan) 0
+  pub opened-words : (c : Cursor) → stateOf c ≡ start (v .tables) (planOf plan)
       → openOf v plan state ≡ openedWith (startWords v plan) state → (n : ℕ) (after : List ℕ)
       → (n ≡ length (stateWords (v .number) (stateOf c))) × (after ≡ over (stateWords (v .number) (stateOf c)) state)
       → record { answer = Words n; state = after } ≡ openOf v plan state

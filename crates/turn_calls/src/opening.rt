@@ -32,6 +32,6 @@ pub fn open(
         return Written::Refused(own);
     }
     let mut bound = [Term::UNBOUND; 16];
-    let from = step_moves::start_branch(rows, pos, osp, plan, 0, &mut bound);
+    let from = step_moves::start(rows, pos, osp, plan, &mut bound);
     Written::Words(state_saving::save(survey, from, state))
 }

@@ -62,7 +62,7 @@ module _ (i : TurnInput) where
         sent = s 11;
       }
 
--- ---- tests 1 to 6, which opening and a turn begin with
+-- ---- the tests of tables and plan, which opening and a turn begin with
 module _ (t : Tables) (plan : List ℕ) where
   abbrev pub earlyTests : List Test
   earlyTests = tableTests t ++ planTests plan
@@ -113,7 +113,7 @@ module _ (i : TurnInput) where
   sizeTests = (7, roomRight (givenPlan i .ending)) ∷ (8, quantumRight) ∷ []
 
   abbrev shapeGiven : Bool
-  shapeGiven = leb (i .given) (length (i .state)) && shapeRight (givenPlan i) (givenState i)
+  shapeGiven = leb (i .given) (length (i .state)) && shapeRight (i .survey .tables) (givenPlan i) (givenState i)
 
   abbrev lateTests : List Test
   lateTests =

@@ -37,7 +37,7 @@ pub const SURVEY: u32 = 22;
 
 pub const ACCEPTED: u32 = 0;
 
-// Tests 1 to 6: 0, or the number of the first that tables and plan fail.
+// The tests of tables and plan: 0, or the number of the first that fails.
 pub fn check(rows: &[u32], pos: &[u32], osp: &[u32], plan: &[u32]) -> u32
     ensures { λ r. ⌜ r ≡ numberOf (firstFailing (tableTests (tablesOf (now (rows .entry)) (now (pos .entry)) (now (osp .entry)))
         ++ planTests (now (plan .entry)))) ⌝ }
@@ -99,7 +99,8 @@ fn load(
     requires { ⌜ Right (tablesOf (now rows) (now pos) (now osp)) ⌝ }
     requires { ⌜ hasForm (readPlan (now plan)) ≡ true ⌝ }
     ensures { λ r. ⌜ r .refused ≡ lateNumber
-        (leb given (length (now (state .entry))) && shapeRight (planOf (now (plan .entry))) (take given (now (state .entry))))
+        (leb given (length (now (state .entry))) && shapeRight (tablesOf (now (rows .entry)) (now (pos .entry)) (now (osp .entry)))
+        (planOf (now (plan .entry))) (take given (now (state .entry))))
         (surveyRight survey (take given (now (state .entry))))
         (placesRight (tablesOf (now (rows .entry)) (now (pos .entry)) (now (osp .entry))) (planOf (now (plan .entry))) (take given (now (state .entry))))
         (thresholdRight (planOf (now (plan .entry)) .ending) (now (threshold .entry))) ⌝ }

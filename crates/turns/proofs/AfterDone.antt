@@ -8,6 +8,7 @@ use lib.Dec.{leb}
 use lib.ListN.{length, take}
 use Rattle.words.specs.Tests.{FirstFails}
 use Rattle.words.proofs.Testing.{some-injective, testNumbered, some-fails, fails-at, fails-first}
+use Rattle.tables.specs.Tables.{Tables}
 use Rattle.plans.specs.Plans.{Plan}
 use Rattle.steps.specs.Saved.{shapeRight}
 use Rattle.turns.specs.declared.TurnEnding.the-variants.{Done}
@@ -18,8 +19,8 @@ use Rattle.turns.proofs.Refusals.{turn-refusals}
 use Rattle.turns.proofs.Endings.{endings}
 
 -- no words have the shape of no state
-pub no-shape : (q : Plan) → shapeRight q [] ≡ false
-no-shape q = refl
+pub no-shape : (t : Tables) (q : Plan) → shapeRight t q [] ≡ false
+no-shape t q = refl
 
 fails-right : (a b : Bool) → b ≡ false → a && b ≡ false
 fails-right true b e = e
@@ -28,8 +29,8 @@ fails-right false b e = refl
 -- so test 9 fails
 state-fails : (j : TurnInput) → j .given ≡ 0 → testNumbered 9 (turnTests j) ≡ false
 state-fails j e =
-    fails-right (leb (j .given) (length (j .state))) (shapeRight (givenPlan j) (take (j .given) (j .state)))
-    (ap (λ n. shapeRight (givenPlan j) (take n (j .state))) e ∙ no-shape (givenPlan j))
+    fails-right (leb (j .given) (length (j .state))) (shapeRight (j .survey .tables) (givenPlan j) (take (j .given) (j .state)))
+    (ap (λ n. shapeRight (j .survey .tables) (givenPlan j) (take n (j .state))) e ∙ no-shape (j .survey .tables) (givenPlan j))
 
 pub no-state-refused : (j : TurnInput) → j .given ≡ 0 → NoStateRefused j
 no-state-refused j e =

@@ -2,28 +2,33 @@
 -- Its buffers keep their lengths.
 use Prim.Native.Nat.{_≤_}
 use native.Mathlib.Omega.{arith}
-use mathlib.Core.Path.{_≡_, refl, sym, _∙_, ap}
+use mathlib.Core.Path.{_≡_, sym, _∙_, ap}
 use mathlib.Core.Bool.{true}
 use mathlib.Core.Option.{Option, none, some}
 use mathlib.Core.List.{_++_}
 use lib.ListN.{length}
 use lib.Dec.{leb}
 use Rattle.words.proofs.Booleans.{and-right}
+use Rattle.words.proofs.Testing.{all-passes, front-passes}
 use Rattle.words.proofs.Buffers.{length-over}
-use Rattle.plans.specs.Plans.{readPlan}
+use Rattle.tables.specs.Tables.{section, tableTests}
+use Rattle.tables.specs.Right.{Right}
+use Rattle.tables.proofs.RightTables.{right}
+use Rattle.plans.specs.Plans.{readPlan, planTests}
 use Rattle.plans.proofs.Bounds.{PlanForm, plan-form, was-read}
-use Rattle.steps.specs.Steps.{State, after}
-use Rattle.steps.specs.Saved.{leastStateWords, shapeRight, stateIn, stateWords, savedWords}
+use Rattle.steps.specs.Steps.{State}
+use Rattle.steps.specs.Saved.{leastStateWords, yearIn, behindYear, shapeRight, positionIn, stateIn, savedWords}
 use Rattle.steps.proofs.Runs.{after-state, after-rows}
-use Rattle.steps.proofs.Right.{Right, accepted-right, RightOrDone, right-from}
-use Rattle.steps.proofs.Reached.{reached}
+use Rattle.steps.proofs.Right.{accepted-right}
+use Rattle.steps.proofs.RightStates.{RightState, RightOrDone, right-from}
+use Rattle.steps.proofs.YearRuns.{reached}
 use Rattle.steps.proofs.SavedWords.{shape-of, words-under}
 use Rattle.steps.proofs.AcceptedStates.{words-most}
-use Rattle.turns.specs.Turns.{TurnInput, givenState, givenPlan, turnOf}
+use Rattle.turns.specs.Turns.{TurnInput, givenState, givenPlan, ownTests, turnOf}
 use Rattle.turns.specs.Refusals.{Served}
 use Rattle.turns.specs.Follows.{turnRun, listOf}
 use Rattle.turns.specs.OnTheRun.{OnTheRun, KeepsLengths}
-use Rattle.turns.proofs.Refusals.{turn-passed}
+use Rattle.turns.proofs.Refusals.{turn-passed, turn-refusals}
 use Rattle.turns.proofs.Follows.{follows}
 use Rattle.turns.proofs.Limits.{turn-limits}
 
@@ -32,26 +37,35 @@ module _ (i : TurnInput) (serve : Served i) where
   given-form =
       plan-form (i .plan) (givenPlan i) (was-read (readPlan (i .plan)) (turn-passed i 5 serve))
 
-  shape : shapeRight (givenPlan i) (givenState i) ≡ true
+  -- the tests of the tables
+  tables-right : Right (i .survey .tables)
+  tables-right =
+      right (i .survey .tables) (all-passes (tableTests (i .survey .tables))
+      (front-passes (tableTests (i .survey .tables)) (planTests (i .plan) ++ ownTests i) (turn-refusals i .serves .0 serve)))
+
+  shape : shapeRight (i .survey .tables) (givenPlan i) (givenState i) ≡ true
   shape =
-      and-right (leb (i .given) (length (i .state))) (shapeRight (givenPlan i) (givenState i))
+      and-right (leb (i .given) (length (i .state))) (shapeRight (i .survey .tables) (givenPlan i) (givenState i))
       (turn-passed i 9 serve)
 
   -- tests 9 and 10
-  pub given-right : Right (i .survey .tables) (givenPlan i) (stateIn (givenState i))
+  pub given-right : RightState (i .survey .tables) (givenPlan i) (stateIn (givenState i))
   given-right =
-      let x = shape-of (givenPlan i) (givenState i) shape in
-      accepted-right (i .survey .tables) (givenPlan i) (stateIn (givenState i)) (x .branch) (x .level)
-      (turn-passed i 10 serve)
+      let x = shape-of (i .survey .tables) (givenPlan i) (givenState i) shape in
+      record {
+        year = x .year;
+        position = accepted-right (section (i .survey .tables) (yearIn (givenState i))) (givenPlan i) (positionIn (behindYear (givenState i)))
+            (x .branch) (x .level) (turn-passed i 10 serve);
+      }
 
   pub on-the-run : OnTheRun i
   on-the-run =
-      let m = reached (i .survey .tables) (givenPlan i) (stateIn (givenState i)) given-right in
+      let m = reached (i .survey .tables) (givenPlan i) given-form tables-right (stateIn (givenState i)) given-right in
       let n = turnOf i .answer .steps in
       record {
         before = m .0;
         given = m .1;
-        words = sym (words-under (i .survey .number) (givenPlan i) (givenState i) shape (turn-passed i 22 serve));
+        words = sym (words-under (i .survey .number) (i .survey .tables) (givenPlan i) (givenState i) shape (turn-passed i 22 serve));
         state = after-state (i .survey .tables) (givenPlan i) (m .0) n (stateIn (givenState i)) (m .1);
         rows = after-rows (i .survey .tables) (givenPlan i) (m .0) n (stateIn (givenState i)) (m .1);
       }
@@ -59,13 +73,14 @@ module _ (i : TurnInput) (serve : Served i) where
   -- a state of the run has at most the words that test 7 asks a buffer for
   saved-most : (o : Option State) → RightOrDone (i .survey .tables) (givenPlan i) o → length (savedWords (i .survey .number) o) ≤ leastStateWords
   saved-most none r = omega arith
-  saved-most (some s) r = words-most (i .survey .tables) (givenPlan i) given-form s r (i .survey .number)
+  saved-most (some s) r =
+      words-most (section (i .survey .tables) (s .year)) (givenPlan i) given-form (s .position) (r .position) (i .survey .number) (s .year)
 
   pub keeps-lengths : KeepsLengths i
   keeps-lengths =
       let f = follows i serve in
       let m = saved-most (turnRun i .state)
-      (right-from (i .survey .tables) (givenPlan i) given-form (stateIn (givenState i)) (turnOf i .answer .steps) given-right) in
+      (right-from (i .survey .tables) tables-right (givenPlan i) given-form (stateIn (givenState i)) (turnOf i .answer .steps) given-right) in
       record {
         state =
             ap length (f .state .whole)

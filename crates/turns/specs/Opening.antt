@@ -12,7 +12,7 @@ use Rattle.words.specs.Sequences.{over}
 use Rattle.words.specs.Tests.{Test, firstFailing}
 use Rattle.tables.specs.Tables.{tableTests}
 use Rattle.plans.specs.Plans.{planOf, planTests}
-use Rattle.steps.specs.Steps.{startOf}
+use Rattle.steps.specs.Steps.{start}
 use Rattle.steps.specs.Saved.{stateWords, leastStateWords, numberRight}
 use Rattle.turns.specs.Surveys.{Survey}
 
@@ -33,7 +33,7 @@ openedWith ws state = record { answer = Words (length ws); state = over ws state
 
 -- the words of the start state, under the survey's number
 abbrev pub startWords : Survey → List ℕ → List ℕ
-startWords v plan = stateWords (v .number) (startOf (v .tables) (planOf plan) 0)
+startWords v plan = stateWords (v .number) (start (v .tables) (planOf plan))
 
 -- a refusal changes nothing; else the start state is written
 abbrev pub openedAs : Survey → List ℕ → List ℕ → Option ℕ → Opened

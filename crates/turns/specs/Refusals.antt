@@ -26,7 +26,7 @@ pub record NotOpened (v : Survey) (plan state : List ℕ) : Type 0 where
 
 pub record OpenRefusals (v : Survey) (plan state : List ℕ) : Type 0 where
   -- the table's numbers, in the table's order
-  pub order : map (λ (x : Test). x .0) (openTests v plan state) ≡ 1 ∷ 2 ∷ 3 ∷ 4 ∷ 5 ∷ 6 ∷ 7 ∷ 22 ∷ []
+  pub order : map (λ (x : Test). x .0) (openTests v plan state) ≡ 1 ∷ 2 ∷ 23 ∷ 3 ∷ 4 ∷ 5 ∷ 6 ∷ 23 ∷ 7 ∷ 22 ∷ []
   -- its answer has the number of the first test that fails, 0 where all pass, and the words of the start state where all pass
   pub number : OpenAnswers v plan state (openOf v plan state .answer)
   -- it is refused with x exactly where x is the number of the first test that fails
@@ -58,7 +58,7 @@ Served i = (x : ℕ) → ¬ (turnOf i .answer .ending ≡ Refused x)
 
 pub record TurnRefusals (i : TurnInput) : Type 0 where
   -- the table's numbers, in the table's order
-  pub order : map (λ (x : Test). x .0) (turnTests i) ≡ 1 ∷ 2 ∷ 3 ∷ 4 ∷ 5 ∷ 6 ∷ 7 ∷ 8 ∷ 9 ∷ 22 ∷ 10 ∷ 11 ∷ []
+  pub order : map (λ (x : Test). x .0) (turnTests i) ≡ 1 ∷ 2 ∷ 23 ∷ 3 ∷ 4 ∷ 5 ∷ 6 ∷ 23 ∷ 7 ∷ 8 ∷ 9 ∷ 22 ∷ 10 ∷ 11 ∷ []
   -- its answer has the number of the first test that fails, 0 where all pass, and the values that its ending has
   pub number : TurnAnswers i (turnOf i .answer)
   -- it is refused with x exactly where x is the number of the first test that fails

@@ -97,7 +97,7 @@ abbrev pub ownTests : TurnInput → List Test
 ownTests i =
     (7, leb leastStateWords (length (i .state)) && leb (leastOutput (givenPlan i .ending)) (length (i .output)))
     ∷ (8, leb 1 (i .quantum) && leb (i .quantum) mostSteps)
-    ∷ (9, leb (i .given) (length (i .state)) && shapeRight (givenPlan i) (givenState i))
+    ∷ (9, leb (i .given) (length (i .state)) && shapeRight (i .survey .tables) (givenPlan i) (givenState i))
     ∷ (22, surveyRight (i .survey .number) (givenState i))
     ∷ (10, placesRight (i .survey .tables) (givenPlan i) (givenState i))
     ∷ (11, thresholdRight (givenPlan i .ending) (i .threshold))

@@ -4,18 +4,33 @@ use table_sorts::sort;
 use tables::COLUMNS;
 use tables::Order;
 use tables::RowNumber;
+use tables::YEAR;
 use tables::row_right;
+use tables::year_right;
 use uploads::KEPT;
 use uploads::REPEAT;
 use uploads::WRONG;
 ghost use mathlib.Core.Path.{_≡_};
 ghost use mathlib.Core.Bool.{true};
-ghost use Prim.Native.Nat.{_+_, _≤_};
+ghost use Prim.Native.Nat.{_+_, _*_, _≤_};
 ghost use lib.ListN.{length, take};
 ghost use Rattle.words.specs.Sequences.{all};
+ghost use Rattle.tables.specs.Tables.{columnCount};
 ghost use Rattle.tables.specs.RowLists.{inRows};
-ghost use Rattle.uploads.specs.Uploads.{uploadCount};
+ghost use Rattle.uploads.specs.Uploads.{uploadCount, kindsGood};
 ghost use Rattle.upload_fates.specs.Judging.{Fits, goodNumbers, NumbersListed, Marked, marked, rightNumbers, Judged};
+
+// Whether a row has right kinds, and a year that is one.
+fn kinds_good(upload: &[u32], row: usize) -> bool
+    requires { ⌜ row * columnCount + columnCount ≤ length (now upload) ⌝ }
+    ensures { λ r. ⌜ r ≡ kindsGood (now (upload .entry)) row ⌝ }
+{
+    let at = row * COLUMNS;
+    if row_right(upload, at) {
+        return year_right(upload[at + YEAR]);
+    }
+    false
+}
 
 // Marks each row as kept or of a wrong kind, and lists the numbers of those of right kinds.
 fn mark_kinds(upload: &[u32], list: &mut [u32], fates: &mut [u8]) -> usize
@@ -27,7 +42,7 @@ fn mark_kinds(upload: &[u32], list: &mut [u32], fates: &mut [u8]) -> usize
     let mut right: usize = 0;
     let mut row: usize = 0;
     while row < count {
-        if row_right(upload, row * COLUMNS) {
+        if kinds_good(upload, row) {
             fates[row] = KEPT;
             list[right] = row as u32;
             right += 1;

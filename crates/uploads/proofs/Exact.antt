@@ -1,4 +1,4 @@
--- The made tables hold exactly the triples of the upload's rows of right kinds, each from its first row.
+-- The made tables hold exactly the upload's rows of right kinds, each from its first row.
 use Prim.Native.Nat.{ℕ, _≤_, _<_}
 use native.Mathlib.Omega.{arith}
 use mathlib.Core.Path.{_≡_, sym, _∙_, ap}

@@ -20,12 +20,12 @@ use Rattle.words.proofs.SortedNumbers.{totally, sort-ascends}
 use Rattle.words.proofs.SortedStrictly.{ascending-keep}
 use Rattle.words.proofs.SortingParts.{length-sort, each-sort}
 use Rattle.tables.specs.declared.Order.the-variants.{Spo}
-use Rattle.tables.specs.Tables.{columnCount, mostRows, fieldsOf, fieldRight}
+use Rattle.tables.specs.Tables.{columnCount, mostRows, yearColumn, fieldsOf, fieldRight, yearRight}
 use Rattle.tables.specs.RowLists.{numberBefore, RowsRight}
 use Rattle.tables.proofs.Columns.{fields-length}
 use Rattle.tables.proofs.FlatRows.{own-field, FieldsRight, flat-right, flat-fields, flat-count}
 use Rattle.uploads.specs.Uploads.{uploadCount, sameRow, isKept, keptNumbers, keptCount, madeRows}
-use Rattle.uploads.proofs.SameRows.{good-field, fields-same}
+use Rattle.uploads.proofs.SameRows.{good-field, good-year, fields-same}
 use Rattle.uploads.proofs.Fates.{kept-good, kept-new}
 
 module _ (up : List ℕ) where
@@ -95,6 +95,10 @@ module _ (up : List ℕ) where
             let l : r < length sorted = omega (arith, fields-count) in
             ap (fieldRight c) (ap (λ x. getD x c 0) (fields-at r l) ∙ own-field up (at r) c k)
             ∙ good-field up (at r) c (kept-good up (at r) (each-at (λ i. isKept up i ≡ true) sorted 0 sorted-kept r l)) k;
+        years = λ r h.
+            let l : r < length sorted = omega (arith, fields-count) in
+            ap yearRight (ap (λ x. getD x yearColumn 0) (fields-at r l) ∙ own-field up (at r) yearColumn (omega arith))
+            ∙ good-year up (at r) (kept-good up (at r) (each-at (λ i. isKept up i ≡ true) sorted 0 sorted-kept r l));
         up = λ r h.
             let l : suc r < length sorted = omega (arith, fields-count) in
             let m : r < length sorted = omega arith in

@@ -1,4 +1,4 @@
--- What a served call leaves: tables that tests 1 to 4 accept, which hold exactly the kept triples, and a report of exactly the dropped rows.
+-- What a served call leaves: tables that the tests accept, which hold exactly the kept rows, and a report of exactly the dropped rows.
 use Prim.Native.Nat.{ℕ, _≤_}
 use mathlib.Core.Path.{_≡_, sym, _∙_, ap, subst⁻¹}
 use mathlib.Core.Option.{none}

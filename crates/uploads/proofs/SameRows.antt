@@ -1,5 +1,5 @@
 -- Rows that are the same have the same fields, and fields of the same kinds.
-use Prim.Native.Nat.{ℕ, _<_}
+use Prim.Native.Nat.{ℕ, _*_, _<_}
 use native.Mathlib.Omega.{arith}
 use mathlib.Core.Path.{_≡_, sym, _∙_, ap}
 use mathlib.Core.Bool.{true}
@@ -9,17 +9,23 @@ use lib.ListN.{length, getD}
 use lib.Seq.{ext-getD}
 use borrow.Author.Tests.{eq-eqb, eqb-true}
 use Rattle.words.specs.Sequences.{allBelow}
+use Rattle.words.proofs.Booleans.{and-left, and-right, and-both}
 use Rattle.words.proofs.Counting.{all-at, at-all}
 use Rattle.tables.specs.declared.Order.the-variants.{Spo}
-use Rattle.tables.specs.Tables.{columnCount, fieldOf, fieldsOf, fieldRight, rowRight}
+use Rattle.tables.specs.Tables.{columnCount, yearColumn, fieldOf, fieldsOf, fieldRight, rowRight, yearRight}
 use Rattle.tables.proofs.Columns.{fields-length}
 use Rattle.tables.proofs.FlatRows.{own-field}
 use Rattle.uploads.specs.Uploads.{kindsGood, sameRow}
 
--- a field of a row of right kinds
+-- a field of a row of right kinds, and its year
 pub good-field : (up : List ℕ) (i c : ℕ) → kindsGood up i ≡ true → c < columnCount → fieldRight c (fieldOf up i c) ≡ true
 unfolding rowRight
-good-field up i c g h = all-at (λ column. fieldRight column (fieldOf up i column)) columnCount g c h
+good-field up i c g h =
+    all-at (λ column. fieldRight column (fieldOf up i column)) columnCount
+    (and-left (rowRight up (i * columnCount)) (yearRight (fieldOf up i yearColumn)) g) c h
+
+pub good-year : (up : List ℕ) (i : ℕ) → kindsGood up i ≡ true → yearRight (fieldOf up i yearColumn) ≡ true
+good-year up i g = and-right (rowRight up (i * columnCount)) (yearRight (fieldOf up i yearColumn)) g
 
 module _ (up : List ℕ) (j i : ℕ) where
   same-field : fieldsOf Spo up j ≡ fieldsOf Spo up i → (c : ℕ) → c < columnCount → fieldOf up j c ≡ fieldOf up i c
@@ -45,5 +51,7 @@ module _ (up : List ℕ) (j i : ℕ) where
   pub same-good : fieldsOf Spo up j ≡ fieldsOf Spo up i → kindsGood up i ≡ true → kindsGood up j ≡ true
   unfolding rowRight
   same-good e g =
-      at-all (λ column. fieldRight column (fieldOf up j column)) columnCount
-      (λ c h. ap (fieldRight c) (same-field e c h) ∙ good-field up i c g h)
+      and-both (rowRight up (j * columnCount)) (yearRight (fieldOf up j yearColumn))
+      (at-all (λ column. fieldRight column (fieldOf up j column)) columnCount
+      (λ c h. ap (fieldRight c) (same-field e c h) ∙ good-field up i c g h))
+      (ap yearRight (same-field e yearColumn (omega arith)) ∙ good-year up i g)

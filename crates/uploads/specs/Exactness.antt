@@ -1,4 +1,4 @@
--- What made tables hold, and what a report says: exactly the kept triples, and exactly the dropped rows. Assumes nothing: these are definitions.
+-- What made tables hold, and what a report says: exactly the kept rows, and exactly the dropped ones. Assumes nothing: these are definitions.
 use Prim.Native.Nat.{ℕ, suc, _+_, _*_, _/_, _%_, _<_}
 use mathlib.Core.Path.{_≡_}
 use mathlib.Core.Logic.{_⊎_, _↔_}
@@ -80,7 +80,7 @@ pub record Reported (up report : List ℕ) : Type 0 where
 
 -- ---- what a served call leaves
 pub record MadeRight (i : MakeInput) : Type 0 where
-  -- tests 1 to 4 accept the tables
+  -- the tests accept the tables
   pub accepted : firstFailing (tableTests (tablesIn (makeOf i))) ≡ none
   pub exact : Exactly (i .upload) (tablesIn (makeOf i))
   pub told : Reported (i .upload) (reportIn (makeOf i))

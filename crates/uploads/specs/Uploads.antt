@@ -1,14 +1,14 @@
 -- An upload: rows as they were measured. The fate of each, the tables that the kept ones make, and the report of the others.
 -- Assumes nothing: these are definitions.
 use Prim.Native.Nat.{ℕ, _*_, _/_}
-use mathlib.Core.Bool.{Bool, cond, not}
+use mathlib.Core.Bool.{Bool, cond, not, _&&_}
 use mathlib.Core.List.{List, [], _∷_, map, flatten}
 use lib.Dec.{eqb}
 use lib.ListN.{length}
 use Rattle.words.specs.Sequences.{allBelow, someBelow, keep, numbers}
 use Rattle.words.specs.Sorting.{sortBy}
 use Rattle.tables.specs.declared.Order.the-variants.{Spo}
-use Rattle.tables.specs.Tables.{Tables, columnCount, fieldOf, fieldsOf, rowRight}
+use Rattle.tables.specs.Tables.{Tables, columnCount, yearColumn, fieldOf, fieldsOf, rowRight, yearRight}
 use Rattle.tables.specs.RowLists.{numberBefore, tablesFrom}
 
 abbrev pub uploadCount : List ℕ → ℕ
@@ -24,9 +24,9 @@ wrongCode = 1
 abbrev pub repeatCode : ℕ
 repeatCode = 2
 
--- each field of a row has a kind that its column may have
+-- each field of a row has a kind that its column may have, and its year is one: another year counts as a wrong kind
 abbrev pub kindsGood : List ℕ → ℕ → Bool
-kindsGood up row = rowRight up (row * columnCount)
+kindsGood up row = rowRight up (row * columnCount) && yearRight (fieldOf up row yearColumn)
 
 -- two rows have the same fields
 unfoldable pub sameRow : List ℕ → ℕ → ℕ → Bool

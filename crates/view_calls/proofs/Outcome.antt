@@ -19,7 +19,7 @@ use Rattle.views.proofs.Writes.{rows-words, pos-words, osp-words, room-right}
 use Rattle.view_calls.specs.Room.{roomFor}
 
 module _ (i : ViewInput) where
-  -- ---- 1 to 4
+  -- ---- the tables
   pub wrong-tables : (n : ℕ) → n ≡ numberOf (firstFailing (tableTests (i .tables))) → (n ≡ 0 → ⊥)
       → record { answer = Refused n; buffers = i .buffers } ≡ viewCallOf i
   unfolding viewCallOf

@@ -23,7 +23,7 @@ use Rattle.view_writes.proofs.Marked.{count-shown, rows-shown, numbers-shown}
 
 module _ (t : Tables) (w : Right t) where
   pub rows-right : RowsRight (t .rows)
-  rows-right = record { whole = w .sized .whole; few = w .sized .few; kinds = w .kinds; up = w .up Spo }
+  rows-right = record { whole = w .sized .whole; few = w .sized .few; kinds = w .kinds; years = w .years; up = w .up Spo }
 
   -- each number of a list names a row
   pub pos-named : (n : ℕ) → rowCount t ≤ n → all (λ row. ltb row n) (t .pos) ≡ true

@@ -5,7 +5,6 @@ use mathlib.Core.Bool.{Bool, true, false, _&&_, _||_}
 use mathlib.Core.List.{List, [], _∷_, map}
 use lib.Dec.{eqb}
 use lib.ListN.{length, getD}
-use borrow.Author.Tests.{eqb-true, eqb-false}
 use Rattle.words.specs.Sequences.{someBelow, member, numbers}
 use Rattle.words.proofs.Booleans.{Decided, yes, no, decided}
 use Rattle.words.proofs.Each.{Each}
@@ -13,10 +12,10 @@ use Rattle.words.proofs.EachMore.{each-always}
 use Rattle.words.proofs.Elements.{same-test}
 use Rattle.words.proofs.Keeping.{keep-agree}
 use Rattle.words.proofs.Somewhere.{some-at, at-some}
-use Rattle.tables.specs.Tables.{columnCount, subjectColumn, fieldOf}
-use Rattle.views.specs.Views.{admits, visible}
+use Rattle.tables.specs.Tables.{columnCount, yearColumn, subjectColumn, fieldOf}
+use Rattle.views.specs.Views.{isOf, admits, visible}
 use Rattle.views.specs.Renumbered.{passedBefore}
-use Rattle.views.proofs.Visible.{admits-other}
+use Rattle.views.proofs.Visible.{of-year, of-subject, admits-other}
 use Rattle.view_members.specs.Flags.{flagBy, Flagged}
 use Rattle.view_marks.specs.Marks.{markBy, markOf, marksOf}
 use Rattle.view_marks.specs.Told.{told, seenBy}
@@ -36,26 +35,25 @@ flag-is true = refl
 flag-is false = refl
 
 module _ (rows grant : List ℕ) (membership : ℕ) (flags : List ℕ) (f : Flagged rows grant membership flags) where
-  told-admits : (s i : ℕ) → i < length rows / columnCount → told rows flags s i ≡ admits rows grant membership s i
+  told-admits : (year s i : ℕ) → i < length rows / columnCount → told rows flags year s i ≡ admits rows grant membership year s i
   unfolding told
-  told-admits s i h = go (decided (eqb (fieldOf rows i subjectColumn) s))
+  told-admits year s i h = go (decided (isOf rows year s i))
     where
-      go : Decided (eqb (fieldOf rows i subjectColumn) s)
-          → (eqb (fieldOf rows i subjectColumn) s && eqb (getD flags i 0) 1) ≡ admits rows grant membership s i
+      go : Decided (isOf rows year s i) → (isOf rows year s i && eqb (getD flags i 0) 1) ≡ admits rows grant membership year s i
       go (yes p) =
-          let e = eqb-true (fieldOf rows i subjectColumn) s p in
           rw p
           (ap (λ w. eqb w 1) (f .each i h)
-          ∙ flag-is (admits rows grant membership (fieldOf rows i subjectColumn) i)
-          ∙ ap (λ x. admits rows grant membership x i) e)
-      go (no p) = rw p (sym (admits-other rows grant membership s i (eqb-false (fieldOf rows i subjectColumn) s p)))
+          ∙ flag-is (admits rows grant membership (fieldOf rows i yearColumn) (fieldOf rows i subjectColumn) i)
+          ∙ ap₂ (λ y x. admits rows grant membership y x i) (of-year rows year s i p) (of-subject rows year s i p))
+      go (no p) = rw p (sym (admits-other rows grant membership year s i p))
 
   pub seen-visible : (row : ℕ) → seenBy rows grant flags row ≡ visible rows grant membership row
   unfolding seenBy visible
   seen-visible row =
+      let y = fieldOf rows row yearColumn in
+      let s = fieldOf rows row subjectColumn in
       ap (λ b. member (fieldOf rows row subjectColumn) grant || b)
-      (some-agree (told rows flags (fieldOf rows row subjectColumn)) (admits rows grant membership (fieldOf rows row subjectColumn))
-      (length rows / columnCount) (told-admits (fieldOf rows row subjectColumn)))
+      (some-agree (told rows flags y s) (admits rows grant membership y s) (length rows / columnCount) (told-admits y s))
 
   -- so the marks are those of the visible rows, and as many are counted
   pub number-visible : (n : ℕ) → passedBefore (seenBy rows grant flags) n ≡ passedBefore (visible rows grant membership) n

@@ -1,20 +1,22 @@
-// Which rows an adviser sees: each row marked with its number in the view, or as hidden. Rows of one subject stand side by side and are
-// visible alike, and subjects ascend: each is looked for in the grant from where the one before it was.
+// Which rows an adviser sees: each row marked with its number in the view, or as hidden. In a year the rows of one subject stand side by side
+// and are visible alike, and subjects ascend: each is looked for in the grant from where the one before it was, the first of a year from 0.
 use tables::COLUMNS;
 use tables::MOST_ROWS;
 use tables::RowNumber;
 use tables::SUBJECT;
+use tables::YEAR;
 use tables::field;
 use view_grants::seek;
 use view_members::ADMITS;
 ghost use mathlib.Core.Path.{_≡_};
 ghost use mathlib.Core.Bool.{true, cond, _||_};
-ghost use Prim.Native.Nat.{_+_, _-_, _/_, _≤_, _<_};
+ghost use Prim.Native.Nat.{_+_, _-_, _*_, _/_, _≤_, _<_};
 ghost use lib.Dec.{eqb, ltb};
 ghost use lib.ListN.{length};
 ghost use Rattle.words.specs.Sequences.{neighbours, over};
-ghost use Rattle.tables.specs.Tables.{columnCount, mostRows, subjectColumn, fieldOf};
+ghost use Rattle.tables.specs.Tables.{columnCount, mostRows, yearColumn, subjectColumn, fieldOf};
 ghost use Rattle.tables.specs.RowLists.{RowsRight};
+ghost use Rattle.views.specs.Views.{isOf};
 ghost use Rattle.views.specs.Renumbered.{passedBefore};
 ghost use Rattle.view_grants.specs.Places.{firstFrom};
 ghost use Rattle.view_marks.specs.Marks.{markBy, marksOf};
@@ -39,19 +41,32 @@ fn either(seen: bool, flag: u8) -> bool
     flag == ADMITS
 }
 
-// Whether a subject that is granted or not is seen: its rows, from its first on, are looked at for a flag.
+// Whether a row is of a subject in a year.
+fn is_of(rows: &[u32], row: u32, year: u32, subject: u32) -> bool
+    requires { ⌜ row * columnCount + columnCount ≤ length (now rows) ⌝ }
+    ensures { λ r. ⌜ r ≡ isOf (now (rows .entry)) year subject row ⌝ }
+{
+    if field(rows, RowNumber(row), YEAR) != year {
+        return false;
+    }
+    field(rows, RowNumber(row), SUBJECT) == subject
+}
+
+// Whether a subject that is granted or not is seen: its rows of the year, from the first on, are looked at for a flag.
 fn subject_seen(rows: &[u32], flags: &[u8], row: u32, granted: bool) -> bool
     requires { ⌜ RowsRight (now rows) ⌝ }
     requires { ⌜ FirstOf (now rows) row ⌝ }
     requires { ⌜ length (now rows) / columnCount ≤ length (now flags) ⌝ }
-    ensures { λ r. ⌜ r ≡ (granted || someTold (now (rows .entry)) (now (flags .entry)) (fieldOf (now (rows .entry)) row subjectColumn)) ⌝ }
+    ensures { λ r. ⌜ r ≡ (granted || someTold (now (rows .entry)) (now (flags .entry)) (fieldOf (now (rows .entry)) row yearColumn)
+        (fieldOf (now (rows .entry)) row subjectColumn)) ⌝ }
 {
+    let year = field(rows, RowNumber(row), YEAR);
     let subject = field(rows, RowNumber(row), SUBJECT);
     let count = (rows.len() / COLUMNS) as u32;
     let mut seen = granted;
     let mut next: u32 = row;
     while next < count {
-        if field(rows, RowNumber(next), SUBJECT) != subject {
+        if !is_of(rows, next, year, subject) {
             return seen;
         }
         seen = either(seen, flags[words::wide(next)]);
@@ -60,7 +75,7 @@ fn subject_seen(rows: &[u32], flags: &[u8], row: u32, granted: bool) -> bool
     seen
 }
 
-// Whether the first row of a subject is visible.
+// Whether the first row of a subject in a year is visible.
 fn first_seen(rows: &[u32], grant: &[u32], flags: &[u8], row: u32, from: usize) -> Seeing
     requires { ⌜ RowsRight (now rows) ⌝ }
     requires { ⌜ neighbours ltb (now grant) ≡ true ⌝ }
@@ -82,14 +97,19 @@ fn next_seen(rows: &[u32], grant: &[u32], flags: &[u8], row: u32, before: Seeing
     requires { ⌜ RowsRight (now rows) ⌝ }
     requires { ⌜ neighbours ltb (now grant) ≡ true ⌝ }
     requires { ⌜ (row < length (now rows) / columnCount) × (length (now rows) / columnCount ≤ length (now flags)) ⌝ }
-    requires { ⌜ before .from ≤ firstFrom (now grant) (fieldOf (now rows) row subjectColumn) ⌝ }
+    requires { ⌜ (0 < row → fieldOf (now rows) (row - 1) yearColumn ≡ fieldOf (now rows) row yearColumn
+        → before .from ≤ firstFrom (now grant) (fieldOf (now rows) row subjectColumn)) ⌝ }
     requires { ⌜ (0 < row → before .seen ≡ seenBy (now rows) (now grant) (now flags) (row - 1)) ⌝ }
     ensures { λ r. ⌜ (r .seen ≡ seenBy (now (rows .entry)) (now (grant .entry)) (now (flags .entry)) row)
         × (r .from ≤ firstFrom (now (grant .entry)) (fieldOf (now (rows .entry)) row subjectColumn)) ⌝ }
 {
     let from = before.from;
     if row == 0 {
-        return first_seen(rows, grant, flags, row, from);
+        return first_seen(rows, grant, flags, row, 0);
+    }
+    let year = field(rows, RowNumber(row - 1), YEAR);
+    if year != field(rows, RowNumber(row), YEAR) {
+        return first_seen(rows, grant, flags, row, 0);
     }
     let earlier = field(rows, RowNumber(row - 1), SUBJECT);
     if earlier == field(rows, RowNumber(row), SUBJECT) {

@@ -1,11 +1,14 @@
-// Membership: which rows say of their subject that it belongs to something granted. They are the range of the membership predicate in POS,
-// where their objects ascend, so that the grant is walked beside them once.
+// Membership: which rows say of their subject that it belongs to something granted. In each year they are the range of the year and the
+// membership predicate in POS, where their objects ascend, so that the grant is walked beside them once a year.
+use table_ends::end_apart;
 use table_ranges::halved;
+use tables::COLUMNS;
 use tables::OBJECT;
 use tables::Order;
-use tables::PREDICATE;
+use tables::Place;
 use tables::Prefix;
 use tables::RowNumber;
+use tables::YEAR;
 use tables::field;
 use view_grants::seek;
 ghost use mathlib.Core.Path.{_≡_};
@@ -14,7 +17,7 @@ ghost use lib.Dec.{ltb};
 ghost use Rattle.words.specs.Sequences.{neighbours};
 ghost use Rattle.tables.specs.Tables.{tablesOf};
 ghost use Rattle.tables.specs.Right.{Right};
-ghost use Rattle.view_members.specs.Flags.{flagBy, Unflagged, Flagged};
+ghost use Rattle.view_members.specs.Flags.{flagBy, Unflagged, Flagged, FlaggedAs, ofEarlier, notLater};
 
 // The flag of a row that admits its subject, and of another.
 pub const ADMITS: u8 = 1;
@@ -27,7 +30,41 @@ fn flag_by(found: bool) -> u8
     if found { ADMITS } else { SILENT }
 }
 
-// Flags each row that has the membership predicate and a granted object.
+// Flags each row of a year that has the membership predicate and a granted object, where those of earlier years are flagged.
+fn flag_year(
+    rows: &[u32],
+    pos: &[u32],
+    osp: &[u32],
+    grant: &[u32],
+    membership: u32,
+    year: u32,
+    flags: &mut [u8],
+)
+    requires { ⌜ Right (tablesOf (now rows) (now pos) (now osp)) ⌝ }
+    requires { ⌜ neighbours ltb (now grant) ≡ true ⌝ }
+    requires { ⌜ FlaggedAs (ofEarlier (now rows) year) (now rows) (now grant) membership (now flags) ⌝ }
+    ensures { λ _. ⌜ FlaggedAs (notLater (now (rows .entry)) year) (now (rows .entry)) (now (grant .entry)) membership (now (flags .exit)) ⌝ }
+{
+    let members = Prefix {
+        order: Order::Pos,
+        count: 2,
+        words: [year, membership, 0, 0],
+    };
+    let start = halved(rows, pos, osp, members);
+    let end = end_apart(rows, pos, osp, members, start);
+    let last = words::wide(end.0);
+    let mut place: usize = words::wide(start.0);
+    let mut from: usize = 0;
+    while place < last {
+        let row = pos[place];
+        let sought = seek(grant, from, field(rows, RowNumber(row), OBJECT));
+        flags[words::wide(row)] = flag_by(sought.found);
+        from = sought.at;
+        place += 1;
+    }
+}
+
+// Flags each row that has the membership predicate and a granted object, year after year.
 pub fn flag_members(
     rows: &[u32],
     pos: &[u32],
@@ -41,22 +78,16 @@ pub fn flag_members(
     requires { ⌜ Unflagged (now rows) (now flags) ⌝ }
     ensures { λ _. ⌜ Flagged (now (rows .entry)) (now (grant .entry)) membership (now (flags .exit)) ⌝ }
 {
-    let members = Prefix {
-        order: Order::Pos,
-        count: 1,
-        words: [membership, 0, 0],
-    };
-    let start = halved(rows, pos, osp, members);
-    let mut place: usize = words::wide(start.0);
-    let mut from: usize = 0;
-    while place < pos.len() {
-        let row = pos[place];
-        if field(rows, RowNumber(row), PREDICATE) != membership {
-            return;
-        }
-        let sought = seek(grant, from, field(rows, RowNumber(row), OBJECT));
-        flags[words::wide(row)] = flag_by(sought.found);
-        from = sought.at;
-        place += 1;
+    let count = (rows.len() / COLUMNS) as u32;
+    let mut row: u32 = 0;
+    while row < count {
+        let year = field(rows, RowNumber(row), YEAR);
+        flag_year(rows, pos, osp, grant, membership, year, flags);
+        let whole = Prefix {
+            order: Order::Spo,
+            count: 1,
+            words: [year, 0, 0, 0],
+        };
+        row = end_apart(rows, pos, osp, whole, Place(row)).0;
     }
 }

@@ -11,9 +11,9 @@ use Rattle.words.proofs.Counting.{all-at, at-all}
 use Rattle.words.proofs.EachMore.{each-always}
 use Rattle.words.proofs.Keeping.{keep-agree}
 use Rattle.tables.specs.declared.Order.the-variants.{Spo}
-use Rattle.tables.specs.Tables.{Tables, columnCount, subjectColumn, predicateColumn, objectColumn, fieldOf, fieldsOf}
+use Rattle.tables.specs.Tables.{Tables, columnCount, yearColumn, subjectColumn, predicateColumn, objectColumn, fieldOf, fieldsOf}
 use Rattle.tables.specs.RowLists.{tablesFrom}
-use Rattle.views.specs.Views.{admits, visible, viewRows, viewOf}
+use Rattle.views.specs.Views.{isOf, admits, visible, viewRows, viewOf}
 
 and-false : (a b : Bool) → a && (b && false) ≡ false
 and-false true true = refl
@@ -25,17 +25,18 @@ or-false true = refl
 or-false false = refl
 
 module _ (rows grant : List ℕ) (none : allBelow (λ row. not (member (fieldOf rows row objectColumn) grant)) (length rows / columnCount) ≡ true) where
-  admits-none : (membership s row : ℕ) → row < length rows / columnCount → admits rows grant membership s row ≡ false
+  admits-none : (membership year s row : ℕ) → row < length rows / columnCount → admits rows grant membership year s row ≡ false
   unfolding admits
-  admits-none membership s row h =
+  admits-none membership year s row h =
       rw (not-true (member (fieldOf rows row objectColumn) grant) (all-at (λ i. not (member (fieldOf rows i objectColumn) grant)) _ none row h))
-      (and-false (eqb (fieldOf rows row subjectColumn) s) (eqb (fieldOf rows row predicateColumn) membership))
+      (and-false (isOf rows year s row) (eqb (fieldOf rows row predicateColumn) membership))
 
   direct : (membership row : ℕ) → visible rows grant membership row ≡ member (fieldOf rows row subjectColumn) grant
   unfolding visible
   direct membership row =
+      let y = fieldOf rows row yearColumn in
       let s = fieldOf rows row subjectColumn in
-      let e = at-all (λ i. not (admits rows grant membership s i)) (length rows / columnCount) (λ i h. rw (admits-none membership s i h)) in
+      let e = at-all (λ i. not (admits rows grant membership y s i)) (length rows / columnCount) (λ i h. rw (admits-none membership y s i h)) in
       ap (λ b. member s grant || not b) e ∙ or-false (member s grant)
 
   pub any-membership : (membership other : ℕ) → viewRows rows grant membership ≡ viewRows rows grant other

@@ -20,7 +20,8 @@ use Rattle.words.proofs.EachMore.{each-weaken, each-both, each-mapped}
 use Rattle.words.proofs.Numbers.{numbers-below, kept-numbers}
 use Rattle.words.proofs.SortedStrictly.{ascending-keep, ascending-snoc}
 use Rattle.tables.specs.declared.Order.the-variants.{Spo}
-use Rattle.tables.specs.Tables.{Tables, columnCount, subjectColumn, predicateColumn, objectColumn, rowCount, fieldOf, fieldsOf, tableTests}
+use Rattle.tables.specs.Tables.{Tables, columnCount, rowCount, fieldOf, fieldsOf, tableTests}
+use Rattle.tables.specs.Tables.{yearColumn, subjectColumn, predicateColumn, objectColumn}
 use Rattle.tables.specs.Right.{Right}
 use Rattle.tables.specs.RowLists.{numberBefore, tablesFrom}
 use Rattle.tables.proofs.Ascending.{ascend}
@@ -48,6 +49,10 @@ ascending-map before f (x ∷ xs) a = (each-mapped (λ z. before (f x) z ≡ tru
 
 -- ---- rows with the same fields
 module _ (rows others : List ℕ) (r q : ℕ) (e : fieldsOf Spo rows r ≡ fieldsOf Spo others q) where
+  same-year : fieldOf rows r yearColumn ≡ fieldOf others q yearColumn
+  unfolding fieldsOf
+  same-year = cc
+
   same-subject : fieldOf rows r subjectColumn ≡ fieldOf others q subjectColumn
   unfolding fieldsOf
   same-subject = cc
@@ -60,12 +65,12 @@ module _ (rows others : List ℕ) (r q : ℕ) (e : fieldsOf Spo rows r ≡ field
   unfolding fieldsOf
   same-object = cc
 
--- they admit the same subjects
-same-admits : (rows others grant : List ℕ) (membership s x r q : ℕ) → s ≡ x → fieldsOf Spo rows r ≡ fieldsOf Spo others q
-    → admits rows grant membership s r ≡ admits others grant membership x q
+-- they admit the same subjects in the same years
+same-admits : (rows others grant : List ℕ) (membership year s z x r q : ℕ) → year ≡ z → s ≡ x → fieldsOf Spo rows r ≡ fieldsOf Spo others q
+    → admits rows grant membership year s r ≡ admits others grant membership z x q
 unfolding admits
-same-admits rows others grant membership s x r q z e =
-    rw (z, same-subject rows others r q e, same-predicate rows others r q e, same-object rows others r q e)
+same-admits rows others grant membership year s z x r q y c e =
+    rw (y, c, same-year rows others r q e, same-subject rows others r q e, same-predicate rows others r q e, same-object rows others r q e)
 
 -- ---- some fields stand in some tables, or not
 module _ (u : Tables) (fields : List ℕ) (wide : length fields ≡ columnCount) where
@@ -133,16 +138,22 @@ module _ (grant : List ℕ) (membership : ℕ) where
         → visible (t .rows) grant membership r ≡ true → visible (u .rows) grant membership q ≡ true
     stays-visible r q h e v = go (seen (t .rows) grant membership r v)
       where
+        y : fieldOf (u .rows) q yearColumn ≡ fieldOf (t .rows) r yearColumn
+        y = same-year (u .rows) (t .rows) q r e
+
         s : fieldOf (u .rows) q subjectColumn ≡ fieldOf (t .rows) r subjectColumn
         s = same-subject (u .rows) (t .rows) q r e
 
         go : Seen (t .rows) grant membership r → visible (u .rows) grant membership q ≡ true
         go (granted p) = by-grant (u .rows) grant membership q (ap (λ w. member w grant) s ∙ p)
         go (admitted m) =
-            let y = m .which in
-            let k = shown y (m .below) (admits-seen (t .rows) grant membership (fieldOf (t .rows) r subjectColumn) y (m .below) (m .passes)) in
+            let n = m .which in
+            let year = fieldOf (t .rows) r yearColumn in
+            let subject = fieldOf (t .rows) r subjectColumn in
+            let k = shown n (m .below) (admits-seen (t .rows) grant membership year subject n (m .below) (m .passes)) in
             by-row (u .rows) grant membership q (k .row) (k .there)
-            (same-admits (u .rows) (t .rows) grant membership (fieldOf (u .rows) q subjectColumn) (fieldOf (t .rows) r subjectColumn) (k .row) y s (k .is)
+            (same-admits (u .rows) (t .rows) grant membership (fieldOf (u .rows) q yearColumn) (fieldOf (u .rows) q subjectColumn) year subject
+            (k .row) n y s (k .is)
             ∙ m .passes)
 
     -- so each visible row is among the other's visible rows

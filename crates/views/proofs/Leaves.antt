@@ -1,4 +1,4 @@
--- What a served call leaves: tables that tests 1 to 4 accept, which hold exactly the visible rows.
+-- What a served call leaves: tables that the tests accept, which hold exactly the visible rows.
 use mathlib.Core.Path.{_≡_, _∙_, ap, subst⁻¹}
 use mathlib.Core.Option.{none}
 use mathlib.Core.List.{List}

@@ -14,7 +14,7 @@ use Rattle.words.proofs.Numbers.{numbers-below, numbers-rise}
 use Rattle.words.proofs.Somewhere.{each-at, map-at}
 use Rattle.words.proofs.SortedStrictly.{ascending-keep, ascending-pairs}
 use Rattle.tables.specs.declared.Order.the-variants.{Spo}
-use Rattle.tables.specs.Tables.{Tables, rowCount, fieldsOf, fieldRight}
+use Rattle.tables.specs.Tables.{Tables, rowCount, yearColumn, fieldsOf, fieldRight, yearRight}
 use Rattle.tables.specs.Right.{Right}
 use Rattle.tables.specs.RowLists.{RowsRight}
 use Rattle.tables.proofs.Ascending.{ascend}
@@ -69,6 +69,10 @@ module _ (t : Tables) (grant : List ℕ) (membership : ℕ) where
           kinds = λ r c h k.
               let l : r < length vs = omega (arith, fields-count) in
               ap (fieldRight c) (ap (λ x. getD x c 0) (fields-at r l) ∙ own-field (t .rows) (at r) c k) ∙ w .kinds (at r) c (there r l) k;
+          years = λ r h.
+              let l : r < length vs = omega (arith, fields-count) in
+              ap yearRight (ap (λ x. getD x yearColumn 0) (fields-at r l) ∙ own-field (t .rows) (at r) yearColumn (omega arith))
+              ∙ w .years (at r) (there r l);
           up = λ r h.
               let l : suc r < length vs = omega (arith, fields-count) in
               let m : r < length vs = omega arith in

@@ -68,7 +68,7 @@ module _ (i : ViewInput) where
   view-suffices = (
     suffices,
     λ s. let t = passes-all (tableTests (i .tables)) (s .accepted) in
-        view-serves i .1 (t .0, (t .1 .0, (t .1 .1 .0, (t .1 .1 .1 .0, (s .grant, (room-enough s, tt)))))),
+        view-serves i .1 (t .0, (t .1 .0, (t .1 .1 .0, (t .1 .1 .1 .0, (t .1 .1 .1 .1 .0, (s .grant, (room-enough s, tt))))))),
   )
 
   pub view-writes : Views i → ViewWrites i

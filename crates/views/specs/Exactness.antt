@@ -1,4 +1,4 @@
--- What a served call leaves: tables that tests 1 to 4 accept, which hold exactly the visible rows. Assumes nothing: these are definitions.
+-- What a served call leaves: tables that the tests accept, which hold exactly the visible rows. Assumes nothing: these are definitions.
 use Prim.Native.Nat.{ℕ, _<_}
 use mathlib.Core.Path.{_≡_}
 use mathlib.Core.Bool.{true}
@@ -39,6 +39,6 @@ pub record Exactly (t : Tables) (grant : List ℕ) (membership : ℕ) (v : Table
 
 -- ---- what a served call leaves
 pub record ViewRight (i : ViewInput) : Type 0 where
-  -- tests 1 to 4 accept the tables
+  -- the tests accept the tables
   pub accepted : firstFailing (tableTests (tablesIn (viewCallOf i))) ≡ none
   pub exact : Exactly (i .tables) (i .grant) (i .membership) (tablesIn (viewCallOf i))

@@ -41,7 +41,7 @@ Views i = (x : ℕ) → ¬ (viewCallOf i .answer ≡ Refused x)
 
 pub record ViewRefusals (i : ViewInput) : Type 0 where
   -- the table's numbers, in the table's order
-  pub order : map (λ (x : Test). x .0) (viewTests i) ≡ 1 ∷ 2 ∷ 3 ∷ 4 ∷ 20 ∷ 21 ∷ []
+  pub order : map (λ (x : Test). x .0) (viewTests i) ≡ 1 ∷ 2 ∷ 23 ∷ 3 ∷ 4 ∷ 20 ∷ 21 ∷ []
   -- its answer has the number of the first test that fails, 0 where all pass, and the words of the view where all pass
   pub number : ViewAnswers i (viewCallOf i .answer)
   -- it is refused with x exactly where x is the number of the first test that fails

@@ -96,6 +96,9 @@ low w = w % lowNumbers
 abbrev pub word : ℕ → ℕ → ℕ
 word k n = k * lowNumbers + n
 
+abbrev pub yearKind : ℕ
+yearKind = 0
+
 abbrev pub headKind : ℕ
 headKind = 1
 
@@ -160,7 +163,14 @@ greaterThan = 4
 abbrev pub atLeast : ℕ
 atLeast = 5
 
--- ---- a state's words: the survey's number; branch × 16 + depth; a place
+-- ---- years: the last that a row may have or a plan may name, and the word of one in a plan or a state
+abbrev pub mostYear : ℕ
+mostYear = 9999
+
+abbrev pub yearWord : ℕ → ℕ
+yearWord year = word yearKind year
+
+-- ---- a state's words: the survey's number; the year; branch × 16 + depth; a place
 abbrev pub surveyWord : ℕ → ℕ
 surveyWord survey = word surveyKind survey
 

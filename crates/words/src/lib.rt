@@ -7,7 +7,7 @@ ghost use Rattle.words.specs.Bindings.{valueOf};
 ghost use Rattle.words.specs.Words.{termValues, termKind, termValue, name, number, text, variable, unbound, isVariable, isNumber, isValue};
 ghost use Rattle.words.specs.Words.{valueRank, keyRank, lastRank, lowNumbers, kind, low, word, headKind, branchKind, trueKind, andKind};
 ghost use Rattle.words.specs.Words.{orKind, notKind, comparisonKind, rowsKind, topKind, risingKind, fallingKind, groupKind, depths, surveyWord};
-ghost use Rattle.words.specs.Words.{positionWord, placeWord, branchOf, depthOf};
+ghost use Rattle.words.specs.Words.{positionWord, placeWord, yearWord, branchOf, depthOf};
 
 // A term: two bits of kind and a value of 30.
 pub struct Term(pub u32);
@@ -32,6 +32,9 @@ pub const HALF_VALUES: u32 = 0x20000000;
 
 // How many numbers a word of a plan or a state has.
 pub const NUMBERS: u32 = 0x10000000;
+
+// The last year that a row may have or a plan may name.
+pub const MOST_YEAR: u32 = 9999;
 
 impl Term {
     pub const NAME: u32 = 0;
@@ -134,6 +137,8 @@ impl Term {
 }
 
 impl PlanWord {
+    pub const YEAR: u32 = 0;
+
     pub const HEAD: u32 = 1;
 
     pub const BRANCH: u32 = 2;
@@ -170,6 +175,13 @@ impl PlanWord {
     pub const GREATER: u32 = 4;
 
     pub const AT_LEAST: u32 = 5;
+
+    // A year, or 0 for every year there is.
+    pub fn year(number: u32) -> Self
+        ensures { λ r. ⌜ r .0 ≡ yearWord (number % lowNumbers) ⌝ }
+    {
+        PlanWord(PlanWord::YEAR * NUMBERS + number % NUMBERS)
+    }
 
     pub fn head(branches: u32) -> Self
         ensures { λ r. ⌜ r .0 ≡ word headKind (branches % lowNumbers) ⌝ }
@@ -257,6 +269,8 @@ impl PlanWord {
 }
 
 impl StateWord {
+    pub const YEAR: u32 = 0;
+
     pub const SURVEY: u32 = 13;
 
     pub const POSITION: u32 = 14;
@@ -271,6 +285,13 @@ impl StateWord {
         ensures { λ r. ⌜ r .0 ≡ surveyWord (number % lowNumbers) ⌝ }
     {
         StateWord(StateWord::SURVEY * NUMBERS + number % NUMBERS)
+    }
+
+    // The year whose rows are being read.
+    pub fn year(number: u32) -> Self
+        ensures { λ r. ⌜ r .0 ≡ yearWord (number % lowNumbers) ⌝ }
+    {
+        StateWord(StateWord::YEAR * NUMBERS + number % NUMBERS)
     }
 
     // Branch (from 0) and depth.
@@ -293,7 +314,7 @@ impl StateWord {
         self.0 / NUMBERS
     }
 
-    // The number of a survey's word, the place of a place word.
+    // The number of a survey's word, the year of a year's, the place of a place word.
     pub fn number(self) -> u32
         ensures { λ r. ⌜ r ≡ low (self .0) ⌝ }
     {

@@ -1,3 +1,4 @@
 pub mod Holds
 pub mod Finished
 pub mod ByOutcomes
+pub mod YearsHold

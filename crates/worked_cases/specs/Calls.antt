@@ -66,7 +66,7 @@ abbrev pub surveyed : Tables → Survey
 surveyed t = underNumber 7 t
 
 abbrev pub stateBuffer : List ℕ → List ℕ
-stateBuffer ws = over ws (replicate 10 7)
+stateBuffer ws = over ws (replicate 11 7)
 
 abbrev pub keptBuffer : ℕ → List ℕ → List ℕ
 keptBuffer room ws = over ws (replicate room 4)

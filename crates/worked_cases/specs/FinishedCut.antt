@@ -1,5 +1,4 @@
 -- A finished query of the three-stem wood, best of 1, cut in two, with a refused turn and a refused merge between, and a threshold sent.
-use Prim.Native.Nat.{ℕ}
 use mathlib.Core.List.{List, [], _∷_}
 use lib.ListN.{replicate}
 use Rattle.turns.specs.declared.TurnEnding.the-variants.{Done, Spent}
@@ -9,7 +8,7 @@ use Rattle.worked_cases.specs.Calls.{surveyed}
 use Rattle.worked_cases.specs.Wood.{wood, planTop, stem}
 
 abbrev pub openedTop : Opened
-openedTop = openOf (surveyed wood) planTop (replicate 10 7)
+openedTop = openOf (surveyed wood) planTop (replicate 11 7)
 
 -- 6 steps; a quantum of 0; a merge with no room; a merge; and the rest, with the last row of the full merged list as threshold
 abbrev pub events : List Event

@@ -1,6 +1,7 @@
 pub mod Wood
 pub mod Calls
 pub mod Starred
+pub mod Years
 pub mod Refusals
 pub mod Misreadings
 pub mod FinishedCut

@@ -9,15 +9,16 @@ use Rattle.tables.specs.Tables.{Tables}
 use Rattle.turns.specs.declared.TurnEnding.the-variants.{Done}
 use Rattle.worked_cases.specs.Calls.{opening, opened, Case, surveyed, turnCall, turnCase, notOpened}
 
--- rows 0 to 5: (n1,n10,n100) (n1,n12,i45) (n2,n10,n100) (n2,n12,i310) (n3,n10,n100) (n3,n12,i310); both lists 0 2 4 1 3 5
+-- rows 0 to 5, each with i2026 before it: (n1,n10,n100) (n1,n12,i45) (n2,n10,n100) (n2,n12,i310) (n3,n10,n100) (n3,n12,i310); both lists
+-- 0 2 4 1 3 5
 abbrev pub stemRows : List ℕ
 stemRows =
-    0x00000001 ∷ 0x0000000A ∷ 0x00000064
-    ∷ 0x00000001 ∷ 0x0000000C ∷ 0x4000002D
-    ∷ 0x00000002 ∷ 0x0000000A ∷ 0x00000064
-    ∷ 0x00000002 ∷ 0x0000000C ∷ 0x40000136
-    ∷ 0x00000003 ∷ 0x0000000A ∷ 0x00000064
-    ∷ 0x00000003 ∷ 0x0000000C ∷ 0x40000136
+    0x400007EA ∷ 0x00000001 ∷ 0x0000000A ∷ 0x00000064
+    ∷ 0x400007EA ∷ 0x00000001 ∷ 0x0000000C ∷ 0x4000002D
+    ∷ 0x400007EA ∷ 0x00000002 ∷ 0x0000000A ∷ 0x00000064
+    ∷ 0x400007EA ∷ 0x00000002 ∷ 0x0000000C ∷ 0x40000136
+    ∷ 0x400007EA ∷ 0x00000003 ∷ 0x0000000A ∷ 0x00000064
+    ∷ 0x400007EA ∷ 0x00000003 ∷ 0x0000000C ∷ 0x40000136
     ∷ []
 
 abbrev pub stems : Tables
@@ -48,17 +49,24 @@ abbrev pub allDiameters : List ℕ → List ℕ
 allDiameters ending = diameters (0x30000000 ∷ []) ending
 
 -- ---- cases
--- survey 7, branch 0, depth 1, and a place's word
-abbrev pub atPlace : ℕ → List ℕ
-atPlace w = 0xD0000007 ∷ 0xE0000001 ∷ w ∷ []
+-- survey 7 and the word of a year, before the words of a position and its places; those of 2026
+abbrev pub ofYear : ℕ → List ℕ → List ℕ
+ofYear year words = 0xD0000007 ∷ year ∷ words
 
--- an opening, over a state buffer of ten words, that writes these
+abbrev pub in2026 : List ℕ → List ℕ
+in2026 words = ofYear 0x000007EA words
+
+-- branch 0, depth 1, and a place's word
+abbrev pub atPlace : ℕ → List ℕ
+atPlace w = in2026 (0xE0000001 ∷ w ∷ [])
+
+-- an opening, over a state buffer of eleven words, that writes these
 abbrev pub opensTo : Tables → List ℕ → List ℕ → Case
-opensTo t plan words = (opening (surveyed t) plan (replicate 10 7), opened (record { answer = Words (length words); state = over words (replicate 10 7) }))
+opensTo t plan words = (opening (surveyed t) plan (replicate 11 7), opened (record { answer = Words (length words); state = over words (replicate 11 7) }))
 
 -- an opening that is refused by a number
 abbrev pub refuses : Tables → List ℕ → ℕ → Case
-refuses t plan x = notOpened t plan (replicate 10 7) x
+refuses t plan x = notOpened t plan (replicate 11 7) x
 
 -- a turn that has all the steps and the room that it needs, from a state to done: its steps and its list
 abbrev pub wholeFrom : Tables → List ℕ → List ℕ → ℕ → List ℕ → Case

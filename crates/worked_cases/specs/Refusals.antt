@@ -1,34 +1,33 @@
--- Cases for each refusal, 1 to 14, beside calls that just pass; and the order of the tests.
+-- Cases for each refusal from 1 to 14, beside calls that just pass; and the order of the tests.
 use Prim.Native.Nat.{ℕ}
 use mathlib.Core.List.{List, [], _∷_, _++_}
-use lib.ListN.{length, replicate, set}
+use lib.ListN.{replicate, set}
 use Rattle.words.specs.declared.Written.the-variants.{Words}
-use Rattle.words.specs.Words.{name, number, text, variable, unbound, word, surveyWord, positionWord, placeWord, headKind, branchKind, trueKind, notKind}
-use Rattle.words.specs.Words.{comparisonKind, atLeast, rowsKind, topKind, fallingKind, groupKind, placeKind}
+use Rattle.words.specs.Words.{name, number, text, variable, unbound, word, surveyWord, yearWord, positionWord, placeWord, headKind, branchKind, trueKind}
+use Rattle.words.specs.Words.{notKind, comparisonKind, atLeast, rowsKind, topKind, fallingKind, groupKind, placeKind}
 use Rattle.words.specs.Sequences.{over}
-use Rattle.turns.specs.declared.TurnEnding.the-variants.{Done, Spent}
-use Rattle.merges.specs.Merging.{MergeInput}
-use Rattle.worked_cases.specs.Wood.{wood, noRows, withRows, withOsp, branchA, always, atLeast70, rows01, topFalling, planWith, planA}
+use Rattle.turns.specs.declared.TurnEnding.the-variants.{Done}
+use Rattle.worked_cases.specs.Wood.{i2026, wood, withRows, withOsp, always, rows01, topFalling, planWith, planA}
 use Rattle.worked_cases.specs.Wood.{planTop, planGroup, stateAt, start, stem}
 use Rattle.worked_cases.specs.Calls.{opening, opened, merging, merged, Case, surveyed, stateBuffer, keptBuffer, turnCall, mergeCall, turnCase}
 use Rattle.worked_cases.specs.Calls.{notOpened, notTurned, notMerged}
 
--- ---- the tables, 1 to 4
+-- ---- the tables, 1 to 4; 23, and lengths that are no multiple of 4, in worked_limits, YearLimits
 abbrev pub ofTables : List Case
 ofTables =
-    notOpened (withRows (name 1 ∷ name 2 ∷ [])) planA (replicate 10 7) 1
-    ∷ notOpened (record { rows = wood .rows; pos = 0 ∷ []; osp = wood .osp }) planA (replicate 10 7) 1
-    ∷ notOpened (withOsp (0 ∷ 2 ∷ 4 ∷ 1 ∷ 3 ∷ 5 ∷ 5 ∷ [])) planA (replicate 10 7) 1
+    notOpened (withRows (i2026 ∷ name 1 ∷ name 2 ∷ [])) planA (replicate 11 7) 1
+    ∷ notOpened (record { rows = wood .rows; pos = 0 ∷ []; osp = wood .osp }) planA (replicate 11 7) 1
+    ∷ notOpened (withOsp (0 ∷ 2 ∷ 4 ∷ 1 ∷ 3 ∷ 5 ∷ 5 ∷ [])) planA (replicate 11 7) 1
     -- a number as predicate; unbound as object; and a wrong kind in the last row comes before the order of the first
-    ∷ notOpened (withRows (set (wood .rows) 1 (number 3))) planA (replicate 10 7) 2
-    ∷ notOpened (withRows (set (wood .rows) 2 unbound)) planA (replicate 10 7) 2
-    ∷ notOpened (withRows (set (set (wood .rows) 0 (name 9)) 15 (text 1))) planA (replicate 10 7) 2
+    ∷ notOpened (withRows (set (wood .rows) 2 (number 3))) planA (replicate 11 7) 2
+    ∷ notOpened (withRows (set (wood .rows) 3 unbound)) planA (replicate 11 7) 2
+    ∷ notOpened (withRows (set (set (wood .rows) 1 (name 9)) 21 (text 1))) planA (replicate 11 7) 2
     -- rows that descend; two equal rows
-    ∷ notOpened (withRows (set (wood .rows) 0 (name 2))) planA (replicate 10 7) 3
-    ∷ notOpened (withRows (set (set (wood .rows) 4 (name 10)) 5 (name 100))) planA (replicate 10 7) 3
+    ∷ notOpened (withRows (set (wood .rows) 1 (name 2))) planA (replicate 11 7) 3
+    ∷ notOpened (withRows (set (set (wood .rows) 6 (name 10)) 7 (name 100))) planA (replicate 11 7) 3
     -- a row that is not there; a list that descends
-    ∷ notOpened (withOsp (0 ∷ 2 ∷ 4 ∷ 1 ∷ 3 ∷ 6 ∷ [])) planA (replicate 10 7) 4
-    ∷ notOpened (withOsp (0 ∷ 2 ∷ 4 ∷ 1 ∷ 5 ∷ 3 ∷ [])) planA (replicate 10 7) 4
+    ∷ notOpened (withOsp (0 ∷ 2 ∷ 4 ∷ 1 ∷ 3 ∷ 6 ∷ [])) planA (replicate 11 7) 4
+    ∷ notOpened (withOsp (0 ∷ 2 ∷ 4 ∷ 1 ∷ 5 ∷ 3 ∷ [])) planA (replicate 11 7) 4
     ∷ []
 
 -- ---- plans, 5 and 6
@@ -37,7 +36,7 @@ abbrev pub seven : List ℕ
 seven = word notKind 0 ∷ word notKind 0 ∷ word notKind 0 ∷ word notKind 0 ∷ word notKind 0 ∷ word notKind 0 ∷ word notKind 0 ∷ always
 
 abbrev pub wrongPlan : List ℕ → ℕ → Case
-wrongPlan plan x = notOpened wood plan (replicate 10 7) x
+wrongPlan plan x = notOpened wood plan (replicate 11 7) x
 
 abbrev pub ofPlans : List Case
 ofPlans =
@@ -48,7 +47,7 @@ ofPlans =
     ∷ wrongPlan (planWith (word comparisonKind 6 ∷ variable 1 ∷ number 70 ∷ []) rows01) 5
     ∷ wrongPlan (planWith (word comparisonKind 0 ∷ variable 1 ∷ []) []) 5
     -- 8 deep passes, 9 deep does not
-    ∷ (opening (surveyed wood) (planWith seven rows01) (replicate 10 7), opened (record { answer = Words 3; state = stateBuffer start }))
+    ∷ (opening (surveyed wood) (planWith seven rows01) (replicate 11 7), opened (record { answer = Words 4; state = stateBuffer start }))
     ∷ wrongPlan (planWith (word notKind 0 ∷ seven) rows01) 5
     ∷ wrongPlan (planWith always (topFalling 65)) 5
     ∷ wrongPlan (planWith always (word topKind 1 ∷ rows01)) 5
@@ -67,22 +66,22 @@ ofPlans =
 -- ---- buffers, quantum, state and threshold, 7 to 11
 abbrev pub ofTurns : List Case
 ofTurns =
-    notOpened wood planA (replicate 9 7) 7
+    notOpened wood planA (replicate 10 7) 7
     ∷ notTurned (turnCall wood planA start 10 [] 1) 7
     ∷ notTurned (turnCall wood planTop start 10 [] 1) 7
     ∷ notTurned (turnCall wood planGroup start 10 [] 7) 7
     ∷ notTurned
-    (record { survey = surveyed wood; plan = planA; state = over start (replicate 9 7); given = 3; quantum = 0; threshold = []; output = replicate 2 9 }) 7
+    (record { survey = surveyed wood; plan = planA; state = over start (replicate 10 7); given = 4; quantum = 0; threshold = []; output = replicate 2 9 }) 7
     ∷ notTurned (turnCall wood planA start 0 [] 2) 8
     ∷ notTurned (turnCall wood planA start 1000001 [] 2) 8
     -- no words; a depth above the patterns; a branch that is not there; a place too few; a wrong kind; more words than the buffer has
     ∷ notTurned (turnCall wood planA [] 5 [] 2) 9
     ∷ notTurned (turnCall wood planA (stateAt (0 ∷ 2 ∷ 3 ∷ [])) 5 [] 2) 9
-    ∷ notTurned (turnCall wood planA (surveyWord 7 ∷ positionWord 1 1 ∷ placeWord 0 ∷ []) 5 [] 2) 9
-    ∷ notTurned (turnCall wood planA (surveyWord 7 ∷ positionWord 0 2 ∷ placeWord 0 ∷ []) 5 [] 2) 9
-    ∷ notTurned (turnCall wood planA (surveyWord 7 ∷ word placeKind 1 ∷ placeWord 0 ∷ []) 5 [] 2) 9
+    ∷ notTurned (turnCall wood planA (surveyWord 7 ∷ yearWord 2026 ∷ positionWord 1 1 ∷ placeWord 0 ∷ []) 5 [] 2) 9
+    ∷ notTurned (turnCall wood planA (surveyWord 7 ∷ yearWord 2026 ∷ positionWord 0 2 ∷ placeWord 0 ∷ []) 5 [] 2) 9
+    ∷ notTurned (turnCall wood planA (surveyWord 7 ∷ yearWord 2026 ∷ word placeKind 1 ∷ placeWord 0 ∷ []) 5 [] 2) 9
     ∷ notTurned
-    (record { survey = surveyed wood; plan = planA; state = stateBuffer start; given = 11; quantum = 5; threshold = []; output = replicate 2 9 }) 9
+    (record { survey = surveyed wood; plan = planA; state = stateBuffer start; given = 12; quantum = 5; threshold = []; output = replicate 2 9 }) 9
     -- a place below its range; an upper place that is no row of its range
     ∷ notTurned (turnCall wood planA (stateAt (1 ∷ 2 ∷ [])) 5 [] 2) 10
     ∷ notTurned (turnCall wood planA (stateAt (3 ∷ 5 ∷ [])) 5 [] 2) 10

@@ -7,10 +7,11 @@ use lib.ListN.{length, take, replicate}
 use Rattle.words.specs.declared.Written.the-variants.{Words}
 use Rattle.words.specs.Words.{name, number, text, word, notKind}
 use Rattle.words.specs.Sequences.{over}
+use Rattle.steps.specs.Steps.{inYear}
 use Rattle.turns.specs.declared.TurnEnding.the-variants.{Done, Spent, Full}
 use Rattle.worked_cases.specs.Wood.{wood, noRows, withOsp, notError, orError, rows01, planWith, planA, planTwice, planTop, planGroup}
 use Rattle.worked_cases.specs.Wood.{always, atLeast1000, topFalling, topRising, topDiameters, group1, groups0, stateAt, start, nothing, threeStems}
-use Rattle.worked_cases.specs.Wood.{stem, minus1, minus3, minus5, diametersAre, isLess, summed}
+use Rattle.worked_cases.specs.Wood.{startOfNothing, stem, minus1, minus3, minus5, diametersAre, isLess, summed}
 use Rattle.worked_cases.specs.Calls.{opening, opened, merging, merged, running, ran, Case, surveyed, turnCall, turnCase, notTurned}
 use Rattle.worked_cases.specs.Calls.{mergeCall, keptBuffer, notMerged}
 
@@ -38,15 +39,15 @@ merges plan kept list result = (
 
 abbrev pub starred : List Case
 starred =
-    -- opening writes the start: the survey's number, branch 0, depth 1, its range's first place
-    (opening (surveyed wood) planA (replicate 11 5), opened (record { answer = Words 3; state = over start (replicate 11 5) }))
+    -- opening writes the start: the survey's number, the year, branch 0, depth 1, its range's first place
+    (opening (surveyed wood) planA (replicate 12 5), opened (record { answer = Words 4; state = over start (replicate 12 5) }))
     -- A in full: rows n2 i310 and n3 i310, 10 steps
     ∷ whole planA 10 (stem 2 310 ++ stem 3 310)
     ∷ (running wood planA 10, ran none (stem 2 310 ++ stem 3 310))
     -- quantum 10 is done; 9 is spent at depth 1, place 3
     ∷ turnCase (turnCall wood planA start 10 [] 128) Done 10 [] (stem 2 310 ++ stem 3 310)
     ∷ turnCase (turnCall wood planA start 9 [] 128) Spent 9 (stateAt (3 ∷ [])) (stem 2 310 ++ stem 3 310)
-    ∷ (running wood planA 9, ran (some (record { branch = 0; upper = []; place = 3 })) (stem 2 310 ++ stem 3 310))
+    ∷ (running wood planA 9, ran (some (inYear 2026 (record { branch = 0; upper = []; place = 3 }))) (stem 2 310 ++ stem 3 310))
     -- output of one row, quantum 10: full after 7 steps
     ∷ turnCase (turnCall wood planA start 10 [] 2) Full 7 (stateAt (2 ∷ 5 ∷ [])) (stem 2 310)
     -- states with places 0,2 and 3 alone are accepted; 0,3 and 4 alone are refused by 10
@@ -61,10 +62,10 @@ starred =
     -- condition "true", group of no variable measuring ?1: rows 3, numbers 3, sum 665, least i45, greatest i310
     ∷ whole planGroup 10 threeStems
     -- no rows in the tables: done after 1 step
-    ∷ turnCase (turnCall noRows planA start 100 [] 128) Done 1 [] []
+    ∷ turnCase (turnCall noRows planA startOfNothing 100 [] 128) Done 1 [] []
     -- that group, and no rows in the tables: done after 1 step, with the record of no rows; by one variable there is none
-    ∷ turnCase (turnCall noRows planGroup start 1 [] 8) Done 1 [] nothing
-    ∷ turnCase (turnCall noRows (planWith always groups0) start 1 [] 9) Done 1 [] []
+    ∷ turnCase (turnCall noRows planGroup startOfNothing 1 [] 8) Done 1 [] nothing
+    ∷ turnCase (turnCall noRows (planWith always groups0) startOfNothing 1 [] 9) Done 1 [] []
     -- a condition false on every row, cut at 9: the first list is empty, the last the record of no rows; merged, one record
     ∷ turnCase (turnCall wood (planWith atLeast1000 group1) start 9 [] 8) Spent 9 (stateAt (3 ∷ [])) []
     ∷ turnCase (turnCall wood (planWith atLeast1000 group1) (stateAt (3 ∷ [])) 9 [] 8) Done 1 [] nothing

@@ -2,17 +2,22 @@
 use Prim.Native.Nat.{ℕ}
 use mathlib.Core.List.{List, [], _∷_, _++_, map}
 use lib.ListN.{length}
-use Rattle.words.specs.Words.{name, number, variable, word, surveyWord, positionWord, placeWord, headKind, branchKind, trueKind, orKind, notKind}
-use Rattle.words.specs.Words.{comparisonKind, unbound, equalTo, lessThan, atLeast, rowsKind, topKind, risingKind, fallingKind, groupKind}
+use Rattle.words.specs.Words.{name, number, variable, word, surveyWord, yearWord, positionWord, placeWord, headKind, branchKind, trueKind, orKind}
+use Rattle.words.specs.Words.{notKind, comparisonKind, unbound, equalTo, lessThan, atLeast, rowsKind, topKind, risingKind, fallingKind, groupKind}
 use Rattle.tables.specs.Tables.{Tables}
 
 -- ---- tables
+-- the year of the wood, as a row has it
+abbrev pub i2026 : ℕ
+i2026 = number 2026
+
 abbrev pub wood : Tables
 wood =
     record {
       rows =
-          name 1 ∷ name 10 ∷ name 100 ∷ name 1 ∷ name 12 ∷ number 45 ∷ name 2 ∷ name 10 ∷ name 100 ∷ name 2 ∷ name 12 ∷ number 310
-          ∷ name 3 ∷ name 10 ∷ name 100 ∷ name 3 ∷ name 12 ∷ number 310 ∷ [];
+          i2026 ∷ name 1 ∷ name 10 ∷ name 100 ∷ i2026 ∷ name 1 ∷ name 12 ∷ number 45
+          ∷ i2026 ∷ name 2 ∷ name 10 ∷ name 100 ∷ i2026 ∷ name 2 ∷ name 12 ∷ number 310
+          ∷ i2026 ∷ name 3 ∷ name 10 ∷ name 100 ∷ i2026 ∷ name 3 ∷ name 12 ∷ number 310 ∷ [];
       pos = 0 ∷ 2 ∷ 4 ∷ 1 ∷ 3 ∷ 5 ∷ [];
       osp = 0 ∷ 2 ∷ 4 ∷ 1 ∷ 3 ∷ 5 ∷ [];
     }
@@ -41,8 +46,9 @@ minus5 = 0x7FFFFFFB
 abbrev pub diametersAre : ℕ → ℕ → ℕ → Tables
 diametersAre a b c =
     withRows
-    (name 1 ∷ name 10 ∷ name 100 ∷ name 1 ∷ name 12 ∷ a ∷ name 2 ∷ name 10 ∷ name 100 ∷ name 2 ∷ name 12 ∷ b
-    ∷ name 3 ∷ name 10 ∷ name 100 ∷ name 3 ∷ name 12 ∷ c ∷ [])
+    (i2026 ∷ name 1 ∷ name 10 ∷ name 100 ∷ i2026 ∷ name 1 ∷ name 12 ∷ a
+    ∷ i2026 ∷ name 2 ∷ name 10 ∷ name 100 ∷ i2026 ∷ name 2 ∷ name 12 ∷ b
+    ∷ i2026 ∷ name 3 ∷ name 10 ∷ name 100 ∷ i2026 ∷ name 3 ∷ name 12 ∷ c ∷ [])
 
 -- ---- plans
 -- the branch ?0 n10 n100, ?0 n12 ?1 with a condition
@@ -119,9 +125,16 @@ abbrev pub planUnbound : List ℕ
 planUnbound = word headKind 2 ∷ (branchA always ++ (branchB ++ topRising 1))
 
 -- ---- states and rows
--- a state of branch 0 at some places, over survey 7
+-- a state of branch 0 at some places, over survey 7: in a year, and in that of the wood
+abbrev pub stateOf : ℕ → List ℕ → List ℕ
+stateOf year places = surveyWord 7 ∷ yearWord year ∷ positionWord 0 (length places) ∷ map placeWord places
+
 abbrev pub stateAt : List ℕ → List ℕ
-stateAt places = surveyWord 7 ∷ positionWord 0 (length places) ∷ map placeWord places
+stateAt places = stateOf 2026 places
+
+-- without rows the year is 0
+abbrev pub startOfNothing : List ℕ
+startOfNothing = stateOf 0 (0 ∷ [])
 
 abbrev pub start : List ℕ
 start = stateAt (0 ∷ [])

@@ -3,7 +3,7 @@ use mathlib.Core.Path.{refl}
 use Rattle.worked_cases.specs.Calls.{Hold}
 use Rattle.worked_formats.specs.Kinds.{kinds, otherKinds}
 use Rattle.worked_formats.specs.Orders.{fixedFields, emptyRanges, fixedEarlier, threeOrders, repeated}
-use Rattle.worked_formats.specs.States.{throughBranches, deepStates, wrongStates}
+use Rattle.worked_formats.specs.States.{throughBranches, throughYears, singleYears, deepStates, wrongStates}
 use Rattle.worked_cases.proofs.Holds.{computing}
 use Rattle.worked_cases.proofs.ByOutcomes.{by-outcomes}
 
@@ -41,6 +41,14 @@ repeated-hold = by-outcomes repeated refl
 pub through-branches-hold : Hold throughBranches
 unfolding computing
 through-branches-hold = by-outcomes throughBranches refl
+
+pub through-years-hold : Hold throughYears
+unfolding computing
+through-years-hold = by-outcomes throughYears refl
+
+pub single-years-hold : Hold singleYears
+unfolding computing
+single-years-hold = by-outcomes singleYears refl
 
 pub deep-states-hold : Hold deepStates
 unfolding computing

@@ -1,9 +1,9 @@
 -- The table of kinds (docs/RULES.md, 1), a plan or more for each kind of word: literal words, and what they deliver over the three-stem wood.
--- Kinds 14 and 15 are in States.
+-- Kinds 13, 14 and 15 are in States, and there is more of years.
 use Prim.Native.Nat.{ℕ}
 use mathlib.Core.List.{List, [], _∷_, _++_, map, flatten}
 use Rattle.worked_cases.specs.Calls.{Case}
-use Rattle.worked_cases.specs.Literals.{stems, stem1, stem2, stem3, ending01, diameters, allDiameters, atPlace, refuses, wholeRun}
+use Rattle.worked_cases.specs.Literals.{stems, stem1, stem2, stem3, ending01, diameters, allDiameters, ofYear, atPlace, refuses, wholeRun}
 
 -- a plan of ?0 n12 ?1, which starts at place 3 and takes 4 steps whatever its condition and its ending
 abbrev pub gives : List ℕ → List ℕ → List ℕ → List Case
@@ -15,8 +15,12 @@ givesAll ending list = gives (0x30000000 ∷ []) ending list
 abbrev pub kinds : List Case
 kinds =
     flatten
+    -- 0: a year before the head, 2026; every year, which is that one; 2025, which has no rows
+    (wholeRun stems (0x000007EA ∷ allDiameters ending01) (atPlace 0xF0000003) 4 (stem1 ++ (stem2 ++ stem3))
+    ∷ wholeRun stems (0x00000000 ∷ allDiameters ending01) (atPlace 0xF0000003) 4 (stem1 ++ (stem2 ++ stem3))
+    ∷ wholeRun stems (0x000007E9 ∷ allDiameters ending01) (ofYear 0x000007E9 (0xE0000001 ∷ 0xF0000000 ∷ [])) 1 []
     -- 1: head, one branch; two branches, ?0 n12 ?1 and ?0 n10 ?2, in plan order: rows of the second have no ?1
-    (givesAll ending01 (stem1 ++ (stem2 ++ stem3))
+    ∷ givesAll ending01 (stem1 ++ (stem2 ++ stem3))
     ∷ wholeRun stems
     (0x10000002 ∷ 0x20000001 ∷ 0xC0000000 ∷ 0x0000000C ∷ 0xC0000001 ∷ 0x30000000
     ∷ 0x20000001 ∷ 0xC0000000 ∷ 0x0000000A ∷ 0xC0000002 ∷ 0x30000000 ∷ ending01)
@@ -70,8 +74,13 @@ others plan ws = map (λ w. refuses stems (plan w) 5) ws
 abbrev pub otherKinds : List Case
 otherKinds =
     flatten
+    -- before the head: 0 alone, and once
+    (others (λ w. w ∷ allDiameters ending01)
+    (0x10000001 ∷ 0x20000001 ∷ 0x30000000 ∷ 0x40000000 ∷ 0x50000000 ∷ 0x60000000 ∷ 0x70000000 ∷ 0x80000001 ∷ 0x90000001 ∷ 0xA0000001
+    ∷ 0xB0000001 ∷ 0xC0000000 ∷ 0xD0000007 ∷ 0xE0000001 ∷ 0xF0000000 ∷ [])
+    ∷ others (λ w. w ∷ 0x000007EA ∷ allDiameters ending01) (0x00000000 ∷ 0x000007EA ∷ 0x10000001 ∷ [])
     -- the head: 1 alone
-    (others (λ w. w ∷ 0x20000001 ∷ 0xC0000000 ∷ 0x0000000C ∷ 0xC0000001 ∷ 0x30000000 ∷ ending01)
+    ∷ others (λ w. w ∷ 0x20000001 ∷ 0xC0000000 ∷ 0x0000000C ∷ 0xC0000001 ∷ 0x30000000 ∷ ending01)
     (0x00000001 ∷ 0x20000001 ∷ 0x30000001 ∷ 0x40000001 ∷ 0x50000001 ∷ 0x60000001 ∷ 0x70000001 ∷ 0x80000001 ∷ 0x90000001 ∷ 0xA0000001
     ∷ 0xB0000001 ∷ 0xC0000001 ∷ 0xD0000001 ∷ 0xE0000001 ∷ 0xF0000001 ∷ [])
     -- a branch: 2 alone

@@ -5,7 +5,7 @@ use mathlib.Core.List.{List, [], _∷_, flatten}
 use Rattle.tables.specs.Tables.{Tables}
 use Rattle.turns.specs.declared.TurnEnding.the-variants.{Spent}
 use Rattle.worked_cases.specs.Calls.{Case, turnCall, turnCase, notTurned}
-use Rattle.worked_cases.specs.Literals.{stemRows, stems, ending0, ending01, atPlace, refuses, wholeRun}
+use Rattle.worked_cases.specs.Literals.{stems, ending0, ending01, in2026, atPlace, refuses, wholeRun}
 
 -- a branch of one pattern, "true", and rows
 abbrev pub onePattern : ℕ → ℕ → ℕ → List ℕ → List ℕ
@@ -18,8 +18,11 @@ ending012 = 0x80000003 ∷ 0xC0000000 ∷ 0xC0000001 ∷ 0xC0000002 ∷ []
 abbrev pub fixedFields : List Case
 fixedFields =
     flatten
-    -- none, ?0 ?1 ?2, in SPO: the rows as they stand
-    (wholeRun stems (onePattern 0xC0000000 0xC0000001 0xC0000002 ending012) (atPlace 0xF0000000) 7 stemRows
+    -- none, ?0 ?1 ?2, in SPO: the rows as they stand, without their year
+    (wholeRun stems (onePattern 0xC0000000 0xC0000001 0xC0000002 ending012) (atPlace 0xF0000000) 7
+    (0x00000001 ∷ 0x0000000A ∷ 0x00000064 ∷ 0x00000001 ∷ 0x0000000C ∷ 0x4000002D
+    ∷ 0x00000002 ∷ 0x0000000A ∷ 0x00000064 ∷ 0x00000002 ∷ 0x0000000C ∷ 0x40000136
+    ∷ 0x00000003 ∷ 0x0000000A ∷ 0x00000064 ∷ 0x00000003 ∷ 0x0000000C ∷ 0x40000136 ∷ [])
     -- S, n2 ?0 ?1, in SPO from place 2
     ∷ wholeRun stems (onePattern 0x00000002 0xC0000000 0xC0000001 ending01) (atPlace 0xF0000002) 3
     (0x0000000A ∷ 0x00000064 ∷ 0x0000000C ∷ 0x40000136 ∷ [])
@@ -105,20 +108,20 @@ objectAlone =
 
 abbrev pub fixedEarlier : List Case
 fixedEarlier =
-    leads subjectAndObject 1 (0xD0000007 ∷ 0xE0000002 ∷ 0xF0000000 ∷ 0xF0000000 ∷ [])
-    ∷ leads subjectAndObject 4 (0xD0000007 ∷ 0xE0000002 ∷ 0xF0000001 ∷ 0xF0000001 ∷ [])
-    ∷ leads subjectAndObject 7 (0xD0000007 ∷ 0xE0000002 ∷ 0xF0000002 ∷ 0xF0000002 ∷ [])
-    ∷ turnCase (turnCall stems objectAlone (atPlace 0xF0000003) 1 [] 128) Spent 1 (0xD0000007 ∷ 0xE0000002 ∷ 0xF0000003 ∷ 0xF0000003 ∷ []) []
-    ∷ turnCase (turnCall stems objectAlone (atPlace 0xF0000003) 4 [] 128) Spent 4 (0xD0000007 ∷ 0xE0000002 ∷ 0xF0000004 ∷ 0xF0000004 ∷ []) []
+    leads subjectAndObject 1 (in2026 (0xE0000002 ∷ 0xF0000000 ∷ 0xF0000000 ∷ []))
+    ∷ leads subjectAndObject 4 (in2026 (0xE0000002 ∷ 0xF0000001 ∷ 0xF0000001 ∷ []))
+    ∷ leads subjectAndObject 7 (in2026 (0xE0000002 ∷ 0xF0000002 ∷ 0xF0000002 ∷ []))
+    ∷ turnCase (turnCall stems objectAlone (atPlace 0xF0000003) 1 [] 128) Spent 1 (in2026 (0xE0000002 ∷ 0xF0000003 ∷ 0xF0000003 ∷ [])) []
+    ∷ turnCase (turnCall stems objectAlone (atPlace 0xF0000003) 4 [] 128) Spent 4 (in2026 (0xE0000002 ∷ 0xF0000004 ∷ 0xF0000004 ∷ [])) []
     ∷ []
 
--- ---- a wood in which every order differs: all eight rows of n1 and n2. SPO: 111 112 121 122 211 212 221 222
+-- ---- a wood in which every order differs: all eight rows of n1 and n2, in 2026. SPO: 111 112 121 122 211 212 221 222
 abbrev pub eight : List ℕ → List ℕ → Tables
 eight pos osp =
     record {
       rows =
-          1 ∷ 1 ∷ 1 ∷ 1 ∷ 1 ∷ 2 ∷ 1 ∷ 2 ∷ 1 ∷ 1 ∷ 2 ∷ 2
-          ∷ 2 ∷ 1 ∷ 1 ∷ 2 ∷ 1 ∷ 2 ∷ 2 ∷ 2 ∷ 1 ∷ 2 ∷ 2 ∷ 2 ∷ [];
+          0x400007EA ∷ 1 ∷ 1 ∷ 1 ∷ 0x400007EA ∷ 1 ∷ 1 ∷ 2 ∷ 0x400007EA ∷ 1 ∷ 2 ∷ 1 ∷ 0x400007EA ∷ 1 ∷ 2 ∷ 2
+          ∷ 0x400007EA ∷ 2 ∷ 1 ∷ 1 ∷ 0x400007EA ∷ 2 ∷ 1 ∷ 2 ∷ 0x400007EA ∷ 2 ∷ 2 ∷ 1 ∷ 0x400007EA ∷ 2 ∷ 2 ∷ 2 ∷ [];
       pos = pos;
       osp = osp;
     }

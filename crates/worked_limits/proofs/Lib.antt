@@ -4,3 +4,4 @@ pub mod ClosingsHold
 pub mod SurveysHold
 pub mod SizesHold
 pub mod StepsHold
+pub mod YearsHold

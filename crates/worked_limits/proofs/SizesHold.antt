@@ -4,13 +4,13 @@ use mathlib.Core.Path.{_≡_, refl}
 use mathlib.Core.Bool.{Bool, false, _&&_}
 use mathlib.Core.List.{List}
 use lib.Dec.{eqb, leb}
-use lib.ListN.{length, replicate, length-replicate}
+use lib.ListN.{replicate, length-replicate}
 use Rattle.words.specs.declared.Written.the-variants.{Refused}
 use Rattle.words.specs.Tests.{firstFailing}
 use Rattle.tables.specs.Tables.{Tables, mostRows, columnCount, lengthsRight}
 use Rattle.turns.specs.Opening.{openOf}
 use Rattle.uploads.specs.declared.Made.the-variants as made
-use Rattle.uploads.specs.Making.{MadeBuffers, uploadRight, MakeInput, makeOf}
+use Rattle.uploads.specs.Making.{uploadRight, MakeInput, makeOf}
 use Rattle.worked_cases.specs.Calls.{surveyed}
 use Rattle.worked_limits.specs.Sizes.{zeroRows, RowLimit, UploadLimit}
 
@@ -18,7 +18,7 @@ use Rattle.worked_limits.specs.Sizes.{zeroRows, RowLimit, UploadLimit}
 abbrev fit : ℕ → ℕ → ℕ → Bool
 fit rows pos osp = eqb (rows % columnCount) 0 && (eqb pos (rows / columnCount) && (eqb osp (rows / columnCount) && leb (rows / columnCount) mostRows))
 
-lengths : (n : ℕ) → lengthsRight (zeroRows n) ≡ fit (n * 3) n n
+lengths : (n : ℕ) → lengthsRight (zeroRows n) ≡ fit (n * 4) n n
 unfolding lengthsRight
 lengths n = simp (length-replicate)
 
@@ -31,7 +31,7 @@ pub row-limit : RowLimit
 row-limit = record { most = lengths 65536; more = λ plan state. by-one (zeroRows 65537) plan state (lengths 65537) }
 
 -- test 15 of a length
-uploaded : (n : ℕ) → uploadRight (replicate (n * 3) 0) ≡ (eqb (n * 3 % columnCount) 0 && leb (n * 3 / columnCount) mostRows)
+uploaded : (n : ℕ) → uploadRight (replicate (n * 4) 0) ≡ (eqb (n * 4 % columnCount) 0 && leb (n * 4 / columnCount) mostRows)
 unfolding uploadRight
 uploaded n = simp (length-replicate)
 

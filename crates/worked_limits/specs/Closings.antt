@@ -7,16 +7,21 @@ use lib.ListN.{length, replicate}
 use Rattle.words.specs.declared.Written.the-variants.{Words}
 use Rattle.words.specs.Sequences.{over}
 use Rattle.tables.specs.Tables.{Tables}
+use Rattle.steps.specs.Steps.{inYear}
 use Rattle.turns.specs.declared.TurnEnding.the-variants.{Done, Spent}
 use Rattle.turns.specs.Opening.{openOf}
 use Rattle.cuts.specs.Histories.{Event, turns, merges, Phone, fresh, history}
 use Rattle.worked_cases.specs.Calls.{merging, merged, running, ran, Case, surveyed, turnCall, turnCase, mergeCall, keptBuffer}
-use Rattle.worked_cases.specs.Literals.{stems, atPlace, opensTo, wholeFrom}
+use Rattle.worked_cases.specs.Literals.{stems, ofYear, atPlace, opensTo, wholeFrom}
 use Rattle.worked_limits.specs.Faults.{nothing}
 
 -- ---- tables and plans
 abbrev pub bare : Tables
 bare = record { rows = []; pos = []; osp = [] }
+
+-- its only state, of year 0
+abbrev pub inBare : List ℕ
+inBare = ofYear 0x00000000 (0xE0000001 ∷ 0xF0000000 ∷ [])
 
 -- plan A's patterns, ?0 n10 n100, ?0 n12 ?1, with a condition and an ending
 abbrev pub stemsWith : List ℕ → List ℕ → List ℕ
@@ -53,14 +58,14 @@ adds kept list result = (
 abbrev pub closings : List Case
 closings =
     -- a wood without rows: done after 1 step, with the record, in an output of just its words; the uncut run has it at its end and not before
-    opensTo bare (stemsWith anyStem oneGroup) (atPlace 0xF0000000)
-    ∷ turnCase (turnCall bare (stemsWith anyStem oneGroup) (atPlace 0xF0000000) 1 [] 8) Done 1 [] nothing
-    ∷ (running bare (stemsWith anyStem oneGroup) 0, ran (some (record { branch = 0; upper = []; place = 0 })) [])
+    opensTo bare (stemsWith anyStem oneGroup) inBare
+    ∷ turnCase (turnCall bare (stemsWith anyStem oneGroup) inBare 1 [] 8) Done 1 [] nothing
+    ∷ (running bare (stemsWith anyStem oneGroup) 0, ran (some (inYear 0 (record { branch = 0; upper = []; place = 0 }))) [])
     ∷ (running bare (stemsWith anyStem oneGroup) 1, ran none nothing)
     -- by one variable there is no group; nor is there a row or a best row
-    ∷ wholeFrom bare (stemsWith anyStem groups0) (atPlace 0xF0000000) 1 []
-    ∷ wholeFrom bare (stemsWith anyStem (0x80000001 ∷ 0xC0000001 ∷ [])) (atPlace 0xF0000000) 1 []
-    ∷ wholeFrom bare (stemsWith anyStem (0x90000001 ∷ 0x80000001 ∷ 0xC0000001 ∷ 0xA0000001 ∷ [])) (atPlace 0xF0000000) 1 []
+    ∷ wholeFrom bare (stemsWith anyStem groups0) inBare 1 []
+    ∷ wholeFrom bare (stemsWith anyStem (0x80000001 ∷ 0xC0000001 ∷ [])) inBare 1 []
+    ∷ wholeFrom bare (stemsWith anyStem (0x90000001 ∷ 0x80000001 ∷ 0xC0000001 ∷ 0xA0000001 ∷ [])) inBare 1 []
     -- no stem passes: whole in 10 steps; cut at 9 the first turn has no list, and the last one the record
     ∷ wholeFrom stems (stemsWith noStem oneGroup) (atPlace 0xF0000000) 10 nothing
     ∷ turnCase (turnCall stems (stemsWith noStem oneGroup) (atPlace 0xF0000000) 9 [] 8) Spent 9 (atPlace 0xF0000003) []
@@ -88,7 +93,7 @@ cutAtNine =
 
 abbrev pub playedBy : List ℕ → Phone
 playedBy condition =
-    history (surveyed stems) (stemsWith condition oneGroup) (fresh (openOf (surveyed stems) (stemsWith condition oneGroup) (replicate 10 7))) cutAtNine
+    history (surveyed stems) (stemsWith condition oneGroup) (fresh (openOf (surveyed stems) (stemsWith condition oneGroup) (replicate 11 7))) cutAtNine
 
 -- done: two served turns of 9 steps and 1, their lists taken
 abbrev pub doneWith : List ℕ → List ℕ → Phone

@@ -102,9 +102,11 @@ ofForm =
     ∷ beyond (underCondition (nots 8 ++ leaf))
     ∷ allowed (underCondition (orChain 7))
     ∷ beyond (underCondition (orChain 8))
-    -- 256 words at most
+    -- 256 words at most, a year's word among them
     ∷ allowed (longPlan 1)
     ∷ beyond (longPlan 2)
+    ∷ allowed (0x000007EA ∷ longPlan 0)
+    ∷ beyond (0x000007EA ∷ longPlan 1)
     ∷ []
 
 -- ?0 to ?15, and all bound: five patterns of three variables, and ?15 n10 n100
@@ -172,15 +174,15 @@ quantumOf n x = (testing (turnCall stems (allDiameters ending01) (atPlace 0xF000
 
 abbrev pub ofBuffers : List Case
 ofBuffers =
-    -- a state buffer of 10 words
+    -- a state buffer of 11 words
     opensTo stems (allDiameters ending01) (atPlace 0xF0000003)
-    ∷ notOpened stems (allDiameters ending01) (replicate 9 7) 7
+    ∷ notOpened stems (allDiameters ending01) (replicate 10 7) 7
     ∷ notTurned
     (record {
       survey = surveyed stems;
       plan = allDiameters ending01;
-      state = over (atPlace 0xF0000003) (replicate 9 7);
-      given = 3;
+      state = over (atPlace 0xF0000003) (replicate 10 7);
+      given = 4;
       quantum = 1;
       threshold = [];
       output = replicate 128 9;

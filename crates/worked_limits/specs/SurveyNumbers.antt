@@ -3,7 +3,6 @@ use Prim.Native.Nat.{ℕ}
 use mathlib.Core.List.{List, [], _∷_}
 use lib.ListN.{length, replicate}
 use Rattle.words.specs.declared.Written.the-variants.{Words, Refused}
-use Rattle.words.specs.Sequences.{over}
 use Rattle.turns.specs.declared.TurnEnding.the-variants.{Spent}
 use Rattle.turns.specs.Surveys.{underNumber}
 use Rattle.worked_cases.specs.Calls.{opening, opened, Case, stateBuffer, turnUnder, turnCase, notTurned}
@@ -16,7 +15,7 @@ planA = stemsWith (0x70000005 ∷ 0xC0000001 ∷ 0x40000046 ∷ []) ending01
 
 -- an opening under a number writes these words, or is refused by a number over a state buffer of so many words
 abbrev pub opensUnder : ℕ → List ℕ → Case
-opensUnder n words = (opening (underNumber n stems) planA (replicate 10 7), opened (record { answer = Words (length words); state = stateBuffer words }))
+opensUnder n words = (opening (underNumber n stems) planA (replicate 11 7), opened (record { answer = Words (length words); state = stateBuffer words }))
 
 abbrev pub notOpenedUnder : ℕ → ℕ → ℕ → Case
 notOpenedUnder n room x = (opening (underNumber n stems) planA (replicate room 7), opened (record { answer = Refused x; state = replicate room 7 }))
@@ -31,25 +30,28 @@ notUnder n words x = notTurned (turnUnder (underNumber n stems) planA words 1 []
 abbrev pub ofSurveys : List Case
 ofSurveys =
     -- survey 7: the start of plan A, and the state after one step
-    opensUnder 7 (0xD0000007 ∷ 0xE0000001 ∷ 0xF0000000 ∷ [])
-    ∷ goesUnder 7 (0xD0000007 ∷ 0xE0000001 ∷ 0xF0000000 ∷ []) (0xD0000007 ∷ 0xE0000002 ∷ 0xF0000000 ∷ 0xF0000001 ∷ [])
+    opensUnder 7 (0xD0000007 ∷ 0x000007EA ∷ 0xE0000001 ∷ 0xF0000000 ∷ [])
+    ∷ goesUnder 7 (0xD0000007 ∷ 0x000007EA ∷ 0xE0000001 ∷ 0xF0000000 ∷ [])
+    (0xD0000007 ∷ 0x000007EA ∷ 0xE0000002 ∷ 0xF0000000 ∷ 0xF0000001 ∷ [])
     -- the least number and the most
-    ∷ opensUnder 0 (0xD0000000 ∷ 0xE0000001 ∷ 0xF0000000 ∷ [])
-    ∷ opensUnder 0x0FFFFFFF (0xDFFFFFFF ∷ 0xE0000001 ∷ 0xF0000000 ∷ [])
-    ∷ goesUnder 0x0FFFFFFF (0xDFFFFFFF ∷ 0xE0000001 ∷ 0xF0000000 ∷ []) (0xDFFFFFFF ∷ 0xE0000002 ∷ 0xF0000000 ∷ 0xF0000001 ∷ [])
+    ∷ opensUnder 0 (0xD0000000 ∷ 0x000007EA ∷ 0xE0000001 ∷ 0xF0000000 ∷ [])
+    ∷ opensUnder 0x0FFFFFFF (0xDFFFFFFF ∷ 0x000007EA ∷ 0xE0000001 ∷ 0xF0000000 ∷ [])
+    ∷ goesUnder 0x0FFFFFFF (0xDFFFFFFF ∷ 0x000007EA ∷ 0xE0000001 ∷ 0xF0000000 ∷ [])
+    (0xDFFFFFFF ∷ 0x000007EA ∷ 0xE0000002 ∷ 0xF0000000 ∷ 0xF0000001 ∷ [])
     -- a state of survey 6 is refused by 22, also where its places are wrong; under its own number the places are, by 10
-    ∷ notUnder 7 (0xD0000006 ∷ 0xE0000001 ∷ 0xF0000000 ∷ []) 22
-    ∷ notUnder 7 (0xD0000006 ∷ 0xE0000001 ∷ 0xF0000004 ∷ []) 22
-    ∷ notUnder 6 (0xD0000006 ∷ 0xE0000001 ∷ 0xF0000004 ∷ []) 10
-    -- a wrong shape is refused by 9 first: of a depth that is not there, and without a survey's word
-    ∷ notUnder 7 (0xD0000006 ∷ 0xE0000003 ∷ 0xF0000000 ∷ []) 9
-    ∷ notUnder 7 (0xE0000001 ∷ 0xF0000000 ∷ []) 9
+    ∷ notUnder 7 (0xD0000006 ∷ 0x000007EA ∷ 0xE0000001 ∷ 0xF0000000 ∷ []) 22
+    ∷ notUnder 7 (0xD0000006 ∷ 0x000007EA ∷ 0xE0000001 ∷ 0xF0000004 ∷ []) 22
+    ∷ notUnder 6 (0xD0000006 ∷ 0x000007EA ∷ 0xE0000001 ∷ 0xF0000004 ∷ []) 10
+    -- a wrong shape is refused by 9 first: of a depth that is not there, of a year that is not read, and without a survey's word
+    ∷ notUnder 7 (0xD0000006 ∷ 0x000007EA ∷ 0xE0000003 ∷ 0xF0000000 ∷ []) 9
+    ∷ notUnder 7 (0xD0000006 ∷ 0x000007E9 ∷ 0xE0000001 ∷ 0xF0000000 ∷ []) 9
+    ∷ notUnder 7 (0x000007EA ∷ 0xE0000001 ∷ 0xF0000000 ∷ []) 9
     -- 2^28 is refused by 22, in opening after 7 and in a turn after 9, also where the number's 28 low bits are the state's
-    ∷ notOpenedUnder 0x10000000 10 22
-    ∷ notOpenedUnder 0x10000000 9 7
-    ∷ notUnder 0x10000000 (0xD0000000 ∷ 0xE0000001 ∷ 0xF0000000 ∷ []) 22
-    ∷ notUnder 0x10000000 (0xD0000000 ∷ 0xE0000001 ∷ 0xF0000004 ∷ []) 22
-    ∷ notUnder 0x10000000 (0xD0000000 ∷ 0xE0000003 ∷ 0xF0000000 ∷ []) 9
-    -- a buffer of 9 words is refused by 7, of 10 it is not
-    ∷ notOpenedUnder 7 9 7
+    ∷ notOpenedUnder 0x10000000 11 22
+    ∷ notOpenedUnder 0x10000000 10 7
+    ∷ notUnder 0x10000000 (0xD0000000 ∷ 0x000007EA ∷ 0xE0000001 ∷ 0xF0000000 ∷ []) 22
+    ∷ notUnder 0x10000000 (0xD0000000 ∷ 0x000007EA ∷ 0xE0000001 ∷ 0xF0000004 ∷ []) 22
+    ∷ notUnder 0x10000000 (0xD0000000 ∷ 0x000007EA ∷ 0xE0000003 ∷ 0xF0000000 ∷ []) 9
+    -- a buffer of 10 words is refused by 7, of 11 it is not
+    ∷ notOpenedUnder 7 10 7
     ∷ []

@@ -1,7 +1,7 @@
 -- Every case of the tables of uploads holds, by computation.
 use mathlib.Core.Path.{refl}
 use Rattle.worked_cases.specs.Calls.{Hold}
-use Rattle.worked_uploads.specs.Uploads.{ofStems, ofLengths, ofFates, ofOrders}
+use Rattle.worked_uploads.specs.Uploads.{ofStems, ofLengths, ofFates, ofYears, ofOrders}
 use Rattle.worked_cases.proofs.Holds.{computing}
 use Rattle.worked_cases.proofs.ByOutcomes.{by-outcomes}
 
@@ -16,6 +16,10 @@ of-lengths-hold = by-outcomes ofLengths refl
 pub of-fates-hold : Hold ofFates
 unfolding computing
 of-fates-hold = by-outcomes ofFates refl
+
+pub of-years-hold : Hold ofYears
+unfolding computing
+of-years-hold = by-outcomes ofYears refl
 
 pub of-orders-hold : Hold ofOrders
 unfolding computing

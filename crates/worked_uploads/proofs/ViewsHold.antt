@@ -12,13 +12,17 @@ use Rattle.views.specs.Views.{viewOf}
 use Rattle.views.proofs.Direct.{any-membership}
 use Rattle.worked_cases.specs.Calls.{Hold}
 use Rattle.worked_cases.specs.Literals.{stems}
-use Rattle.worked_uploads.specs.Views.{ofVisible, ofHidden, ofNumbers, ofGrants, secondStem, withDiameters}
+use Rattle.worked_uploads.specs.Views.{ofVisible, ofYears, ofHidden, ofNumbers, ofGrants, secondStem, withDiameters}
 use Rattle.worked_cases.proofs.Holds.{computing}
 use Rattle.worked_cases.proofs.ByOutcomes.{by-outcomes}
 
 pub of-visible-hold : Hold ofVisible
 unfolding computing
 of-visible-hold = by-outcomes ofVisible refl
+
+pub of-years-hold : Hold ofYears
+unfolding computing
+of-years-hold = by-outcomes ofYears refl
 
 pub of-hidden-hold : Hold ofHidden
 unfolding computing
@@ -36,7 +40,7 @@ of-grants-hold = by-outcomes ofGrants refl
 pub visible-told : (firstFailing (tableTests stems) ≡ none) × (firstFailing (tableTests (withDiameters 0x4000002D 0x4000012C)) ≡ none)
     × ¬ (viewOf stems (2 ∷ []) 10 ≡ viewOf (withDiameters 0x4000002D 0x4000012C) (2 ∷ []) 10)
 unfolding computing
-visible-told = (refl, refl, λ e. let d : _≡_ {A = ℕ} 0x40000136 0x4000012C = ap (λ (t : Tables). getD (t .rows) 5 0) e in omega arith)
+visible-told = (refl, refl, λ e. let d : _≡_ {A = ℕ} 0x40000136 0x4000012C = ap (λ (t : Tables). getD (t .rows) 7 0) e in omega arith)
 
 -- the grant n2 shows the stem n2, whatever the membership predicate: no object is n2
 pub second-stem : (membership : ℕ) → viewOf stems (2 ∷ []) membership ≡ secondStem

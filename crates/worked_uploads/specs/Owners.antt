@@ -1,12 +1,15 @@
--- Three owners on the three-stem wood: one whose steps run out and who is topped up, one who finishes, one who joins with none.
+-- Three owners on the three-stem wood: one whose steps run out and who is topped up, one who finishes, one who joins with none. And joining with a
+-- plan that names a year.
 use Prim.Native.Nat.{ℕ}
 use mathlib.Core.List.{List, [], _∷_}
 use lib.ListN.{replicate}
 use Rattle.turns.specs.declared.TurnEnding.the-variants as ending
+use Rattle.words.specs.Words.{yearWord}
 use Rattle.queues.specs.declared.Entry.{Entry}
+use Rattle.queues.specs.Lists.{LentLists, lentAs}
 use Rattle.queues.specs.Joining.{Joining, newEntry}
 use Rattle.queues.specs.Calls.{Queue, QueueCall, join, serve, topUp, MadeCall, Deed, grants, turns, nothing}
-use Rattle.worked_cases.specs.Wood.{planA, start}
+use Rattle.worked_cases.specs.Wood.{planA, stateOf, start}
 
 -- an owner's query, plan A from its start, with so many steps
 abbrev pub byOwner : ℕ → ℕ → Joining
@@ -40,3 +43,10 @@ elevenDeeds =
 -- who is left: the owner who joined with no steps
 abbrev pub leftOver : Queue
 leftOver = record { line = []; aside = newEntry (byOwner 9 0) ∷ [] }
+
+-- ---- years: lists without entries, and an owner whose plan names a year, from the state at place 0 of another
+abbrev pub emptyLists : LentLists
+emptyLists = lentAs (replicate 32 vacant) 0 (replicate 32 vacant) 0
+
+abbrev pub ofYear : ℕ → ℕ → Joining
+ofYear named year = record { owner = 7; allowance = 4; plan = yearWord named ∷ planA; state = stateOf year (0 ∷ []) }

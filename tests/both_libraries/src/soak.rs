@@ -66,7 +66,7 @@ fn take(library: &Library, query: &Query, kept: &mut Vec<u32>, list: &[u32]) {
 
 /// A query run alone, from its opening to its end: its list, and its steps.
 fn alone(library: &Library, query: &Query) -> (Vec<u32>, u64) {
-    let (lent, mut state, mut output) = (lent(query), vec![0; 10], vec![0; 64 * query.plan.least_output()]);
+    let (lent, mut state, mut output) = (lent(query), vec![0; 11], vec![0; 64 * query.plan.least_output()]);
     let mut given = library.open(&lent, &mut state).words;
     let (mut kept, mut steps) = (Vec::new(), 0);
     loop {

@@ -129,7 +129,7 @@ fn plain(lists: &Lists) -> Lists {
         words
     };
     let entry = |entry: &Waiting| {
-        let is_query = kind(entry.plan[0]) == HEAD;
+        let is_query = kind(entry.plan[0]) == HEAD || kind(entry.plan[0]) == YEAR && kind(entry.plan[1]) == HEAD;
         Waiting {
             plan: zeroed(&entry.plan, if is_query { entry.planned as usize } else { 0 }),
             state: zeroed(&entry.state, if is_query { entry.saved as usize } else { 0 }),
@@ -152,10 +152,16 @@ fn filled(many: usize) -> Vec<u32> {
     (1..=many as u32).map(|at| at.wrapping_mul(0x9E37_79B9)).collect()
 }
 
+/// The year of the stems.
+const STEMS_YEAR: i32 = 2026;
+
 /// Tables by a rule: so many stems of one stand.
 fn stems(many: u32) -> Tables {
     let numbers: Vec<u32> = (0..many).collect();
-    let rows = numbers.iter().flat_map(|&stem| [name(stem), name(10), name(100)]).collect();
+    let rows = numbers
+        .iter()
+        .flat_map(|&stem| [number(STEMS_YEAR), name(stem), name(10), name(100)])
+        .collect();
     Tables {
         rows,
         pos: numbers.clone(),
@@ -166,7 +172,10 @@ fn stems(many: u32) -> Tables {
 /// The stems by the same rule as an upload, in another order: one that visits each once.
 fn shuffled(many: u32) -> Vec<u32> {
     (0..u64::from(many))
-        .flat_map(|at| [name((at * 40_507 % u64::from(many)) as u32), name(10), name(100)])
+        .flat_map(|at| {
+            let stem = (at * 40_507 % u64::from(many)) as u32;
+            [number(STEMS_YEAR), name(stem), name(10), name(100)]
+        })
         .collect()
 }
 
@@ -222,7 +231,7 @@ impl Vectors {
         let rows = many as usize;
         let call = Make {
             upload: shuffled(many),
-            rows: filled(3 * rows + 1),
+            rows: filled(4 * rows + 1),
             pos: filled(rows + 1),
             osp: filled(rows + 1),
             report: filled(1),
@@ -273,7 +282,7 @@ impl Vectors {
         let call = View {
             grant: vec![name(100)],
             membership: name(10),
-            rows: filled(3 * rows + 1),
+            rows: filled(4 * rows + 1),
             pos: filled(rows + 1),
             osp: filled(rows),
             tables,
@@ -564,7 +573,7 @@ fn uploads(to: &mut Vectors) {
     to.lend_shuffled(65_537);
     to.make(&Make {
         upload: shuffled(65_537),
-        rows: filled(3),
+        rows: filled(4),
         pos: filled(1),
         osp: filled(1),
         report: filled(1),
@@ -589,7 +598,7 @@ fn views(to: &mut Vectors) {
             tables,
             grant: (many - 5..many).map(name).collect(),
             membership: name(12),
-            rows: filled(16),
+            rows: filled(21),
             pos: filled(5),
             osp: filled(5),
         });
@@ -607,6 +616,7 @@ fn pairs() -> Plan {
         condition: Condition::True,
     }];
     Plan {
+        year: None,
         branches,
         ending: Ending::Group(vec![1], 0),
     }
@@ -620,7 +630,7 @@ fn long(to: &mut Vectors) {
             tables: tables.clone(),
             survey: many,
             plan: plan.clone(),
-            state: filled(10),
+            state: filled(11),
         });
         to.turn(&Turn {
             tables,

@@ -43,7 +43,11 @@ fn built_condition(condition: &plan::Condition) -> Condition {
 
 /// The plan as the crate's builder makes it.
 fn built(plan: &plan::Plan) -> Plan {
-    let mut builder = Plan::builder();
+    let mut builder = match plan.year {
+        Some(0) => Plan::builder().every_year(),
+        Some(year) => Plan::builder().year(year),
+        None => Plan::builder(),
+    };
     for branch in &plan.branches {
         let [empty, conditioned] = [Branch::new(), Branch::new().condition(built_condition(&branch.condition))];
         let start = if branch.condition == plan::Condition::True {
@@ -172,10 +176,12 @@ fn the_readers_read_states_and_lists() {
         let query = plans::short_query(random);
         let number = random.below(query.run.steps());
         let state = State::read(&query.saved(number)).expect("a state of the run");
-        let (branch, places) = query.run.states[number].split_first().expect("a state has its branch");
+        let [year, branch, places @ ..] = &query.run.states[number][..] else {
+            panic!("a state has its year and its branch")
+        };
         assert_eq!(
-            (state.survey, state.branch, state.depth()),
-            (query.survey, *branch, places.len())
+            (state.survey, state.year, state.branch, state.depth()),
+            (query.survey, *year, *branch, places.len())
         );
         assert_eq!(state.places, places.iter().map(|&place| Place(place)).collect::<Vec<_>>());
 

@@ -12,6 +12,7 @@ use crate::inputs::{plans, woods};
 fn stems_plan(least: i32, ending: Ending) -> Plan {
     let patterns = vec![[variable(0), name(10), variable(1)], [variable(0), name(12), variable(2)]];
     Plan {
+        year: None,
         branches: vec![Branch {
             patterns,
             condition: Condition::Compare(5, variable(2), number(least)),
@@ -42,7 +43,7 @@ fn the_largest_wood_is_cut_by_every_ending() {
     let tally = Tally::default();
     let random = &mut Random::new(65_536);
     let tables = woods::stems(random, 32_768);
-    assert_eq!(tables.rows.len(), 3 * 65_536);
+    assert_eq!(tables.rows.len(), 4 * 65_536);
     for ending in [
         Ending::Rows(vec![0, 2]),
         Ending::Top(10, vec![0, 2], vec![(true, 2)]),
@@ -60,20 +61,20 @@ fn the_largest_wood_is_cut_by_every_ending() {
 #[test]
 fn one_row_more_is_refused() {
     let tally = Tally::default();
-    let row = |number| [name(number), name(10), name(100)];
-    for (many, right) in [(65_535, Ok(3)), (65_536, Ok(3)), (65_537, Err(1))] {
+    let row = |stem| [number(2026), name(stem), name(10), name(100)];
+    for (many, right) in [(65_535, Ok(4)), (65_536, Ok(4)), (65_537, Err(1))] {
         let tables = Tables::of((0..many).map(row).collect());
         let plan = stems_plan(70, Ending::Rows(vec![0])).words();
         let call = Open {
             tables,
             survey: 7,
             plan,
-            state: vec![0; 10],
+            state: vec![0; 11],
         };
         assert_eq!(crate::guarded::open(&call).0, right, "{many} rows");
     }
     let few = accepted(&Tables::of(vec![row(1)]), &stems_plan(70, Ending::Rows(vec![0])), 100);
-    let (plan, rows) = (few.words.clone(), vec![1; 3 * 65_537]);
+    let (plan, rows) = (few.words.clone(), vec![1; 4 * 65_537]);
     let tables = Tables {
         pos: vec![0; 65_537],
         osp: vec![0; 65_537],
@@ -86,7 +87,7 @@ fn one_row_more_is_refused() {
             tables,
             survey: 7,
             plan,
-            state: vec![0; 10],
+            state: vec![0; 11],
         },
     );
 }
@@ -94,7 +95,11 @@ fn one_row_more_is_refused() {
 #[test]
 fn a_turn_takes_up_to_a_million_steps() {
     let tally = Tally::default();
-    let tables = Tables::of((0..1_050).map(|number| [name(number), name(10), name(100)]).collect());
+    let tables = Tables::of(
+        (0..1_050)
+            .map(|stem| [number(2026), name(stem), name(10), name(100)])
+            .collect(),
+    );
     let patterns = vec![
         [variable(0), variable(1), variable(2)],
         [variable(3), variable(4), variable(5)],
@@ -106,6 +111,7 @@ fn a_turn_takes_up_to_a_million_steps() {
     let query = accepted(
         &tables,
         &Plan {
+            year: None,
             branches,
             ending: Ending::Group(vec![], 0),
         },
@@ -113,19 +119,19 @@ fn a_turn_takes_up_to_a_million_steps() {
     );
     assert_eq!(query.run.steps(), 1_050 * (1 + 1_050 + 1) + 1);
     for (quantum, right) in [
-        (999_999, Ok((999_999, How::Spent, 4, 8))),
-        (1_000_000, Ok((1_000_000, How::Spent, 4, 8))),
+        (999_999, Ok((999_999, How::Spent, 5, 8))),
+        (1_000_000, Ok((1_000_000, How::Spent, 5, 8))),
         (1_000_001, Err(8)),
         (0, Err(8)),
     ] {
         let (tables, plan, mut state) = (query.tables.clone(), query.words.clone(), query.saved(0));
-        state.resize(10, 0);
+        state.resize(11, 0);
         let call = Turn {
             tables,
             survey: query.survey,
             plan,
             state,
-            given: 3,
+            given: 4,
             quantum,
             threshold: vec![],
             output: vec![0; 8],

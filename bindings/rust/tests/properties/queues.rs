@@ -94,8 +94,8 @@ fn damaged_calls_of_queues_are_refused_by_the_first_test_that_fails() {
             check_top_up(&top_ups, &call);
         }
     });
-    all_came(&joins, &[1, 2, 3, 4, 5, 6, 9, 22, 10, 17, 18]);
-    all_came(&serves, &[1, 2, 3, 4, 5, 6, 7, 8, 9, 22, 10, 11, 17, 18, 19]);
+    all_came(&joins, &[1, 2, 23, 3, 4, 5, 6, 9, 22, 10, 17, 18]);
+    all_came(&serves, &[1, 2, 23, 3, 4, 5, 6, 7, 8, 9, 22, 10, 11, 17, 18, 19]);
     all_came(&top_ups, &[17, 18]);
 }
 

@@ -66,7 +66,10 @@ fn damaged_calls_are_refused_by_the_first_test_that_fails() {
             check_merge(&tally, &call);
         }
     });
-    let refused: Vec<String> = (1..=14).chain([22]).map(|number| format!("refused by {number}")).collect();
+    let refused: Vec<String> = (1..=14)
+        .chain([22, 23])
+        .map(|number| format!("refused by {number}"))
+        .collect();
     tally.came(&refused.iter().map(|what| &what[..]).collect::<Vec<_>>(), 200);
     tally.came(&["opened", "done", "spent", "full", "merged"], 100);
 }

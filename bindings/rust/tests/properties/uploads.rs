@@ -1,7 +1,7 @@
 //! Tables made from uploads: good and damaged ones, large ones, and what is made of them.
 
 use crate::checking::{for_each_seed, Tally};
-use crate::evaluation::tables::Tables;
+use crate::evaluation::tables::{Row, Tables};
 use crate::evaluation::uploads::{self as evaluation, fates, rows_of, Fate, Make};
 use crate::evaluation::words::*;
 use crate::guarded;
@@ -74,7 +74,7 @@ fn each_buffer_of_exactly_its_words_is_enough_and_one_less_is_not() {
 }
 
 #[test]
-fn what_is_made_passes_the_check_and_holds_the_kept_triples() {
+fn what_is_made_passes_the_check_and_holds_the_kept_rows() {
     for_each_seed(3000, |random| {
         let words = upload(random, 30);
         let (made, dropped) = TableWords::make(&words).expect("the upload is taken");
@@ -83,17 +83,17 @@ fn what_is_made_passes_the_check_and_holds_the_kept_triples() {
             pos: made.pos.clone(),
             osp: made.osp.clone(),
         };
-        assert!(tables.orders().is_ok(), "tests 1 to 4 pass");
+        assert!(tables.orders().is_ok(), "the tests of tables pass");
         let (rows, _) = rows_of(&words);
         let fates = fates(&rows);
-        let mut kept: Vec<[u32; 3]> = rows
+        let mut kept: Vec<Row> = rows
             .iter()
             .zip(&fates)
             .filter(|(_, &fate)| fate == Fate::Kept)
             .map(|(&row, _)| row)
             .collect();
         kept.sort();
-        assert_eq!(tables.triples(), kept);
+        assert_eq!(tables.quads(), kept);
         let told: Vec<(usize, Fate)> = dropped
             .iter()
             .map(|&Dropped { place, reason }| match reason {
@@ -130,9 +130,14 @@ fn rows_of_terms_are_made_or_the_wrong_one_is_named() {
             (made, wrong) => assert_eq!(made.err(), wrong.map(RowFault::WrongKind)),
         }
     });
-    let most = [Term::Name(1), Term::Name(2), Term::Variable(Variable(1 << 30))];
+    let most = [
+        Term::Number(2026),
+        Term::Name(1),
+        Term::Name(2),
+        Term::Variable(Variable(1 << 30)),
+    ];
     assert!(matches!(TableWords::from_rows([most]), Err(RowFault::TooLarge(_))));
-    let many = (0..65_537).map(|stem| [Term::Name(stem), Term::Name(10), Term::Name(100)]);
+    let many = (0..65_537).map(|stem| [Term::Number(2026), Term::Name(stem), Term::Name(10), Term::Name(100)]);
     assert!(matches!(TableWords::from_rows(many), Err(RowFault::Refused(refusal)) if refusal.code() == 15));
 }
 
@@ -154,7 +159,7 @@ fn the_largest_uploads_are_made_and_one_row_more_is_refused() {
     assert_eq!(TableWords::make(&words).map_err(|refusal| refusal.code()), Err(15));
     let none = sotjarn::make(&words, &mut [], &mut [], &mut [], &mut []);
     assert_eq!(none.map_err(|refusal| refusal.code()), Err(15), "15 comes before 16");
-    let none = sotjarn::make(&words[..3 * 65_536], &mut [], &mut [], &mut [], &mut []);
+    let none = sotjarn::make(&words[..4 * 65_536], &mut [], &mut [], &mut [], &mut []);
     assert_eq!(none.map_err(|refusal| refusal.code()), Err(16));
 }
 
@@ -162,16 +167,16 @@ fn the_largest_uploads_are_made_and_one_row_more_is_refused() {
 #[test]
 fn the_longest_reports_name_every_row() {
     let many = 65_536;
-    let same = [name(1), name(10), number(45)].repeat(many);
+    let same = [number(2026), name(1), name(10), number(45)].repeat(many);
     let (made, dropped) = TableWords::make(&same).expect("the upload is taken");
-    assert_eq!((made.rows, made.pos, made.osp), (same[..3].to_vec(), vec![0], vec![0]));
+    assert_eq!((made.rows, made.pos, made.osp), (same[..4].to_vec(), vec![0], vec![0]));
     let repeat = |place| Dropped {
         place,
         reason: Reason::Repeat,
     };
     assert_eq!(dropped, (1..many).map(repeat).collect::<Vec<_>>());
 
-    let wrong = [variable(0); 3].repeat(many);
+    let wrong = [variable(0); 4].repeat(many);
     let (made, dropped) = TableWords::make(&wrong).expect("the upload is taken");
     assert_eq!(made, TableWords::default());
     let wrong_kind = |place| Dropped {

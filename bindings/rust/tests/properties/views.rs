@@ -2,7 +2,7 @@
 
 use crate::checking::{cut, for_each_seed, Tally};
 use crate::evaluation::calls as queries;
-use crate::evaluation::tables::Tables;
+use crate::evaluation::tables::{Row, Tables};
 use crate::evaluation::views::{self as evaluation, hidden_alone, visible, View};
 use crate::evaluation::words::*;
 use crate::guarded;
@@ -25,7 +25,7 @@ fn view_of(tally: &Tally, random: &mut Random, tables: &Tables, grant: &[u32], m
     let many = visible(tables, grant, membership).len();
     let left = check_view(tally, &call).expect("the view is written");
     Tables {
-        rows: left.rows[..3 * many].to_vec(),
+        rows: left.rows[..4 * many].to_vec(),
         pos: left.pos[..many].to_vec(),
         osp: left.osp[..many].to_vec(),
     }
@@ -51,11 +51,11 @@ fn views_are_written_as_the_rules_say() {
                 },
             );
             let seen = Tables {
-                rows: left.rows[..3 * many].to_vec(),
+                rows: left.rows[..4 * many].to_vec(),
                 pos: left.pos[..many].to_vec(),
                 osp: left.osp[..many].to_vec(),
             };
-            assert!(seen.orders().is_ok(), "tests 1 to 4 pass");
+            assert!(seen.orders().is_ok(), "the tests of tables pass");
         }
     });
     tally.came(&["viewed", "some seen"], 5_000);
@@ -76,6 +76,7 @@ fn damaged_views_are_refused_by_the_first_test_that_fails() {
     let refused = [
         "refused by 1",
         "refused by 2",
+        "refused by 23",
         "refused by 3",
         "refused by 4",
         "refused by 20",
@@ -91,7 +92,7 @@ fn each_buffer_of_exactly_its_words_is_enough_and_one_less_is_not() {
     for_each_seed(2000, |random| {
         let mut call = view(random, 25);
         let many = visible(&call.tables, &call.grant, call.membership).len();
-        call.rows.truncate(3 * many);
+        call.rows.truncate(4 * many);
         call.pos.truncate(many);
         call.osp.truncate(many);
         check_view(&tally, &call).expect("exact lengths suffice");
@@ -206,10 +207,10 @@ fn the_largest_woods_are_viewed_and_one_row_more_is_refused() {
     ];
     for stems in [32_768, 32_769] {
         let tables = woods::stems(random, stems);
-        let rows = tables.triples();
+        let rows = tables.quads();
         for grant in &grants {
             // Each stem has two rows, its stand first.
-            let admitted = |pair: &[[u32; 3]]| grant.contains(&pair[0][2]) || grant.contains(&pair[0][0]);
+            let admitted = |pair: &[Row]| grant.contains(&pair[0][3]) || grant.contains(&pair[0][1]);
             let pairs = rows.chunks_exact(2).filter(|pair| admitted(pair));
             let right = Tables::of(pairs.flatten().copied().collect());
             let lent = View {

@@ -1,7 +1,9 @@
 -- `check` meets its contract: a plan that is too long or has no head, and then the body.
 use borrow.Author.Needs.{needs}
-use mathlib.Core.Path.{refl, sym, _∙_}
+use mathlib.Core.Path.{refl, sym, _∙_, ap}
 use native.Mathlib.Omega.{arith}
+use lib.ListN.{length}
+use Rattle.plans.specs.Years.{fromHead}
 use Rattle.plans.proofs.PlanRead.{some-words}
 use Rattle.plan_tests.proofs.Checked.{check-long, check-headless, check-with}
 use Rattle.plan_tests.proofs.check.Statement.{statement}
@@ -21,17 +23,25 @@ returns-2 c =
     let args = c .before .before .before .before .args in
     sym (check-headless (args .plan .now) (n .result) (n .ensures .0) (c .if2 .taken))
 
+from-head-requires : tie.Need-from-head-requires
+from-head-requires c κs = search needs
+
+years-in-requires : tie.Need-years-in-requires
+years-in-requires c κs = search needs
+
 sub-check-body : tie.Need-sub-check-body
 sub-check-body c =
-    let n = c .before .branch-count in
-    let args = c .before .before .before .before .args in
-    omega (arith, some-words (args .plan .now) (n .result) (n .ensures .0) (c .if2 .left))
+    let h = c .before .from-head in
+    let n = c .before .before .before .branch-count in
+    let args = c .before .before .before .before .before .before .args in
+    omega (arith, ap length (h .ensures), some-words (fromHead (args .plan .now)) (n .result) (n .ensures .0) (c .before .before .if2 .left))
 
 part-check-body-start : tie.Need-part-check-body-start
 part-check-body-start c =
-    let n = c .before .branch-count in
-    let args = c .before .before .before .before .args in
-    omega (arith, some-words (args .plan .now) (n .result) (n .ensures .0) (c .if2 .left))
+    let h = c .before .from-head in
+    let n = c .before .before .before .branch-count in
+    let args = c .before .before .before .before .before .before .args in
+    omega (arith, ap length (h .ensures), some-words (fromHead (args .plan .now)) (n .result) (n .ensures .0) (c .before .before .if2 .left))
 
 part-check-body-end : tie.Need-part-check-body-end
 part-check-body-end c = omega arith
@@ -41,11 +51,14 @@ check-body-requires c κs = search needs
 
 returns-3 : tie.Need-returns-3
 returns-3 c =
-    let n = c .before .before .before .branch-count in
-    let args = c .before .before .before .before .before .before .args in
-    let if2 = c .before .before .if2 in
-    let if1 = c .before .before .before .before .if1 in
-    c .check-body .ensures ∙ sym (check-with (args .plan .now) (n .result) (n .ensures .0) (if2 .left) (if1 .left) _ refl)
+    let y = c .before .before .years-in in
+    let h = c .before .before .before .from-head in
+    let if2 = c .before .before .before .before .if2 in
+    let n = c .before .before .before .before .before .branch-count in
+    let if1 = c .before .before .before .before .before .before .if1 in
+    let args = c .before .before .before .before .before .before .before .before .args in
+    c .check-body .ensures ∙ sym (check-with (args .plan .now) (n .result) (n .ensures .0) (if2 .left) (if1 .left) (y .result) (y .ensures) (h .result .now)
+    (h .ensures) _ refl)
 
 pub check-spec : {M : Type 1} → statement M
 check-spec =
@@ -54,6 +67,8 @@ check-spec =
     returns
     branch-count-requires
     returns-2
+    from-head-requires
+    years-in-requires
     sub-check-body
     part-check-body-start
     part-check-body-end

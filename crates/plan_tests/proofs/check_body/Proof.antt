@@ -12,8 +12,8 @@ use Rattle.plan_tests.proofs.check_body.Tie as tie
 branches-room : (c : tie.After-known-told) → c .before .words .given .0 .0 ≤ length (c .before .before .before .before .before .args .body .now)
 branches-room c =
     let l = c .before .before .before .branches in
-    body-words (c .before .before .before .before .before .args .count) (c .before .before .before .before .before .args .body .now) (l .result)
-    (l .ensures) _ _ (c .before .words .given .1)
+    let args = c .before .before .before .before .before .args in
+    body-words (args .years) (args .count) (args .body .now) (l .result) (l .ensures) _ _ (c .before .words .given .1)
 
 branches-requires : tie.Need-branches-requires
 branches-requires c κs = search needs
@@ -44,10 +44,13 @@ ending-right-requires c κs =
     let l = c .before .before .before .before .before .branches in
     let args = c .before .before .before .before .before .before .before .args in
     let words = c .before .before .before .words in
-    body-read (args .count) (args .body .now) (l .result) (l .ensures) _ _ (words .given .1)
+    body-read (args .years) (args .count) (args .body .now) (l .result) (l .ensures) _ _ (words .given .1)
 
 both-requires : tie.Need-both-requires
 both-requires c κs = search needs
+
+year-allowed-requires : tie.Need-year-allowed-requires
+year-allowed-requires c κs = search needs
 
 number-of-requires : tie.Need-number-of-requires
 number-of-requires c κs = search needs
@@ -56,17 +59,19 @@ returns : tie.Need-returns
 returns c =
     let l = c .before .before .branches in
     let args = c .before .before .before .before .args in
-    sym (body-broken (args .count) (args .body .now) (l .result) (l .ensures) (c .enum-told .given .1))
+    sym (body-broken (args .years) (args .count) (args .body .now) (l .result) (l .ensures) (c .enum-told .given .1))
 
 returns-2 : tie.Need-returns-2
 returns-2 c =
-    let l = c .before .before .before .before .before .before .before .before .branches in
-    let args = c .before .before .before .before .before .before .before .before .before .before .args in
-    let words = c .before .before .before .before .before .before .words in
-    let ending-form = c .before .before .before .ending-form in
-    let ending-right = c .before .before .ending-right in
-    c .number-of .ensures ∙ sym (body-whole (args .count) (args .body .now) (l .result) (l .ensures) _ _ (words .given .1) _ refl
-    (ending-form .result) (c .before .both .result) (ending-form .ensures) (rw (ending-right .ensures) at (c .before .both .ensures)))
+    let y = c .before .year-allowed in
+    let both = c .before .before .both in
+    let ending-right = c .before .before .before .ending-right in
+    let ending-form = c .before .before .before .before .ending-form in
+    let words = c .before .before .before .before .before .before .before .words in
+    let l = c .before .before .before .before .before .before .before .before .before .branches in
+    let args = c .before .before .before .before .before .before .before .before .before .before .before .args in
+    c .number-of .ensures ∙ sym (body-whole (args .years) (args .count) (args .body .now) (l .result) (l .ensures) _ _ (words .given .1) _ refl
+    (ending-form .result) (both .result) (y .result) (ending-form .ensures) (rw (ending-right .ensures) at (both .ensures)) (y .ensures))
 
 pub check-body-spec : {M : Type 1} → statement M
 check-body-spec =
@@ -82,6 +87,7 @@ check-body-spec =
     ending-form-requires
     ending-right-requires
     both-requires
+    year-allowed-requires
     number-of-requires
     returns
     returns-2)

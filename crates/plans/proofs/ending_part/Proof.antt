@@ -2,18 +2,12 @@
 use borrow.Author.Needs.{needs}
 use mathlib.Core.Path.{_∙_}
 use native.Mathlib.Omega.{arith}
-use Rattle.plans.proofs.PlanRead.{plan-in, plan-words, body-read, part-room, part-from}
+use Rattle.plans.proofs.PlanRead.{plan-in, body-read, part-room, part-from}
 use Rattle.plans.proofs.ending_part.Statement.{statement}
 use Rattle.plans.proofs.ending_part.Tie as tie
 
-sub-body : tie.Need-sub-body
-sub-body c = omega (arith, plan-words (c .before .args .plan .now) (c .before .pre))
-
-part-body-start : tie.Need-part-body-start
-part-body-start c = omega (arith, plan-words (c .before .args .plan .now) (c .before .pre))
-
-part-body-end : tie.Need-part-body-end
-part-body-end c = omega arith
+body-part-requires : tie.Need-body-part-requires
+body-part-requires c κs = c .before .pre
 
 branch-count-requires : tie.Need-branch-count-requires
 branch-count-requires c κs = search needs
@@ -21,33 +15,41 @@ branch-count-requires c κs = search needs
 branches-words-requires : tie.Need-branches-words-requires
 branches-words-requires c κs =
     let n = c .branch-count in
+    let p = c .before .body-part in
     let args = c .before .before .before .args in
     let pre = c .before .before .before .pre in
-    body-read (args .plan .now) pre (n .result) (omega (arith, n .ensures .0, plan-in (args .plan .now) pre .head))
+    let few = plan-in (args .plan .now) pre .head in
+    body-read (args .plan .now) pre (n .result) (omega (arith, n .ensures .0, few)) (p .result .now) (p .ensures)
 
 mul-result : tie.Need-mul-result
 mul-result c =
     let b = c .branches-words in
     let n = c .before .branch-count in
+    let p = c .before .before .body-part in
     let args = c .before .before .before .before .args in
     let pre = c .before .before .before .before .pre in
-    omega (arith, part-room (args .plan .now) pre (n .result) (omega (arith, n .ensures .0, plan-in (args .plan .now) pre .head)) (b .result) (b .ensures))
+    let few = plan-in (args .plan .now) pre .head in
+    omega (arith, part-room (args .plan .now) pre (n .result) (omega (arith, n .ensures .0, few)) (p .result .now) (p .ensures) (b .result) (b .ensures))
 
 sub-result : tie.Need-sub-result
 sub-result c =
     let b = c .branches-words in
     let n = c .before .branch-count in
+    let p = c .before .before .body-part in
     let args = c .before .before .before .before .args in
     let pre = c .before .before .before .before .pre in
-    omega (arith, part-room (args .plan .now) pre (n .result) (omega (arith, n .ensures .0, plan-in (args .plan .now) pre .head)) (b .result) (b .ensures))
+    let few = plan-in (args .plan .now) pre .head in
+    omega (arith, part-room (args .plan .now) pre (n .result) (omega (arith, n .ensures .0, few)) (p .result .now) (p .ensures) (b .result) (b .ensures))
 
 part-result-start : tie.Need-part-result-start
 part-result-start c =
     let b = c .branches-words in
     let n = c .before .branch-count in
+    let p = c .before .before .body-part in
     let args = c .before .before .before .before .args in
     let pre = c .before .before .before .before .pre in
-    omega (arith, part-room (args .plan .now) pre (n .result) (omega (arith, n .ensures .0, plan-in (args .plan .now) pre .head)) (b .result) (b .ensures))
+    let few = plan-in (args .plan .now) pre .head in
+    omega (arith, part-room (args .plan .now) pre (n .result) (omega (arith, n .ensures .0, few)) (p .result .now) (p .ensures) (b .result) (b .ensures))
 
 part-result-end : tie.Need-part-result-end
 part-result-end c = omega arith
@@ -56,20 +58,19 @@ returns : tie.Need-returns
 returns c =
     let b = c .before .branches-words in
     let n = c .before .before .branch-count in
-    let p = c .before .before .before .before .before .args .plan .now in
+    let p = c .before .before .before .body-part in
+    let args = c .before .before .before .before .before .args in
     let pre = c .before .before .before .before .before .pre in
-    let q = plan-in p pre in
+    let q = plan-in (args .plan .now) pre in
     let l = n .ensures .0 ∙ q .head in
-    let e = part-from p pre (n .result) (omega arith) (b .result) (b .ensures) in
+    let e = part-from (args .plan .now) pre (n .result) (omega arith) (p .result .now) (p .ensures) (b .result) (b .ensures) in
     (rw (e, l) (q .form), rw (e, l) (q .ending))
 
 pub ending-part-spec : {M : Type 1} → statement M
 ending-part-spec =
     tie.close
     (tie.spec
-    sub-body
-    part-body-start
-    part-body-end
+    body-part-requires
     branch-count-requires
     branches-words-requires
     mul-result

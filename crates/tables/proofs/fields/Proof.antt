@@ -1,4 +1,4 @@
--- `tables::fields` meets its contract: by the order, the three words in its sequence.
+-- `tables::fields` meets its contract: by the order, the words in its sequence.
 use borrow.Author.Needs.{needs}
 use Rattle.tables.specs.Tables.{fieldsOf}
 use Rattle.tables.proofs.fields.Statement.{statement}
@@ -9,6 +9,15 @@ wide-requires c κs = search needs
 
 mul-at : tie.Need-mul-at
 mul-at c = search needs
+
+add-y : tie.Need-add-y
+add-y c = search needs
+
+mul-y : tie.Need-mul-y
+mul-y c = search needs
+
+shared-slice-read-y : tie.Need-shared-slice-read-y
+shared-slice-read-y c = search needs
 
 add-s : tie.Need-add-s
 add-s c = search needs
@@ -48,15 +57,15 @@ enum-told-3 c = search needs
 
 returns : tie.Need-returns
 unfolding fieldsOf
-returns c = rw (c .before .before .before .before .before .wide .ensures, c .enum-told .given .1)
+returns c = rw (c .before .before .before .before .before .before .wide .ensures, c .enum-told .given .1)
 
 returns-2 : tie.Need-returns-2
 unfolding fieldsOf
-returns-2 c = rw (c .before .before .before .before .before .wide .ensures, c .enum-told2 .given .1)
+returns-2 c = rw (c .before .before .before .before .before .before .wide .ensures, c .enum-told2 .given .1)
 
 returns-3 : tie.Need-returns-3
 unfolding fieldsOf
-returns-3 c = rw (c .before .before .before .before .before .wide .ensures, c .enum-told3 .given .1)
+returns-3 c = rw (c .before .before .before .before .before .before .wide .ensures, c .enum-told3 .given .1)
 
 pub fields-spec : {M : Type 1} → statement M
 fields-spec =
@@ -64,6 +73,9 @@ fields-spec =
     (tie.spec
     wide-requires
     mul-at
+    add-y
+    mul-y
+    shared-slice-read-y
     add-s
     mul-s
     shared-slice-read-s

@@ -30,11 +30,8 @@ loop-holds c =
     let a = c .before .before .before .args in
     (refl, omega arith, omega arith, refl, refl, good-none (a .upload .now), mark-none (a .upload .now) (a .fates .now))
 
-mul-row-right : tie.Need-mul-row-right Inv-loop μ-loop
-mul-row-right c = omega arith
-
-row-right-requires : tie.Need-row-right-requires Inv-loop μ-loop
-row-right-requires c κs = omega arith
+kinds-good-requires : tie.Need-kinds-good-requires Inv-loop μ-loop
+kinds-good-requires c κs = omega arith
 
 slice-write-fates : tie.Need-slice-write-fates Inv-loop μ-loop
 slice-write-fates c = omega arith
@@ -62,7 +59,7 @@ loop-again c =
     let l = c .before .before .before in
     let s = l .before .before .before .before in
     let up = s .args .upload .now in
-    let good = sym (c .before .row-right .ensures) ∙ c .if1 .taken in
+    let good = sym (c .before .kinds-good .ensures) ∙ c .if1 .taken in
     let f = s .pre .listed in
     let g = s .pre .judged in (
       refl,
@@ -90,7 +87,7 @@ loop-again-2 c =
     let l = c .before .before .before in
     let s = l .before .before .before .before in
     let up = s .args .upload .now in
-    let bad = sym (c .before .row-right .ensures) ∙ c .if1 .left in
+    let bad = sym (c .before .kinds-good .ensures) ∙ c .if1 .left in
     let g = s .pre .judged in (
       refl,
       omega arith,
@@ -123,8 +120,7 @@ mark-kinds-spec =
     Inv-loop
     μ-loop
     loop-holds
-    mul-row-right
-    row-right-requires
+    kinds-good-requires
     slice-write-fates
     cast-list
     mul-list

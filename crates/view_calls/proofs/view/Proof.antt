@@ -1,4 +1,4 @@
--- `view` meets its contract: tests 1 to 4, then 20, then the rest.
+-- `view` meets its contract: the tests of the tables, then 20, then the rest.
 use borrow.Author.Needs.{needs}
 use Prim.Native.Nat.{ℕ}
 use mathlib.Core.Path.{sym, _∙_}

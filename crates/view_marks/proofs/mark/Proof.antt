@@ -1,5 +1,5 @@
 -- `mark` meets its contract. The invariant: the rows before `row` are marked, and `number` of them are visible.
-use Prim.Native.Nat.{ℕ, _+_, _-_, _/_, _≤_, _<_, zero-le}
+use Prim.Native.Nat.{ℕ, _+_, _-_, _/_, _≤_, _<_}
 use mathlib.Core.Path.{_≡_, refl, sym, ap, _∙_}
 use mathlib.Core.List.{List}
 use mathlib.Core.Bool.{Bool}
@@ -8,7 +8,7 @@ use lib.ListN.{length}
 use mathlib.Core.Path.{ap₂}
 use lib.ListN.{set, length-set}
 use Rattle.words.specs.Sequences.{over}
-use Rattle.tables.specs.Tables.{columnCount, subjectColumn, fieldOf}
+use Rattle.tables.specs.Tables.{columnCount, yearColumn, subjectColumn, fieldOf}
 use Rattle.views.specs.Renumbered.{passedBefore}
 use Rattle.views.proofs.Renumbering.{passed-none}
 use Rattle.view_grants.specs.Places.{firstFrom}
@@ -26,7 +26,8 @@ Inv-loop rows grant flags marks₀ count row₀ number₀ before₀ marks row nu
     × (number ≡ passedBefore (seenBy rows grant flags) row)
     × (length marks ≡ length marks₀)
     × (marks ≡ over (marksOf (seenBy rows grant flags) row) marks₀)
-    × (row < count → before .from ≤ firstFrom grant (fieldOf rows row subjectColumn))
+    × (row < count → 0 < row → fieldOf rows (row - 1) yearColumn ≡ fieldOf rows row yearColumn
+    → before .from ≤ firstFrom grant (fieldOf rows row subjectColumn))
     × (0 < row → before .seen ≡ seenBy rows grant flags (row - 1))
 
 abbrev μ-loop : tie.MeasureT-loop
@@ -58,7 +59,7 @@ loop-holds c =
       sym (passed-none f),
       refl,
       ap (λ ws. over ws (a .marks .now)) (marks-none f),
-      λ h. zero-le,
+      λ h k. absurd (omega arith),
       λ h. absurd (omega arith),
     )
 
@@ -107,8 +108,8 @@ loop-again c =
       (simp length-set) ∙ l .loop .inv .2,
       ap (λ n. set (l .loop .marks) n (m .mark-by .result)) (w .wide .ensures)
           ∙ marks-over (visibleAt l) row (s .args .marks .now) (l .loop .marks) (m .mark-by .result) (omega (arith, s .pre .1 .1 .1)) (l .loop .inv .3) mark,
-      λ h.
-          let a = subjects-rise (rows l) (s .pre .0) row (row + 1) (omega arith) (omega arith) in
+      λ h k₁ y.
+          let a = subjects-rise (rows l) (s .pre .0) row (row + 1) (omega arith) (omega arith) (ap (λ n. fieldOf (rows l) n yearColumn) z ∙ y) in
           omega (
             arith,
             k .next-seen .ensures .1,

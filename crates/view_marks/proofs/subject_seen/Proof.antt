@@ -1,30 +1,34 @@
 -- `subject_seen` meets its contract. The invariant: what the flags of the rows before `next` tell is seen.
 use Prim.Native.Nat.{ℕ, _-_, _/_, _≤_}
-use mathlib.Core.Path.{_≡_, sym, ap, _∙_}
+use mathlib.Core.Path.{_≡_, sym, ap, ap₂, _∙_}
 use mathlib.Core.List.{List}
 use mathlib.Core.Bool.{Bool, _||_}
 use native.Mathlib.Omega.{arith}
 use lib.ListN.{length, getD}
 use lib.Dec.{eqb}
+use borrow.Author.Tests.{not-true, not-false}
 use Rattle.words.specs.Sequences.{someBelow}
-use Rattle.tables.specs.Tables.{columnCount, subjectColumn, fieldOf}
+use Rattle.tables.specs.Tables.{columnCount, yearColumn, subjectColumn, fieldOf}
+use Rattle.views.specs.Views.{isOf}
 use Rattle.view_marks.specs.Told.{told}
 use Rattle.view_marks.proofs.Subjects.{some-told, told-before, told-after}
 use Rattle.view_marks.proofs.subject_seen.Statement.{statement}
 use Rattle.view_marks.proofs.subject_seen.Tie as tie
 
 abbrev Inv-loop : tie.InvT-loop
-Inv-loop rows flags row granted subject count seen₀ next₀ seen next =
-    (row ≤ next) × (next ≤ count) × (seen ≡ (granted || someBelow (told rows flags (fieldOf rows row subjectColumn)) next))
+Inv-loop rows flags row granted year subject count seen₀ next₀ seen next =
+    (row ≤ next)
+    × (next ≤ count)
+    × (seen ≡ (granted || someBelow (told rows flags (fieldOf rows row yearColumn) (fieldOf rows row subjectColumn)) next))
 
 abbrev μ-loop : tie.MeasureT-loop
-μ-loop rows flags row granted subject count seen₀ next₀ seen next = count - next
+μ-loop rows flags row granted year subject count seen₀ next₀ seen next = count - next
 
 abbrev Loop : Type 0
 Loop = tie.At-loop Inv-loop μ-loop
 
-abbrev start : tie.After-field Inv-loop μ-loop → tie.Start Inv-loop μ-loop
-start f = f .before .before .before
+abbrev start : tie.After-field2 Inv-loop μ-loop → tie.Start Inv-loop μ-loop
+start f = f .before .before .before .before
 
 abbrev rows : Loop → List ℕ
 rows l = start (l .before) .args .rows .now
@@ -38,8 +42,26 @@ row l = start (l .before) .args .row
 abbrev granted : Loop → Bool
 granted l = start (l .before) .args .granted
 
+-- the year and the subject that are looked for
+abbrev year : Loop → ℕ
+year l = fieldOf (rows l) (row l) yearColumn
+
+abbrev subject : Loop → ℕ
+subject l = fieldOf (rows l) (row l) subjectColumn
+
+-- whether the next row is of them
+asks : (c : tie.After-is-of Inv-loop μ-loop) → let l = c .before .before in
+    c .is-of .result ≡ isOf (rows l) (year l) (subject l) (l .loop .next)
+asks c =
+    let l = c .before .before in
+    c .is-of .ensures
+    ∙ ap₂ (λ y s. isOf (rows l) y s (l .loop .next)) (l .before .before .field .ensures) (l .before .field2 .ensures)
+
 field-requires : tie.Need-field-requires Inv-loop μ-loop
 field-requires c κs = let h = c .before .before .pre .1 .0 .there in (omega arith, omega arith)
+
+field-requires-2 : tie.Need-field-requires-2 Inv-loop μ-loop
+field-requires-2 c κs = let h = c .before .before .before .pre .1 .0 .there in (omega arith, omega arith)
 
 cast-count : tie.Need-cast-count Inv-loop μ-loop
 cast-count c = let h = start c .pre .0 .few in omega arith
@@ -50,8 +72,8 @@ loop-holds c =
     let h = s .pre .1 .0 .there in
     (omega arith, omega arith, told-before (s .args .rows .now) (s .args .flags .now) (s .args .granted) (s .args .row) (s .pre .1 .0))
 
-field-requires-2 : tie.Need-field-requires-2 Inv-loop μ-loop
-field-requires-2 c κs = (omega arith, omega arith)
+is-of-requires : tie.Need-is-of-requires Inv-loop μ-loop
+is-of-requires c κs = omega arith
 
 returns : tie.Need-returns Inv-loop μ-loop
 returns c =
@@ -59,7 +81,7 @@ returns c =
     l .loop .inv .2
     ∙ ap (λ b. granted l || b)
     (sym (told-after (rows l) (start (l .before) .pre .0) (flags l) (row l) (l .loop .next) (l .loop .inv .0) (omega arith)
-    (λ e. c .if1 .taken (c .before .field2 .ensures ∙ e ∙ sym (l .before .field .ensures)))))
+    (sym (asks (c .before)) ∙ not-true _ (c .if1 .taken))))
 
 wide-requires : tie.Need-wide-requires Inv-loop μ-loop
 wide-requires c κs = tt
@@ -85,18 +107,17 @@ loop-again c =
       omega arith,
       c .either .ensures
           ∙ ap (λ b. b || eqb (getD (flags l) (w .wide .result) 0) 1) (l .loop .inv .2)
-          ∙ ap (λ n. (granted l || someBelow (told (rows l) (flags l) (fieldOf (rows l) (row l) subjectColumn)) (l .loop .next))
+          ∙ ap (λ n. (granted l || someBelow (told (rows l) (flags l) (year l) (subject l)) (l .loop .next))
           || eqb (getD (flags l) n 0) 1)
           (w .wide .ensures)
-          ∙ some-told (rows l) (flags l) (granted l) (fieldOf (rows l) (row l) subjectColumn) (l .loop .next)
-          (sym (e .before .field2 .ensures) ∙ e .if1 .left ∙ l .before .field .ensures),
+          ∙ some-told (rows l) (flags l) (granted l) (year l) (subject l) (l .loop .next) (sym (asks (e .before)) ∙ not-false _ (e .if1 .left)),
     )
 
 returns-2 : tie.Need-returns-2 Inv-loop μ-loop
 returns-2 c =
     let l = c .before in
     let n : l .loop .next ≡ length (rows l) / columnCount = omega arith in
-    l .loop .inv .2 ∙ ap (λ k. granted l || someBelow (told (rows l) (flags l) (fieldOf (rows l) (row l) subjectColumn)) k) n
+    l .loop .inv .2 ∙ ap (λ k. granted l || someBelow (told (rows l) (flags l) (year l) (subject l)) k) n
 
 pub subject-seen-spec : {M : Type 1} → statement M
 subject-seen-spec =
@@ -105,9 +126,10 @@ subject-seen-spec =
     Inv-loop
     μ-loop
     field-requires
+    field-requires-2
     cast-count
     loop-holds
-    field-requires-2
+    is-of-requires
     returns
     wide-requires
     shared-slice-read-either

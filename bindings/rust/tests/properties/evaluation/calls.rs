@@ -56,13 +56,14 @@ pub struct Query {
     pub run: Run,
 }
 
-/// Tests 5 and 6.
+/// Tests 5, 6 and 23.
 pub fn accepted_plan(words: &[u32]) -> Result<Plan, u32> {
     let plan = plan::read(words).ok_or(5u32)?;
-    plan.variables_right().then_some(plan).ok_or(6)
+    let plan = plan.variables_right().then_some(plan).ok_or(6u32)?;
+    plan.year_right().then_some(plan).ok_or(23)
 }
 
-/// Tests 1 to 6, then the run; `None` if it has `most` steps or more.
+/// The tests of tables and plan, then the run; `None` if it has `most` steps or more.
 pub fn query(tables: &Tables, words: &[u32], most: usize) -> Result<Option<Query>, u32> {
     let (orders, plan) = (tables.orders()?, accepted_plan(words)?);
     let run = run::run(&orders, &plan, most);
@@ -89,7 +90,7 @@ fn written(buffer: &[u32], words: &[u32]) -> Vec<u32> {
 
 /// The answer to an opening whose tables and plan are those of `query`, and the state buffer at exit.
 pub fn open(query: &Query, call: &Open) -> (Result<usize, u32>, Vec<u32>) {
-    if call.state.len() < 10 {
+    if call.state.len() < 11 {
         return (Err(7), call.state.clone());
     }
     if call.survey > MOST_COUNT {
@@ -99,24 +100,32 @@ pub fn open(query: &Query, call: &Open) -> (Result<usize, u32>, Vec<u32>) {
     (Ok(start.len()), written(&call.state, &start))
 }
 
-/// Test 9: the survey's number in a state's words, and its branch and places.
-fn state_of(plan: &Plan, words: &[u32]) -> Option<(u32, Vec<u32>)> {
-    let (survey, behind) = words.split_first()?;
-    let (first, places) = behind.split_first()?;
+/// Test 9: the survey's number in a state's words, and its year, branch and places.
+fn state_of(query: &Query, words: &[u32]) -> Option<(u32, Vec<u32>)> {
+    let [survey, year, first, places @ ..] = words else {
+        return None;
+    };
     let (branch, depth) = (count(*first) / 16, count(*first) % 16);
-    let patterns = plan.branches.get(branch as usize)?.patterns.len();
+    let patterns = query.plan.branches.get(branch as usize)?.patterns.len();
     let right = kind(*survey) == SURVEY
+        && kind(*year) == YEAR
+        && query.run.years.contains(&count(*year))
         && kind(*first) == STATE
         && places.iter().all(|&word| kind(word) == PLACE)
         && (1..=patterns).contains(&(depth as usize))
         && places.len() == depth as usize;
-    let state = || [branch].into_iter().chain(places.iter().map(|&word| count(word))).collect();
+    let state = || {
+        [count(*year), branch]
+            .into_iter()
+            .chain(places.iter().map(|&word| count(word)))
+            .collect()
+    };
     right.then(|| (count(*survey), state()))
 }
 
 /// Tests 9, 22 and 10 of a state's words, under a survey's number: how many steps the run makes to it.
 pub fn state_start(query: &Query, survey: u32, words: &[u32]) -> Result<usize, u32> {
-    let (number, state) = state_of(&query.plan, words).ok_or(9u32)?;
+    let (number, state) = state_of(query, words).ok_or(9u32)?;
     if survey > MOST_COUNT || number != survey {
         return Err(22);
     }
@@ -131,7 +140,7 @@ fn threshold_right(plan: &Plan, threshold: &[u32]) -> bool {
 
 /// Tests 7 to 11, and 22 between 9 and 10: how many steps the run makes to the given state.
 fn turn_start(query: &Query, call: &Turn) -> Result<usize, u32> {
-    if call.state.len() < 10 || call.output.len() < query.plan.least_output() {
+    if call.state.len() < 11 || call.output.len() < query.plan.least_output() {
         return Err(7);
     }
     if !(1..=1_000_000).contains(&call.quantum) {

@@ -80,7 +80,9 @@ impl Totals {
 
     fn words(&self) -> Vec<u32> {
         let word = |value: i64| number(value as i32);
-        let (least, greatest) = self.values.map_or((UNBOUND, UNBOUND), |(least, greatest)| (word(least), word(greatest)));
+        let (least, greatest) = self
+            .values
+            .map_or((UNBOUND, UNBOUND), |(least, greatest)| (word(least), word(greatest)));
         let halves = [self.rows, self.numbers, self.sum]
             .into_iter()
             .flat_map(|total| [total as u32, (total >> 32) as u32]);

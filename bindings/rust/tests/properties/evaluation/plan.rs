@@ -29,6 +29,8 @@ pub enum Ending {
 
 #[derive(Clone, Debug, PartialEq)]
 pub struct Plan {
+    /// The number of a year's word before the head: 0 for every year, none for the latest.
+    pub year: Option<u32>,
     pub branches: Vec<Branch>,
     pub ending: Ending,
 }
@@ -125,9 +127,13 @@ impl Rest<'_> {
 /// The plan of some words, unless test 5 fails.
 pub fn read(words: &[u32]) -> Option<Plan> {
     let mut rest = Rest(words);
+    let year = match words.first() {
+        Some(&word) if kind(word) == YEAR => rest.word().map(count),
+        _ => None,
+    };
     let branches = (0..rest.counted(HEAD, 1, 4)?).map(|_| rest.branch()).collect::<Option<_>>()?;
     let ending = rest.ending()?;
-    (words.len() <= 256 && rest.0.is_empty()).then_some(Plan { branches, ending })
+    (words.len() <= 256 && rest.0.is_empty()).then_some(Plan { year, branches, ending })
 }
 
 impl Condition {
@@ -192,6 +198,11 @@ impl Plan {
         conditions && ending && bound.iter().all(|&v| v <= 15)
     }
 
+    /// Test 23.
+    pub fn year_right(&self) -> bool {
+        self.year.is_none_or(|year| year <= MOST_YEAR)
+    }
+
     /// The variables whose values a delivery has: the columns, or the group variables and the measured one.
     pub fn columns(&self) -> Vec<u32> {
         match &self.ending {
@@ -222,7 +233,8 @@ impl Plan {
     }
 
     pub fn words(&self) -> Vec<u32> {
-        let mut words = vec![marked(HEAD, self.branches.len() as u32)];
+        let mut words: Vec<u32> = self.year.iter().map(|&year| marked(YEAR, year)).collect();
+        words.push(marked(HEAD, self.branches.len() as u32));
         for branch in &self.branches {
             words.push(marked(BRANCH, branch.patterns.len() as u32));
             words.extend(branch.patterns.iter().flatten());

@@ -1,7 +1,6 @@
 //! Making tables from an upload, as plainly as the rules say it: each row is judged by looking at all rows before it.
 
-use super::tables::Tables;
-use super::words::*;
+use super::tables::{kinds_right, year_right, Row, Tables};
 
 /// A call of making tables: the upload, and the four buffers as they are lent.
 #[derive(Clone, Debug, PartialEq)]
@@ -25,20 +24,15 @@ pub enum Fate {
 }
 
 /// The rows of an upload, and the words that are left over.
-pub fn rows_of(upload: &[u32]) -> (Vec<[u32; 3]>, usize) {
-    let rows = upload.chunks_exact(3).map(|row| [row[0], row[1], row[2]]).collect();
-    (rows, upload.len() % 3)
-}
-
-/// Names as subject and predicate, anything but a variable as object.
-fn kinds_right([subject, predicate, object]: [u32; 3]) -> bool {
-    term_kind(subject) == NAME && term_kind(predicate) == NAME && term_kind(object) != VARIABLE
+pub fn rows_of(upload: &[u32]) -> (Vec<Row>, usize) {
+    let rows = upload.chunks_exact(4).map(|row| [row[0], row[1], row[2], row[3]]).collect();
+    (rows, upload.len() % 4)
 }
 
 /// The fate of each row: kinds first, then whether an earlier row is the same.
-pub fn fates(rows: &[[u32; 3]]) -> Vec<Fate> {
+pub fn fates(rows: &[Row]) -> Vec<Fate> {
     let fate = |place: usize| match rows[place] {
-        row if !kinds_right(row) => Fate::WrongKind,
+        row if !kinds_right(&row) || !year_right(&row) => Fate::WrongKind,
         row if rows[..place].contains(&row) => Fate::Repeat,
         _ => Fate::Kept,
     };
@@ -73,7 +67,7 @@ fn written(buffer: &[u32], words: &[u32]) -> Vec<u32> {
 
 /// The answer to a call, and its buffers at exit.
 pub fn make(call: &Make) -> (Result<Written, u32>, Make) {
-    if call.upload.len() % 3 != 0 || call.upload.len() / 3 > 65_536 {
+    if call.upload.len() % 4 != 0 || call.upload.len() / 4 > 65_536 {
         return (Err(15), call.clone());
     }
     let (Tables { rows, pos, osp }, report) = made(&call.upload);

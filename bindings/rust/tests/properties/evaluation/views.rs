@@ -1,6 +1,6 @@
 //! What an adviser may see, as plainly as the rules say it: for each row all rows are looked at.
 
-use super::tables::Tables;
+use super::tables::{Row, Tables};
 use super::words::*;
 
 /// A call of the view: the tables, the grant, the predicate of membership, and the three buffers as they are lent.
@@ -17,27 +17,27 @@ pub struct View {
 /// What a served call answers: the words written to rows, POS and OSP.
 pub type Written = (usize, usize, usize);
 
-/// Whether a subject's rows are visible: it is granted, or some row says that it belongs to something granted.
-fn is_seen(rows: &[[u32; 3]], grant: &[u32], membership: u32, subject: u32) -> bool {
-    let admits = |row: &[u32; 3]| row[0] == subject && row[1] == membership && grant.contains(&row[2]);
-    grant.contains(&subject) || rows.iter().any(admits)
+/// Whether a row is visible: its subject is granted, or some row of its year says that the subject belongs to something granted.
+fn is_seen(rows: &[Row], grant: &[u32], membership: u32, row: &Row) -> bool {
+    let admits = |other: &Row| other[..2] == row[..2] && other[2] == membership && grant.contains(&other[3]);
+    grant.contains(&row[1]) || rows.iter().any(admits)
 }
 
 /// Of each row whether it is visible.
-pub fn seen(rows: &[[u32; 3]], grant: &[u32], membership: u32) -> Vec<bool> {
-    rows.iter().map(|row| is_seen(rows, grant, membership, row[0])).collect()
+pub fn seen(rows: &[Row], grant: &[u32], membership: u32) -> Vec<bool> {
+    rows.iter().map(|row| is_seen(rows, grant, membership, row)).collect()
 }
 
 /// The visible rows, in their order.
-pub fn visible(tables: &Tables, grant: &[u32], membership: u32) -> Vec<[u32; 3]> {
-    let rows = tables.triples();
+pub fn visible(tables: &Tables, grant: &[u32], membership: u32) -> Vec<Row> {
+    let rows = tables.quads();
     let seen = seen(&rows, grant, membership);
     rows.iter().zip(seen).filter(|(_, seen)| *seen).map(|(&row, _)| row).collect()
 }
 
 /// Whether each row that stands in the first tables alone is hidden there.
 pub fn hidden_alone(first: &Tables, second: &Tables, grant: &[u32], membership: u32) -> bool {
-    let others = second.triples();
+    let others = second.quads();
     visible(first, grant, membership).iter().all(|row| others.contains(row))
 }
 

@@ -3,6 +3,7 @@
 pub const UNBOUND: u32 = 0xC000_0000;
 pub const MOST_VALUE: u32 = 0x3FFF_FFFF;
 pub const MOST_NUMBER: i32 = 0x1FFF_FFFF;
+pub const MOST_YEAR: u32 = 9_999;
 pub const MOST_COUNT: u32 = 0x0FFF_FFFF;
 
 pub const NAME: u32 = 0;
@@ -10,6 +11,7 @@ pub const NUMBER: u32 = 1;
 pub const TEXT: u32 = 2;
 pub const VARIABLE: u32 = 3;
 
+pub const YEAR: u32 = 0;
 pub const HEAD: u32 = 1;
 pub const BRANCH: u32 = 2;
 pub const TRUE: u32 = 3;

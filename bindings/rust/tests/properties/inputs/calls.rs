@@ -14,7 +14,7 @@ pub fn open(random: &mut Random, query: &Query) -> Open {
         tables: query.tables.clone(),
         survey: query.survey,
         plan: query.words.clone(),
-        state: random.words(10 + spare),
+        state: random.words(11 + spare),
     }
 }
 
@@ -55,7 +55,7 @@ pub fn turn(random: &mut Random, query: &Query) -> Turn {
     let mut state = query.saved(random.below(steps));
     let given = state.len();
     let spare = random.pick(&[0, 0, 1, 4]);
-    state.extend(random.words(10 + spare - given));
+    state.extend(random.words(11 + spare - given));
     let some = random.between(1, steps) as u32;
     let quantum = random.pick(&[1, 2, some, steps as u32, 1_000_000]);
     Turn {
@@ -78,12 +78,28 @@ fn totals(random: &mut Random, keys: &[u32]) -> Vec<u32> {
     }
     let rows = random.pick(&[1, 1, 2, 3, u32::MAX.into(), 1 << 32, 1 << 62, 1 << 63, u64::MAX - 1, u64::MAX]);
     let numbers = random.pick(&[0, 1, rows, rows, rows / 2]);
-    let sum = random.pick(&[0, 1, 45, u32::MAX.into(), 1 << 32, (1 << 63) - 1, (1 << 63) - 45, 1 << 63, (1 << 63) + 45, u64::MAX - 45, u64::MAX]);
+    let sum = random.pick(&[
+        0,
+        1,
+        45,
+        u32::MAX.into(),
+        1 << 32,
+        (1 << 63) - 1,
+        (1 << 63) - 45,
+        1 << 63,
+        (1 << 63) + 45,
+        u64::MAX - 45,
+        u64::MAX,
+    ]);
     if numbers == 0 {
         return [&halves(rows)[..], &[0; 4], &[UNBOUND; 2]].concat();
     }
     let (one, other) = (some_number(random), some_number(random));
-    let (least, greatest) = if rank(one) <= rank(other) { (one, other) } else { (other, one) };
+    let (least, greatest) = if rank(one) <= rank(other) {
+        (one, other)
+    } else {
+        (other, one)
+    };
     [halves(rows), halves(numbers), halves(sum), [least, greatest]].concat()
 }
 

@@ -101,7 +101,8 @@ pub fn grown(random: &mut Random, query: &Query) -> Plan {
     let at = random.below(plan.branches.len());
     let branch = &mut plan.branches[at];
     let bound: Vec<u32> = branch.binds().into_iter().collect();
-    match random.small(9) {
+    match random.small(10) {
+        9 => plan.year = random.pick(&[None, Some(0), Some(1), Some(MOST_YEAR), Some(MOST_YEAR + 1), Some(MOST_COUNT)]),
         0 => {
             let not = |condition, _| Condition::Not(Box::new(condition));
             branch.condition = (0..random.between(5, 8)).fold(branch.condition.clone(), not);
@@ -168,26 +169,32 @@ fn plan_damage(random: &mut Random, query: &Query, words: &mut Vec<u32>) {
 }
 
 pub fn tables(random: &mut Random, tables: &mut Tables) {
-    let many = tables.rows.len() / 3;
-    match random.small(6) {
+    let many = tables.rows.len() / 4;
+    match random.small(7) {
         0 if many > 1 => {
-            let at = 3 * random.below(many - 1);
-            tables.rows.copy_within(at + 3..at + 6, at);
+            let at = 4 * random.below(many - 1);
+            tables.rows.copy_within(at + 4..at + 8, at);
         }
         1 if many > 1 => {
-            let at = 3 * random.below(many - 1);
-            tables.rows[at..at + 6].rotate_left(3);
+            let at = 4 * random.below(many - 1);
+            tables.rows[at..at + 8].rotate_left(4);
         }
         2 => {
             let word = random.pick(&[UNBOUND, number(3), variable(2), name(5)]);
             nudge(random, &mut tables.rows, word);
         }
         3 => {
-            tables.rows.extend([name(MOST_VALUE), name(MOST_VALUE), UNBOUND - 1]);
+            tables
+                .rows
+                .extend([number(9_999), name(MOST_VALUE), name(MOST_VALUE), UNBOUND - 1]);
             if random.chance(50) {
                 tables.pos.push(many as u32);
                 tables.osp.push(many as u32);
             }
+        }
+        4 if many > 0 => {
+            let at = 4 * random.below(many);
+            tables.rows[at] = random.pick(&[number(0), number(10_000), number(-1), name(2026), number(1)]);
         }
         _ => {
             let row = random.pick(&[0, many as u32, many as u32 + 1, u32::MAX]);
@@ -215,14 +222,14 @@ fn state_damage(random: &mut Random, query: &Query, call: &mut Turn) {
     match random.small(6) {
         0 => {
             call.state[at] = marked(
-                random.pick(&[SURVEY, STATE, PLACE, PLACE, 1]),
-                random.pick(&[0, 1, 2, 3, 16, 17, 33, 65, MOST_COUNT]),
+                random.pick(&[SURVEY, YEAR, STATE, PLACE, PLACE, 1]),
+                random.pick(&[0, 1, 2, 3, 16, 17, 33, 65, 2025, 2026, MOST_COUNT]),
             )
         }
         1 | 2 => call.state[at] = call.state[at].wrapping_add(random.pick(&[1, 1, 2, u32::MAX, u32::MAX - 1])),
-        3 if given > 1 => call.state[1] = call.state[1].wrapping_add(16 * random.pick(&[1, 1, 2, 3, 4])),
-        4 if (2..call.state.len()).contains(&given) => {
-            call.state[1] = call.state[1].wrapping_add(1);
+        3 if given > 2 => call.state[2] = call.state[2].wrapping_add(16 * random.pick(&[1, 1, 2, 3, 4])),
+        4 if (3..call.state.len()).contains(&given) => {
+            call.state[2] = call.state[2].wrapping_add(1);
             call.state[given] = marked(PLACE, random.small(query.tables.pos.len() as u32 + 2));
             call.given = given + 1;
         }
@@ -250,7 +257,7 @@ pub fn open(random: &mut Random, query: &Query, call: &mut Open) {
         0 | 1 => tables(random, &mut call.tables),
         2 | 3 => plan_damage(random, query, &mut call.plan),
         4 => call.survey = no_survey(random, call.survey),
-        _ => call.state.truncate(random.pick(&[0, 1, 9, 9])),
+        _ => call.state.truncate(random.pick(&[0, 1, 10, 10])),
     }
 }
 
@@ -258,7 +265,7 @@ pub fn turn(random: &mut Random, query: &Query, call: &mut Turn) {
     match random.small(14) {
         0 => tables(random, &mut call.tables),
         1 | 2 => plan_damage(random, query, &mut call.plan),
-        3 => call.state.truncate(random.pick(&[0, 1, 9, 9])),
+        3 => call.state.truncate(random.pick(&[0, 1, 10, 10])),
         12 | 13 => survey_damage(random, call),
         4 => call.quantum = random.pick(&[0, 1_000_001, u32::MAX]),
         5 => call.output.truncate(random.pick(&[0, query.plan.least_output() - 1])),

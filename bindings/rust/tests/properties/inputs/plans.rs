@@ -7,11 +7,11 @@ use crate::evaluation::plan::{Branch, Condition, Ending, Plan};
 use crate::evaluation::tables::Tables;
 use crate::evaluation::words::*;
 
-/// A term of any kind but a variable, often one of the tables'.
+/// A term of any kind but a variable, often one of the tables' that a pattern's field is matched with: its column is behind the year.
 pub fn some_constant(random: &mut Random, tables: &Tables, field: usize) -> u32 {
-    let rows = tables.rows.len() / 3;
+    let rows = tables.rows.len() / 4;
     match random.small(12) {
-        0..=8 if rows > 0 => tables.rows[3 * random.below(rows) + field],
+        0..=8 if rows > 0 => tables.rows[4 * random.below(rows) + 1 + field],
         9 => some_number(random),
         10 => term(TEXT, random.small(4)),
         _ => name(random.small(12)),
@@ -97,7 +97,34 @@ pub fn ending(random: &mut Random, variables: &[u32]) -> Ending {
     }
 }
 
-/// A plan that tests 5 and 6 pass, unless it is too long.
+/// The years that are read: the latest, every one, one that rows have, or one that they may not have.
+fn year(random: &mut Random, tables: &Tables) -> Option<u32> {
+    let there = match tables.rows.len() / 4 {
+        0 => 2026,
+        many => term_value(tables.rows[4 * random.below(many)]),
+    };
+    let beside = random_year(there);
+    random.pick(&[
+        None,
+        None,
+        None,
+        None,
+        Some(0),
+        Some(0),
+        Some(0),
+        Some(0),
+        Some(there),
+        Some(there),
+        Some(beside),
+    ])
+}
+
+/// A year beside another.
+fn random_year(year: u32) -> u32 {
+    (year % MOST_YEAR) + 1
+}
+
+/// A plan that tests 5, 6 and 23 pass, unless it is too long.
 pub fn plan(random: &mut Random, tables: &Tables) -> Plan {
     let first = random.pick(&[0, 0, 0, 10]);
     let variables: Vec<u32> = (first..first + random.pick(&[1, 2, 3, 3, 4, 5, 6])).collect();
@@ -109,6 +136,7 @@ pub fn plan(random: &mut Random, tables: &Tables) -> Plan {
         bound.dedup();
         if !bound.is_empty() {
             return Plan {
+                year: year(random, tables),
                 ending: ending(random, &bound),
                 branches,
             };

@@ -2,22 +2,24 @@
 
 use super::random::Random;
 use super::woods;
-use crate::evaluation::tables::Tables;
+use crate::evaluation::tables::{Row, Tables};
 use crate::evaluation::uploads::{made, Make};
 use crate::evaluation::words::*;
 
 /// A row of a wrong kind, made of a right one.
-fn wronged(random: &mut Random, mut row: [u32; 3]) -> [u32; 3] {
-    let at = random.below(3);
+fn wronged(random: &mut Random, mut row: Row) -> Row {
+    let at = random.below(4);
     row[at] = match at {
-        2 => variable(random.pick(&[0, 1, term_value(row[2]), MOST_VALUE])),
+        0 if random.chance(60) => number(random.pick(&[0, 10_000, -1, 1 << 28])),
+        0 => term(random.pick(&[NAME, TEXT, VARIABLE]), term_value(row[0])),
+        3 => variable(random.pick(&[0, 1, term_value(row[3]), MOST_VALUE])),
         _ => term(random.pick(&[NUMBER, TEXT, VARIABLE]), term_value(row[at])),
     };
     row
 }
 
 /// One row of a wood, or now and then one of a wrong kind.
-fn some_row(random: &mut Random, rows: &[[u32; 3]], wrong: u32) -> [u32; 3] {
+fn some_row(random: &mut Random, rows: &[Row], wrong: u32) -> Row {
     let row = random.pick(rows);
     match random.chance(wrong) {
         true => wronged(random, row),
@@ -28,9 +30,9 @@ fn some_row(random: &mut Random, rows: &[[u32; 3]], wrong: u32) -> [u32; 3] {
 /// The words of so many rows, in any order or in their own.
 pub fn upload(random: &mut Random, most: usize) -> Vec<u32> {
     let (most_rows, many) = (random.pick(&[1, 3, most / 2 + 1, most + 1]), random.below(most + 1));
-    let wood = woods::wood(random, most_rows).triples();
+    let wood = woods::wood(random, most_rows).quads();
     let (wrong, in_order) = (random.pick(&[0, 10, 10, 60, 100]), random.chance(20));
-    let mut rows: Vec<[u32; 3]> = (0..if wood.is_empty() { 0 } else { many })
+    let mut rows: Vec<Row> = (0..if wood.is_empty() { 0 } else { many })
         .map(|_| some_row(random, &wood, wrong))
         .collect();
     if random.chance(20) {
@@ -90,7 +92,7 @@ pub fn made_up(random: &mut Random) -> Make {
         let many = random.below(most + 1);
         random.words(many)
     };
-    let (upload, rows, pos, osp, report) = (any(12), any(12), any(4), any(4), any(8));
+    let (upload, rows, pos, osp, report) = (any(16), any(16), any(4), any(4), any(8));
     Make {
         upload,
         rows,
@@ -102,7 +104,7 @@ pub fn made_up(random: &mut Random) -> Make {
 
 /// So many rows of stems, in an order that is far from theirs: a stand and a diameter each, none twice.
 pub fn shuffled(random: &mut Random, many: usize) -> Vec<u32> {
-    let mut rows = woods::stems(random, many.div_ceil(2) as u32).triples();
+    let mut rows = woods::stems(random, many.div_ceil(2) as u32).quads();
     rows.truncate(many);
     for at in (1..rows.len()).rev() {
         rows.swap(at, random.below(at + 1));

@@ -2,23 +2,23 @@
 
 use super::random::Random;
 use super::{damage, woods};
-use crate::evaluation::tables::Tables;
+use crate::evaluation::tables::{Row, Tables};
 use crate::evaluation::views::{visible, View};
 use crate::evaluation::words::*;
 
 /// A name that a grant may have: a subject of the wood, something that a row says, or another.
-fn some_name(random: &mut Random, rows: &[[u32; 3]]) -> u32 {
+fn some_name(random: &mut Random, rows: &[Row]) -> u32 {
     let named = |word: u32| Some(word).filter(|&word| term_kind(word) == NAME);
     let said = match rows.is_empty() {
         true => None,
-        false => named(random.pick(rows)[random.pick(&[0, 0, 1, 2, 2, 2])]),
+        false => named(random.pick(rows)[random.pick(&[1, 1, 2, 3, 3, 3])]),
     };
     said.unwrap_or_else(|| name(random.pick(&[0, 1, 5, 10, 100, MOST_VALUE])))
 }
 
 /// Names in strictly ascending order, often few and sometimes none.
 pub fn grant(random: &mut Random, tables: &Tables) -> Vec<u32> {
-    let rows = tables.triples();
+    let rows = tables.quads();
     let mut names: Vec<u32> = (0..random.pick(&[0, 1, 1, 1, 2, 2, 3, 8]))
         .map(|_| some_name(random, &rows))
         .collect();
@@ -29,9 +29,9 @@ pub fn grant(random: &mut Random, tables: &Tables) -> Vec<u32> {
 
 /// A predicate, mostly one that rows have; no name now and then.
 pub fn membership(random: &mut Random, tables: &Tables) -> u32 {
-    let rows = tables.triples();
+    let rows = tables.quads();
     match random.small(12) {
-        0..=9 if !rows.is_empty() => random.pick(&rows)[1],
+        0..=9 if !rows.is_empty() => random.pick(&rows)[2],
         10 => random.word(),
         _ => name(random.pick(&[0, 10, MOST_VALUE])),
     }
@@ -44,7 +44,7 @@ pub fn lend(random: &mut Random, tables: Tables, grant: Vec<u32>, membership: u3
         let spare = random.pick(&[0, 0, 0, 1, 2, 9]);
         random.words(words + spare)
     };
-    let (rows, pos, osp) = (buffer(3 * many), buffer(many), buffer(many));
+    let (rows, pos, osp) = (buffer(4 * many), buffer(many), buffer(many));
     View {
         tables,
         grant,
@@ -97,7 +97,7 @@ pub fn damage(random: &mut Random, call: &mut View) {
         _ => {
             let many = visible(&call.tables, &call.grant, call.membership).len();
             let (at, short) = (random.below(3), random.chance(80));
-            let words = if at == 0 { 3 * many } else { many };
+            let words = if at == 0 { 4 * many } else { many };
             let short = if short { words.saturating_sub(1) } else { 0 };
             [&mut call.rows, &mut call.pos, &mut call.osp][at].truncate(short);
         }
@@ -110,9 +110,9 @@ pub fn made_up(random: &mut Random) -> View {
         let many = random.below(most + 1);
         random.words(many)
     };
-    let (grant, rows, pos, osp) = (any(3), any(9), any(3), any(3));
+    let (grant, rows, pos, osp) = (any(3), any(12), any(3), any(3));
     let tables = Tables {
-        rows: any(9),
+        rows: any(12),
         pos: any(3),
         osp: any(3),
     };
@@ -128,17 +128,18 @@ pub fn made_up(random: &mut Random) -> View {
 
 /// Tables that differ from others in a few rows: some left out, changed or new. Whether an adviser sees a difference is left to chance.
 pub fn other_tables(random: &mut Random, tables: &Tables) -> Tables {
-    let mut rows = tables.triples();
-    let more = woods::wood(random, 6).triples();
+    let mut rows = tables.quads();
+    let more = woods::wood(random, 6).quads();
     for _ in 0..random.pick(&[1, 1, 2, 3]) {
         match random.small(4) {
             0 if !rows.is_empty() => drop(rows.swap_remove(random.below(rows.len()))),
             1 if !rows.is_empty() => {
                 let at = random.below(rows.len());
-                rows[at][2] = woods::some_number(random);
+                rows[at][3] = woods::some_number(random);
             }
             2 if !rows.is_empty() && !more.is_empty() => {
-                rows.push([random.pick(&rows)[0], random.pick(&more)[1], random.pick(&more)[2]])
+                let (row, other) = (random.pick(&rows), random.pick(&more));
+                rows.push([row[0], row[1], other[2], other[3]])
             }
             _ if more.is_empty() => {}
             _ => rows.push(random.pick(&more)),

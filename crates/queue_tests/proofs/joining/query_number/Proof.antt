@@ -1,4 +1,4 @@
--- `query_number` meets its contract: tests 1 to 6, then those of the state.
+-- `query_number` meets its contract: the tests of tables and plan, then those of the state.
 use borrow.Author.Needs.{needs}
 use mathlib.Core.Path.{sym, _∙_, ap}
 use Rattle.words.specs.Tests.{numberOf}

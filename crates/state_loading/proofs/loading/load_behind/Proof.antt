@@ -1,13 +1,13 @@
 -- `state_loading::load_behind` meets its contract.
 use borrow.Author.Needs.{needs}
-use Prim.Native.Nat.{ℕ, _-_}
+use Prim.Native.Nat.{ℕ}
 use mathlib.Core.Path.{_≡_, sym, ap, _∙_}
 use mathlib.Core.Bool.{true}
 use mathlib.Core.List.{List}
 use native.Mathlib.Omega.{arith}
 use lib.ListN.{length, getD, length-drop}
 use Rattle.words.specs.Words.{branchOf}
-use Rattle.tables.specs.Tables.{Tables, tablesOf}
+use Rattle.tables.specs.Tables.{Section, sectionOf}
 use Rattle.plans.specs.Branches.{Branch, noBranch}
 use Rattle.plans.specs.Plans.{Plan, planOf, branchAt}
 use Rattle.plans.specs.Reading.{branchStart}
@@ -17,8 +17,8 @@ use Rattle.state_saving.proofs.Loads.{placed, whole, begins, level-there, loads
 use Rattle.state_loading.proofs.loading.load_behind.Statement.{statement}
 use Rattle.state_loading.proofs.loading.load_behind.Tie as tie
 
-abbrev lent : tie.Start → Tables
-lent s = tablesOf (s .args .rows .now) (s .args .pos .now) (s .args .osp .now)
+abbrev lent : tie.Start → Section
+lent s = sectionOf (s .args .rows .now) (s .args .pos .now) (s .args .osp .now) (s .args .year)
 
 abbrev asked : tie.Start → Plan
 asked s = planOf (s .args .plan .now)
@@ -44,8 +44,8 @@ terms-are c =
     ∙ ap (λ (x : Branch). x .terms)
     (given-is _ noBranch _ (p .branch-part .ensures .1) ∙ ap (branchAt (asked s)) (b .branch .ensures))
 
-shared-slice-read-t18 : tie.Need-shared-slice-read-t18
-shared-slice-read-t18 c = let p = placed (asked (entry c)) (words (entry c)) (shape c) in omega (arith, p .long)
+shared-slice-read-t19 : tie.Need-shared-slice-read-t19
+shared-slice-read-t19 c = let p = placed (asked (entry c)) (words (entry c)) (shape c) in omega (arith, p .long)
 
 branch-requires : tie.Need-branch-requires
 branch-requires c κs = search needs
@@ -138,7 +138,7 @@ pub load-behind-spec : {M : Type 1} → statement M
 load-behind-spec =
     tie.close
     (tie.spec
-    shared-slice-read-t18
+    shared-slice-read-t19
     branch-requires
     branch-part-requires
     sub-cursor-in

@@ -18,14 +18,14 @@ abbrev lent : tie.Start → Tables
 lent s = tablesOf (s .args .rows .now) (s .args .pos .now) (s .args .osp .now)
 
 abbrev selected : tie.Start → Prefix
-selected s = levelPrefix (s .args .terms .now) (s .args .level) (s .args .bound .now)
+selected s = levelPrefix (s .args .year) (s .args .terms .now) (s .args .level) (s .args .bound .now)
 
 -- the bounds that were found are those of the level's range
 prefix-is : (r : tie.After-level-range) → prefixOf (r .before .level-of .result) ≡ selected (entry r)
 prefix-is r =
     let f = r .before in
     let s = entry r in
-    sym (level-prefix (s .args .terms .now) (s .args .level) (s .args .bound .now) (f .level-of .result) (f .level-of .ensures) _ refl)
+    sym (level-prefix (s .args .year) (s .args .terms .now) (s .args .level) (s .args .bound .now) (f .level-of .result) (f .level-of .ensures) _ refl)
 
 first-is : (r : tie.After-level-range) → r .level-range .result .first .0 ≡ rangeStart (lent (entry r)) (selected (entry r))
 first-is r = r .level-range .ensures .0 ∙ ap (rangeStart (lent (entry r))) (prefix-is r)

@@ -2,13 +2,13 @@
 use borrow.Author.Needs.{needs}
 use mathlib.Core.Path.{refl, sym, _∙_}
 use Rattle.words.proofs.Booleans.{absurd-true}
-use Rattle.tables.specs.Tables.{Tables, tablesOf}
+use Rattle.tables.specs.Tables.{Section, sectionOf}
 use Rattle.state_saving.proofs.WalkedLevels.{upper-fails, upper-passes}
 use Rattle.state_loading.proofs.walks.places_right.Statement.{statement}
 use Rattle.state_loading.proofs.walks.places_right.Tie as tie
 
-abbrev lent : tie.Start → Tables
-lent s = tablesOf (s .args .rows .now) (s .args .pos .now) (s .args .osp .now)
+abbrev lent : tie.Start → Section
+lent s = sectionOf (s .args .rows .now) (s .args .pos .now) (s .args .osp .now) (s .args .year)
 
 upper-right-requires : tie.Need-upper-right-requires
 upper-right-requires c κs = search needs

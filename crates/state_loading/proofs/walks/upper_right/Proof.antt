@@ -6,22 +6,22 @@ use native.Mathlib.Omega.{arith}
 use lib.ListN.{length, length-set}
 use borrow.Author.Tests.{not-true, not-false}
 use Rattle.words.proofs.Booleans.{absurd-true}
-use Rattle.tables.specs.Tables.{Tables, tablesOf}
+use Rattle.tables.specs.Tables.{Section, sectionOf}
 use Rattle.step_cursors.specs.Held.{EndsAbove}
 use Rattle.state_saving.proofs.WalkedLevels.{Walked, walked-none, walked-next, walked-fails, ends-next}
 use Rattle.state_loading.proofs.walks.upper_right.Statement.{statement}
 use Rattle.state_loading.proofs.walks.upper_right.Tie as tie
 
 abbrev Inv-loop : tie.InvT-loop
-Inv-loop rows pos osp terms bound₀ upper last ends₀ level₀ bound ends level =
-    (level ≤ last) × Walked (tablesOf rows pos osp) terms upper level bound × (length ends ≡ 8)
-    × EndsAbove (tablesOf rows pos osp) terms upper ends level
+Inv-loop rows pos osp year terms bound₀ upper last ends₀ level₀ bound ends level =
+    (level ≤ last) × Walked (sectionOf rows pos osp year) terms upper level bound × (length ends ≡ 8)
+    × EndsAbove (sectionOf rows pos osp year) terms upper ends level
 
 abbrev μ-loop : tie.MeasureT-loop
-μ-loop rows pos osp terms bound₀ upper last ends₀ level₀ bound ends level = last - level
+μ-loop rows pos osp year terms bound₀ upper last ends₀ level₀ bound ends level = last - level
 
-abbrev lent : tie.Start Inv-loop μ-loop → Tables
-lent s = tablesOf (s .args .rows .now) (s .args .pos .now) (s .args .osp .now)
+abbrev lent : tie.Start Inv-loop μ-loop → Section
+lent s = sectionOf (s .args .rows .now) (s .args .pos .now) (s .args .osp .now) (s .args .year)
 
 loop-holds : tie.Need-loop-holds Inv-loop μ-loop
 loop-holds c =

@@ -1,20 +1,21 @@
 -- `state_saving::save` meets its contract.
 use borrow.Author.Needs.{needs}
 use Prim.Native.Nat.{ℕ, _-_, _%_, _<_}
-use mathlib.Core.Path.{_≡_, ap, _∙_}
+use mathlib.Core.Path.{_≡_, ap, ap₂, _∙_}
 use native.Mathlib.Omega.{arith}
-use lib.ListN.{length, set}
+use lib.ListN.{length, set, length-set}
 use borrow.Rule.Slice.PartMut.{putMid}
-use Rattle.words.specs.Words.{lowNumbers, surveyWord}
+use Rattle.words.specs.Words.{lowNumbers, surveyWord, yearWord}
 use Rattle.steps.specs.Saved.{positionWords}
 use Rattle.steps.proofs.SavedWords.{position-length}
-use Rattle.step_cursors.specs.Held.{stateOf}
+use Rattle.step_cursors.specs.Carried.{yearOf}
+use Rattle.step_cursors.specs.Held.{positionOf}
 use Rattle.step_cursors.proofs.Cursors.{upper-length as places-length}
-use Rattle.state_saving.proofs.Storing.{survey-first}
+use Rattle.state_saving.proofs.Storing.{both-first}
 use Rattle.state_saving.proofs.saving.save.Statement.{statement}
 use Rattle.state_saving.proofs.saving.save.Tie as tie
 
--- a survey's word holds a number below 2^28 whole
+-- a word holds a number below 2^28 whole
 kept : (n : ℕ) → n < lowNumbers → n % lowNumbers ≡ n
 kept n h = omega arith
 
@@ -36,26 +37,37 @@ survey-requires c κs = search needs
 slice-write-state : tie.Need-slice-write-state
 slice-write-state c = search needs
 
+value-requires : tie.Need-value-requires
+value-requires c κs = search needs
+
+year-requires : tie.Need-year-requires
+year-requires c κs = search needs
+
+slice-write-state-2 : tie.Need-slice-write-state-2
+slice-write-state-2 c = simp length-set (omega arith)
+
 add-result : tie.Need-add-result
 add-result c =
-    let b = c .before .before .before in
-    let s = b .before .before .before in
-    omega (arith, b .save-behind .ensures .0, position-length (stateOf (s .args .c)), places-length (s .args .c .upper) (s .args .c .level), s .pre .0 .level)
+    let b = c .before .before .before .before .before in
+    let s = b .before .before .before .before in
+    let from = s .args .c in
+    omega (arith, b .save-behind .ensures .0, position-length (positionOf from), places-length (from .upper) (from .level), s .pre .0 .level)
 
 same-length : tie.Need-same-length
 same-length c = search needs
 
 returns : tie.Need-returns
 returns c =
-    let b = c .before .before .before in
-    let s = b .before .before .before in
+    let b = c .before .before .before .before .before in
+    let s = b .before .before .before .before in
     let e = b .save-behind .ensures in
     let buffer = s .args .state .now in
-    let word = c .survey .ensures ∙ ap surveyWord (kept (s .args .survey) (s .pre .1)) in (
+    let survey = c .before .before .survey .ensures ∙ ap surveyWord (kept (s .args .survey) (s .pre .1)) in
+    let year = c .year .ensures ∙ ap yearWord (ap (λ n. n % lowNumbers) (c .before .value .ensures) ∙ kept (yearOf (s .args .c)) (s .pre .0 .year)) in (
       omega (arith, e .0),
-      ap (set (putMid 1 (length buffer - 1) buffer (b .save-behind .last .1 .0)) 0) word
-          ∙ survey-first (surveyWord (s .args .survey)) (positionWords (stateOf (s .args .c))) (b .save-behind .last .1 .0) buffer
-          (omega (arith, s .pre .2)) (e .1),
+      ap₂ (λ w y. set (set (putMid 2 (length buffer - 2) buffer (b .save-behind .last .1 .0)) 0 w) 1 y) survey year
+          ∙ both-first (surveyWord (s .args .survey)) (yearWord (yearOf (s .args .c))) (positionWords (positionOf (s .args .c))) (b .save-behind .last .1 .0)
+          buffer (omega (arith, s .pre .2)) (e .1),
     )
 
 pub save-spec : {M : Type 1} → statement M
@@ -68,6 +80,9 @@ save-spec =
     save-behind-requires
     survey-requires
     slice-write-state
+    value-requires
+    year-requires
+    slice-write-state-2
     add-result
     same-length
     returns)

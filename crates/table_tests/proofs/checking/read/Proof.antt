@@ -15,14 +15,14 @@ number-at-requires c κs = search needs
 wide-requires : tie.Need-wide-requires
 wide-requires c κs = tt
 
-fields-requires : tie.Need-fields-requires
-fields-requires c κs = omega arith
+keys-requires : tie.Need-keys-requires
+keys-requires c κs = omega arith
 
 returns : tie.Need-returns
 returns c =
     let n = c .before .before .before in
     let s = n .before .before .before .before in
-    rw (lt-ltb (rowAt (s .args .order) (lent s) (s .args .place .0)) (rowCount (lent s)) (omega arith), ← n .number-at .ensures, c .fields .ensures)
+    rw (lt-ltb (rowAt (s .args .order) (lent s) (s .args .place .0)) (rowCount (lent s)) (omega arith), ← n .number-at .ensures, c .keys .ensures)
 
 returns-2 : tie.Need-returns-2
 returns-2 c =
@@ -32,4 +32,4 @@ returns-2 c =
 
 pub read-spec : {M : Type 1} → statement M
 read-spec =
-    tie.close (tie.spec number-at-requires wide-requires fields-requires returns returns-2)
+    tie.close (tie.spec number-at-requires wide-requires keys-requires returns returns-2)

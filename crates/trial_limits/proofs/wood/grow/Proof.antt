@@ -17,11 +17,8 @@ loop-holds c = omega arith
 mul-at : tie.Need-mul-at Inv-loop μ-loop
 mul-at c = omega arith
 
-cast-name : tie.Need-cast-name Inv-loop μ-loop
-cast-name c = omega arith
-
-name-requires : tie.Need-name-requires Inv-loop μ-loop
-name-requires c κs = search needs
+number-requires : tie.Need-number-requires Inv-loop μ-loop
+number-requires c κs = search needs
 
 add-rows : tie.Need-add-rows Inv-loop μ-loop
 add-rows c = omega arith
@@ -32,8 +29,11 @@ mul-rows c = omega arith
 element-write-rows : tie.Need-element-write-rows Inv-loop μ-loop
 element-write-rows c = search needs
 
-name-requires-2 : tie.Need-name-requires-2 Inv-loop μ-loop
-name-requires-2 c κs = search needs
+cast-name : tie.Need-cast-name Inv-loop μ-loop
+cast-name c = omega arith
+
+name-requires : tie.Need-name-requires Inv-loop μ-loop
+name-requires c κs = search needs
 
 add-rows-2 : tie.Need-add-rows-2 Inv-loop μ-loop
 add-rows-2 c = omega arith
@@ -44,11 +44,8 @@ mul-rows-2 c = omega arith
 element-write-rows-2 : tie.Need-element-write-rows-2 Inv-loop μ-loop
 element-write-rows-2 c = search needs
 
-cast-number : tie.Need-cast-number Inv-loop μ-loop
-cast-number c = omega arith
-
-number-requires : tie.Need-number-requires Inv-loop μ-loop
-number-requires c κs = search needs
+name-requires-2 : tie.Need-name-requires-2 Inv-loop μ-loop
+name-requires-2 c κs = search needs
 
 add-rows-3 : tie.Need-add-rows-3 Inv-loop μ-loop
 add-rows-3 c = omega arith
@@ -58,6 +55,21 @@ mul-rows-3 c = omega arith
 
 element-write-rows-3 : tie.Need-element-write-rows-3 Inv-loop μ-loop
 element-write-rows-3 c = search needs
+
+cast-number : tie.Need-cast-number Inv-loop μ-loop
+cast-number c = omega arith
+
+number-requires-2 : tie.Need-number-requires-2 Inv-loop μ-loop
+number-requires-2 c κs = search needs
+
+add-rows-4 : tie.Need-add-rows-4 Inv-loop μ-loop
+add-rows-4 c = omega arith
+
+mul-rows-4 : tie.Need-mul-rows-4 Inv-loop μ-loop
+mul-rows-4 c = omega arith
+
+element-write-rows-4 : tie.Need-element-write-rows-4 Inv-loop μ-loop
+element-write-rows-4 c = search needs
 
 cast-list : tie.Need-cast-list Inv-loop μ-loop
 cast-list c = omega arith
@@ -88,20 +100,24 @@ grow-spec =
     μ-loop
     loop-holds
     mul-at
-    cast-name
-    name-requires
+    number-requires
     add-rows
     mul-rows
     element-write-rows
-    name-requires-2
+    cast-name
+    name-requires
     add-rows-2
     mul-rows-2
     element-write-rows-2
-    cast-number
-    number-requires
+    name-requires-2
     add-rows-3
     mul-rows-3
     element-write-rows-3
+    cast-number
+    number-requires-2
+    add-rows-4
+    mul-rows-4
+    element-write-rows-4
     cast-list
     mul-list
     element-write-list

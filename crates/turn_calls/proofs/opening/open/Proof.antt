@@ -1,7 +1,6 @@
--- `open` meets its contract: tests 1 to 6, then 7 and 22, then the start state.
+-- `open` meets its contract: the tests of tables and plan, then 7 and 22, then the start state.
 use borrow.Author.Needs.{needs}
 use mathlib.Core.Path.{sym, _∙_}
-use Rattle.step_cursors.proofs.Cursors.{form-of}
 use Rattle.state_saving.proofs.Storing.{held-storable}
 use Rattle.turns.specs.Surveys.{Survey, surveyOf}
 use Rattle.turn_tests.proofs.Numbering.{early-right, early-planned}
@@ -38,15 +37,14 @@ returns-2 c =
     (sym (own-refused (lent s) (s .args .plan .now) (s .args .state .now) (sym (k .check .ensures) ∙ f .if1 .left) (o .start .result) (o .start .ensures)
     (c .if2 .taken)))
 
-start-branch-requires : tie.Need-start-branch-requires
-start-branch-requires c κs =
+start-requires-2 : tie.Need-start-requires-2
+start-requires-2 c κs =
     let f = c .before .before .before .before in
     let k = f .before in
     let s = k .before .before .before .before .before .before in
     let t = lent s .tables in
     let z = sym (k .check .ensures) ∙ f .if1 .left in
-    let p = early-planned t (s .args .plan .now) z in
-    (early-right t (s .args .plan .now) z, (p, form-of (s .args .plan .now) p .least))
+    (early-right t (s .args .plan .now) z, early-planned t (s .args .plan .now) z)
 
 save-requires : tie.Need-save-requires
 save-requires c κs =
@@ -58,8 +56,8 @@ save-requires c κs =
     let s = k .before .before .before .before .before .before in
     let z = sym (k .check .ensures) ∙ f .if1 .left in
     let r = open-room (lent s) (s .args .plan .now) (s .args .state .now) z (o .start .result) (o .start .ensures) (y .if2 .left) in (
-      held-storable (lent s .tables) (s .args .plan .now) (b .start-branch .result) _ (early-right (lent s .tables) (s .args .plan .now) z)
-          (b .start-branch .ensures .1 .1 .1 .0),
+      held-storable (lent s .tables) (s .args .plan .now) (b .start2 .result) _ (early-right (lent s .tables) (s .args .plan .now) z)
+          (b .start2 .ensures .1 .1 .0),
       r .0,
       r .1,
     )
@@ -80,7 +78,7 @@ returns-3 c =
     let st = s .args .state .now in
     let r = open-served (lent s) p st (sym (k .check .ensures) ∙ f .if1 .left) (o .start .result) (o .start .ensures) (y .if2 .left) in
     open-told (lent s) p st
-    (opened-words (lent s) p st (b .start-branch .result) (b .start-branch .ensures .1 .1 .0) r (v .save .result) _ (v .save .ensures))
+    (opened-words (lent s) p st (b .start2 .result) (b .start2 .ensures .1 .0) r (v .save .result) _ (v .save .ensures))
 
 pub open-spec : {M : Type 1} → statement M
 open-spec =
@@ -91,7 +89,7 @@ open-spec =
     start-requires
     same-length
     returns-2
-    start-branch-requires
+    start-requires-2
     save-requires
     same-length-2
     returns-3)

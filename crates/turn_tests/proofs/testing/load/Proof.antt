@@ -21,7 +21,7 @@ returns c =
     let t = tablesOf (s .args .rows .now) (s .args .pos .now) (s .args .osp .now) in
     let q = planOf (s .args .plan .now) in
     let ws = take (s .args .given) (s .args .state .now) in (
-      c .refused .ensures ∙ not-given (s .args .given) (length (s .args .state .now)) (shapeRight q ws) (surveyRight (s .args .survey) ws)
+      c .refused .ensures ∙ not-given (s .args .given) (length (s .args .state .now)) (shapeRight t q ws) (surveyRight (s .args .survey) ws)
           (placesRight t q ws) (thresholdRight (q .ending) (s .args .threshold .now)) (c .before .if1 .taken),
       (λ z. absurd (omega arith), λ z. absurd (omega arith)),
     )
@@ -41,7 +41,7 @@ returns-2 c =
     let t = tablesOf (s .args .rows .now) (s .args .pos .now) (s .args .osp .now) in
     let q = planOf (s .args .plan .now) in
     let ws = take (s .args .given) (s .args .state .now) in (
-      state-fails (s .args .given) (length (s .args .state .now)) (shapeRight q ws) (surveyRight (s .args .survey) ws) (placesRight t q ws)
+      state-fails (s .args .given) (length (s .args .state .now)) (shapeRight t q ws) (surveyRight (s .args .survey) ws) (placesRight t q ws)
           (thresholdRight (q .ending) (s .args .threshold .now)) (l .before .before .before .if1 .left) _ (l .load .ensures .0) (c .if2 .taken),
       l .load .ensures .1,
     )
@@ -60,7 +60,7 @@ returns-3 c =
     let t = tablesOf (s .args .rows .now) (s .args .pos .now) (s .args .osp .now) in
     let q = planOf (s .args .plan .now) in
     let ws = take (s .args .given) (s .args .state .now) in (
-      threshold-passes (s .args .given) (length (s .args .state .now)) (shapeRight q ws) (surveyRight (s .args .survey) ws) (placesRight t q ws)
+      threshold-passes (s .args .given) (length (s .args .state .now)) (shapeRight t q ws) (surveyRight (s .args .survey) ws) (placesRight t q ws)
           (thresholdRight (q .ending) (s .args .threshold .now)) (l .before .before .before .if1 .left) _ (l .load .ensures .0) (p .before .if2 .left)
           (c .before .threshold-right .result) (rw (p .ending-part .ensures .1) at (c .before .threshold-right .ensures)) (c .if3 .taken),
       l .load .ensures .1,
@@ -78,7 +78,7 @@ returns-4 c =
     let t = tablesOf (s .args .rows .now) (s .args .pos .now) (s .args .osp .now) in
     let q = planOf (s .args .plan .now) in
     let ws = take (s .args .given) (s .args .state .now) in (
-      c .refused2 .ensures ∙ threshold-fails (s .args .given) (length (s .args .state .now)) (shapeRight q ws) (surveyRight (s .args .survey) ws)
+      c .refused2 .ensures ∙ threshold-fails (s .args .given) (length (s .args .state .now)) (shapeRight t q ws) (surveyRight (s .args .survey) ws)
           (placesRight t q ws) (thresholdRight (q .ending) (s .args .threshold .now))
           (l .before .before .before .if1 .left) _ (l .load .ensures .0) (p .before .if2 .left)
           (r .threshold-right .result) (rw (p .ending-part .ensures .1) at (r .threshold-right .ensures)) (c .before .if3 .left),

@@ -1,4 +1,4 @@
--- `prepare` meets its contract: tests 1 to 6, then the sizes, then the state and the threshold.
+-- `prepare` meets its contract: the tests of tables and plan, then the sizes, then the state and the threshold.
 use borrow.Author.Needs.{needs}
 use mathlib.Core.Path.{sym, _∙_}
 use Rattle.tables.specs.Tables.{tablesOf}
