@@ -38,7 +38,7 @@ static double now(void)
     return (double)t.tv_sec * 1e9 + (double)t.tv_nsec;
 }
 
-/* ---- the woods: 32,768 stems of one year with a stand and a diameter, drawn from a seed. They differ in the stems' names alone, and not in the names'
+/* ---- the woods: 32,768 stems of one year with a stand and a diameter, as the call grows them. They differ in the stems' names alone, and not in the names'
  * order, so that steps and answers are alike: without gaps; with a gap of up to 1,000 before each; or the last eighth of them far off. */
 
 enum wood { DENSE, GAPS, FAR, WOODS };
@@ -65,37 +65,17 @@ static uint32_t next_name(enum wood wood, uint32_t last, uint32_t j)
     return last + (wood == FAR && j == STEMS / 8 * 7 ? 900000000 : 1);
 }
 
-static int order; /* the first column after the year of the order that is sorted by: 0 subject, 1 predicate, 2 object */
-
-static int by_order(const void *a, const void *b)
-{
-    const uint32_t *x = rows + COLUMNS * *(const uint32_t *)a, *y = rows + COLUMNS * *(const uint32_t *)b;
-    if (x[0] != y[0])
-        return x[0] < y[0] ? -1 : 1;
-    for (int i = 0; i < 3; i++) {
-        int c = 1 + (order + i) % 3;
-        if (x[c] != y[c])
-            return x[c] < y[c] ? -1 : 1;
-    }
-    return 0;
-}
-
+/* The call's wood of seed 1. Other names in the same order leave both lists of row numbers as they are. */
 static void grow(enum wood wood)
 {
     uint32_t name = 999999;
+    if (sotjarn_grow(1, STEMS, YEAR, rows, COLUMNS * COUNT, pos, COUNT, osp, COUNT).refused)
+        fail("the wood is not grown");
     seed = gap_seed = 1;
     for (uint32_t j = 0; j < STEMS; j++) {
-        uint32_t stand = draw() % 20, diameter = draw() % 600;
         name = next_name(wood, name, j);
-        uint32_t two[2 * COLUMNS] = {I(YEAR), N(name), N(10), N(100 + stand), I(YEAR), N(name), N(12), I(20 + diameter)};
-        memcpy(rows + 2 * COLUMNS * j, two, sizeof two);
+        rows[2 * COLUMNS * j + 1] = rows[2 * COLUMNS * j + COLUMNS + 1] = N(name);
     }
-    for (uint32_t i = 0; i < COUNT; i++)
-        pos[i] = osp[i] = i;
-    order = 1;
-    qsort(pos, COUNT, sizeof *pos, by_order);
-    order = 2;
-    qsort(osp, COUNT, sizeof *osp, by_order);
 }
 
 /* ---- SQLite: one table in memory, three covering indexes */
@@ -195,12 +175,14 @@ __typeof__(sotjarn_open) portable_open;
 __typeof__(sotjarn_turn) portable_turn;
 __typeof__(sotjarn_merge) portable_merge;
 __typeof__(sotjarn_make) portable_make;
+__typeof__(sotjarn_grow) portable_grow;
 #else
 enum { WITH_PORTABLE = 0 };
 #define portable_open 0
 #define portable_turn 0
 #define portable_merge 0
 #define portable_make 0
+#define portable_grow 0
 #endif
 
 /* The calls of those that have them. */
@@ -209,9 +191,10 @@ static const struct {
     __typeof__(sotjarn_turn) *turn;
     __typeof__(sotjarn_merge) *merge;
     __typeof__(sotjarn_make) *make;
-} calls[SQLITE] = {{sotjarn_open, sotjarn_turn, sotjarn_merge, sotjarn_make},
-                   {c_open, c_turn, c_merge, cpp_make},
-                   {portable_open, portable_turn, portable_merge, portable_make}};
+    __typeof__(sotjarn_grow) *grow;
+} calls[SQLITE] = {{sotjarn_open, sotjarn_turn, sotjarn_merge, sotjarn_make, sotjarn_grow},
+                   {c_open, c_turn, c_merge, cpp_make, cpp_grow},
+                   {portable_open, portable_turn, portable_merge, portable_make, portable_grow}};
 
 #define TABLES rows, COLUMNS * COUNT, pos, COUNT, osp, COUNT
 
@@ -462,6 +445,26 @@ static double time_make(enum who w, const struct query *q, uint32_t quantum)
     return t;
 }
 
+/* the same tables as of the wood's rows in their order, and no report */
+static double time_grow(enum who w, const struct query *q, uint32_t quantum)
+{
+    struct made_tables *m = &made[w == SQLITE ? ENGINE : w];
+    struct sotjarn_tables grown;
+    double t;
+    (void)q, (void)quantum;
+    if (w == SQLITE)
+        return 1e18;
+    t = now();
+    grown = calls[w].grow(1, STEMS, YEAR, m->rows, COLUMNS * COUNT, m->pos, COUNT, m->osp, COUNT);
+    t = now() - t;
+    if (grown.refused)
+        fail("a wood is not grown");
+    m->answer.rows_words = grown.rows_words;
+    m->answer.pos_words = grown.pos_words;
+    m->answer.osp_words = grown.osp_words;
+    return t;
+}
+
 static void same_made(enum who w, const char *what)
 {
     const struct made_tables *a = &made[ENGINE], *b = &made[w];
@@ -529,7 +532,7 @@ static void measure(const char *name, timer f, const struct query *q, uint32_t q
                 best[w] = t;
         }
     printf("%s\t%s\t%u\t%.0f\t%.0f\t", of, name, f == time_turn || f == time_pairs ? results[0].turned.steps : 0, best[ENGINE], best[PEER]);
-    if (f != time_make)
+    if (f != time_make && f != time_grow)
         printf("%.0f\t", best[SQLITE]);
     else
         printf("-\t");
@@ -551,11 +554,11 @@ static void measure_turn(const char *name, const struct query *q, uint32_t quant
         fail("SQLite finds other rows");
 }
 
-static void measure_make(const char *name, void (*put)(void), size_t kept_rows)
+static void measure_make(const char *name, timer f, void (*put)(void), size_t kept_rows)
 {
     memset(made, 0, sizeof made);
     put();
-    measure(name, time_make, 0, 0);
+    measure(name, f, 0, 0);
     same_made(PEER, "the engine and C++ make different tables");
     if (WITH_PORTABLE)
         same_made(PORTABLE, "the proved and the portable engine make different tables");
@@ -607,9 +610,10 @@ int main(int count, char **words)
     same_merged(3 * BEST);
     measure("merge of 10,000 groups into 10,000", time_merge_groups, &groups, 0);
     same_merged(9 * (GROUPS + GROUPS / 2));
-    measure_make("tables of 65,536 rows, shuffled", upload_shuffled, COUNT);
-    measure_make("tables of 65,536 rows, sorted before", upload_sorted, COUNT);
-    measure_make("tables of 65,536 rows, a fourth dropped", upload_walk, COUNT - COUNT / 4);
+    measure_make("tables of 65,536 rows, shuffled", time_make, upload_shuffled, COUNT);
+    measure_make("tables of 65,536 rows, sorted before", time_make, upload_sorted, COUNT);
+    measure_make("tables of 65,536 rows, a fourth dropped", time_make, upload_walk, COUNT - COUNT / 4);
+    measure_make("tables of 32,768 stems, grown", time_grow, upload_sorted, COUNT);
     measure_wood(GAPS);
     measure_wood(FAR);
     return 0;

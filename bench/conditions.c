@@ -1,7 +1,7 @@
 /* Times rows that are tested by a long condition: a tree of 15 comparisons joined by "and" to one comparison of the diameter, which is
  * false on nine rows of ten. On the right that comparison is the short side, read first; on the left it is none, and every row's tree is read.
- * Where all comparisons are true nothing is skipped at any "and". One pattern over 32,768 rows, so that hardly more is timed than the tests.
- * A line a condition: its name, rows tested, rows kept, and nanoseconds a row, the best of many.
+ * Where all comparisons are true nothing is skipped at any "and". One pattern over the 32,768 diameters of a grown wood, so that hardly
+ * more is timed than the tests. A line a condition: its name, rows tested, rows kept, and nanoseconds a row, the best of many.
  *
  *     conditions [SECONDS]             every condition, for so long (default 1)
  *     conditions --once NUMBER STEPS   one turn of so many steps by the condition with a number, from 0: for counting instructions */
@@ -12,14 +12,16 @@
 #include <string.h>
 #include <time.h>
 
-enum { ROWS = 32768, LEAVES = 15, WORDS = 80 };
+enum { STEMS = 32768, ROWS = 2 * STEMS, LEAVES = 15, WORDS = 80 };
 
 #define N(v) ((uint32_t)(v))
 #define I(v) (1u << 30 | (uint32_t)(v))
 #define V(v) (3u << 30 | (uint32_t)(v))
 #define W(kind, low) ((uint32_t)(kind) << 28 | (uint32_t)(low))
 
-static uint32_t rows[3 * ROWS], pos[ROWS], osp[ROWS], output[2 * ROWS];
+static uint32_t rows[SOTJARN_ROW_WORDS * ROWS], pos[ROWS], osp[ROWS], output[2 * STEMS];
+
+#define TABLES rows, SOTJARN_ROW_WORDS * ROWS, pos, ROWS, osp, ROWS
 
 static double taken; /* by the last turn */
 
@@ -30,25 +32,13 @@ static double now(void)
     return (double)t.tv_sec * 1e9 + (double)t.tv_nsec;
 }
 
-/* by object, then by subject: every predicate is n12, so that POS and OSP are one order */
-static int by_object(const void *a, const void *b)
-{
-    const uint32_t *x = rows + 3 * *(const uint32_t *)a, *y = rows + 3 * *(const uint32_t *)b;
-    return x[2] != y[2] ? (x[2] < y[2] ? -1 : 1) : x[0] < y[0] ? -1 : x[0] > y[0];
-}
-
+/* 32,768 stems, as the call grows them: the rows of n12 are their diameters */
 static void grow(void)
 {
-    uint32_t seed = 1;
-    for (uint32_t j = 0; j < ROWS; j++) {
-        seed = 1664525u * seed + 1013904223u;
-        rows[3 * j] = N(1000000 + j);
-        rows[3 * j + 1] = N(12);
-        rows[3 * j + 2] = I(20 + seed / 65536 % 600);
-        pos[j] = osp[j] = j;
+    if (sotjarn_grow(1, STEMS, 2026, TABLES).refused) {
+        fprintf(stderr, "bench/conditions: the wood is not grown\n");
+        exit(1);
     }
-    qsort(pos, ROWS, sizeof *pos, by_object);
-    qsort(osp, ROWS, sizeof *osp, by_object);
 }
 
 /* the trees: "or" of 15 diameters; "or" over "and" over "or" of the six comparisons in turn; "and" of 15 comparisons that are all true; and seven
@@ -117,10 +107,10 @@ static size_t put_plan(uint32_t *plan, const struct condition *c)
 static struct sotjarn_turned turn(const uint32_t *plan, size_t words, uint32_t steps)
 {
     uint32_t state[SOTJARN_STATE_WORDS];
-    size_t used = sotjarn_open(rows, 3 * ROWS, pos, ROWS, osp, ROWS, 1, plan, words, state, SOTJARN_STATE_WORDS).words;
+    size_t used = sotjarn_open(TABLES, 1, plan, words, state, SOTJARN_STATE_WORDS).words;
     struct sotjarn_turned r;
     double t = now();
-    r = sotjarn_turn(rows, 3 * ROWS, pos, ROWS, osp, ROWS, 1, plan, words, state, SOTJARN_STATE_WORDS, used, steps, state, 0, output, 2 * ROWS);
+    r = sotjarn_turn(TABLES, 1, plan, words, state, SOTJARN_STATE_WORDS, used, steps, state, 0, output, 2 * STEMS);
     taken = now() - t;
     if (r.ending == SOTJARN_REFUSED) {
         fprintf(stderr, "bench/conditions: a turn is refused by %u\n", (unsigned)r.refused);
@@ -142,7 +132,7 @@ static void measure(const struct condition *c, double seconds)
         if (taken - checked < best) /* without the check of the tables */
             best = taken - checked;
     }
-    printf("%s\t%d\t%u\t%.1f\n", c->name, ROWS, (unsigned)(r.list_words / 2), best / ROWS);
+    printf("%s\t%d\t%u\t%.1f\n", c->name, STEMS, (unsigned)(r.list_words / 2), best / STEMS);
 }
 
 int main(int count, char **words)

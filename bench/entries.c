@@ -39,7 +39,7 @@ static void put(struct sotjarn_entry *entries, int count, uint32_t first, uint64
 /* The calls: each answers whether it was served. */
 static int serve(int waiting, int resting)
 {
-    return sotjarn_serve(rows, 3, numbers, 1, numbers, 1, 0, line, ROOM, (size_t)waiting, aside, ROOM, (size_t)resting, 1, numbers, 0, output, 1)
+    return sotjarn_serve(rows, SOTJARN_ROW_WORDS, numbers, 1, numbers, 1, 0, line, ROOM, (size_t)waiting, aside, ROOM, (size_t)resting, 1, numbers, 0, output, 1)
                .ending == SOTJARN_SPENT;
 }
 
@@ -55,9 +55,9 @@ static int top_up_last(int waiting, int resting)
 
 static int turn(int waiting, int resting)
 {
-    uint32_t state[SOTJARN_STATE_WORDS] = {SOTJARN_SURVEY(0), SOTJARN_POSITION(0, 1), SOTJARN_PLACE(0)};
+    uint32_t state[SOTJARN_STATE_WORDS] = {SOTJARN_SURVEY(0), SOTJARN_YEAR(2026), SOTJARN_POSITION(0, 1), SOTJARN_PLACE(0)};
     (void)waiting, (void)resting;
-    return sotjarn_turn(rows, 3, numbers, 1, numbers, 1, 0, plan, sizeof plan / sizeof *plan, state, SOTJARN_STATE_WORDS, 3, 1, numbers, 0,
+    return sotjarn_turn(rows, SOTJARN_ROW_WORDS, numbers, 1, numbers, 1, 0, plan, sizeof plan / sizeof *plan, state, SOTJARN_STATE_WORDS, 4, 1, numbers, 0,
                         output, 1).ending == SOTJARN_SPENT;
 }
 

@@ -78,3 +78,28 @@ extern "C" struct sotjarn_made cpp_make(const uint32_t *upload, size_t upload_le
         }
     return {0, columns * many, many, many, 2 * (count - many)};
 }
+
+// A wood in C++: each stem's rows from two draws, and both lists sorted.
+struct sotjarn_tables cpp_grow(uint32_t seed, uint32_t stems, uint32_t year, uint32_t *rows, size_t rows_len, uint32_t *pos, size_t pos_len,
+                               uint32_t *osp, size_t osp_len)
+{
+    const size_t many = 2 * static_cast<size_t>(stems);
+    const uint32_t number = 1u << 30;
+    if (stems > 32768 || year < 1 || year > 9999)
+        return {24, 0, 0, 0};
+    if (rows_len < columns * many || pos_len < many || osp_len < many)
+        return {25, 0, 0, 0};
+    uint32_t *next = rows, x = seed;
+    const auto draw = [&x] {
+        x = 1664525u * x + 1013904223u;
+        return x / 65536;
+    };
+    for (uint32_t stem = 0; stem < stems; stem++) {
+        const uint32_t stand = draw() % 20, diameter = draw() % 600, name = 1000000 + stem;
+        const uint32_t two[2 * columns] = {number | year, name, 10, 100 + stand, number | year, name, 12, number | (20 + diameter)};
+        next = std::copy_n(two, 2 * columns, next);
+    }
+    write_list<1>(rows, pos, many);
+    write_list<2>(rows, osp, many);
+    return {0, columns * many, many, many};
+}

@@ -1,5 +1,5 @@
 """What the engine makes of a text's rows, and says of its words, by the portable library: tables, what was dropped, and what an adviser sees; the number that
-refuses them, and the line that is at fault.
+refuses them, and the line that is at fault; and woods grown from a seed.
 
 The line is found by asking the engine about parts: of the rows so many from the front, of the plan a branch or the ending alone. Nothing
 here knows the rules; what it needs of them is which number is about what.
@@ -16,7 +16,7 @@ PORTABLE = os.path.join(ROOT, 'portable')
 REASONS = os.path.join(ROOT, 'tools', 'refusals.txt')
 NAMES = {'darwin': 'libsotjarn_portable.dylib', 'win32': 'sotjarn_portable.dll'}
 FIELD_KIND, ROW_ORDER, ROW_NUMBERS, FORM, VARIABLES, QUANTUM, YEAR = 2, 3, 4, 5, 6, 8, 23
-STATE_WORDS, ROW_WORDS = 11, 4
+STATE_WORDS, ROW_WORDS, MOST_STEMS = 11, 4, 32768
 SURVEY = 0            # the number of a file's tables
 WRONG_KIND, REPEAT = 1, 2           # why a row was dropped
 
@@ -93,6 +93,8 @@ class Engine:
         self.make_call.restype = Made
         self.view_call = library.sotjarn_view
         self.view_call.restype = Tables
+        self.grow_call = library.sotjarn_grow
+        self.grow_call.restype = Tables
 
     def make(self, upload):
         """The rows that are kept of an upload, sorted, both lists of row numbers, and place and code of each row that is dropped."""
@@ -116,6 +118,16 @@ class Engine:
         lengths = (answer.rows_words, answer.pos_words, answer.osp_words)
         seen, seen_pos, seen_osp = (buffer[:length] for buffer, length in zip(lent[::2], lengths))
         return [tuple(seen[at:at + ROW_WORDS]) for at in range(0, len(seen), ROW_WORDS)], seen_pos, seen_osp
+
+    def grow(self, seed, stems, year):
+        """The rows of a wood grown from a seed."""
+        count = 2 * min(stems, MOST_STEMS)
+        lent = list(buffers([0] * ROW_WORDS * count, [0] * count, [0] * count))
+        answer = self.grow_call(*map(ctypes.c_uint32, (seed, stems, year)), *lent)
+        if answer.refused:
+            raise Refused(answer.refused)
+        rows = lent[0][:answer.rows_words]
+        return [tuple(rows[at:at + ROW_WORDS]) for at in range(0, len(rows), ROW_WORDS)]
 
     def open(self, rows, pos, osp, plan):
         """The number that refuses an opening, or 0."""

@@ -1,6 +1,6 @@
 /* The three-stem wood from C: tables made from an upload and the report of what was dropped, a row query in turns of four steps, a best-of
- * list with a threshold, totals merged turn by turn, the total of nothing, two owners on the line, an adviser's view, a state after the next upload, two years, and
- * refused calls. Each buffer comes from malloc with exactly the words it needs, so that a memory checker sees every word beside it.
+ * list with a threshold, totals merged turn by turn, the total of nothing, two owners on the line, an adviser's view, a state after the next upload, two years, a wood grown
+ * from a seed, and refused calls. Each buffer comes from malloc with exactly the words it needs, so that a memory checker sees every word beside it.
  * Compiles as C99 and as C++. Prints what it does; exits with 1 where something is not as the rules say. */
 #include "sotjarn.h"
 #include "sotjarn_words.h"
@@ -512,6 +512,38 @@ static void years(void)
     free_query(&query);
 }
 
+/* A wood of seed 1, which anyone grows again: its first stem, and how many stems stand in n116. Then a year and a buffer that are refused. */
+static void grown(void)
+{
+    enum { STEMS = 1000 };
+    static const uint32_t first[2 * SOTJARN_ROW_WORDS] = {ROW(NAME(1000000), NAME(10), NAME(116)), ROW(NAME(1000000), NAME(12), NUMBER(220))};
+    static const uint32_t in_stand[] = {SOTJARN_HEAD(1), SOTJARN_BRANCH(2), VARIABLE(0), NAME(10), NAME(116), VARIABLE(0), NAME(12), VARIABLE(1),
+                                        SOTJARN_TRUE, SOTJARN_GROUP(0), VARIABLE(1)};
+    struct query query;
+    struct sotjarn_tables answer;
+    struct buffer kept;
+    query.rows = make_buffer(2 * STEMS * SOTJARN_ROW_WORDS);
+    query.pos = make_buffer(2 * STEMS);
+    query.osp = make_buffer(2 * STEMS);
+    query.survey = TODAY;
+    query.plan = copied(in_stand, sizeof in_stand / sizeof *in_stand);
+    answer = sotjarn_grow(1, STEMS, MEASURED, query.rows.words, query.rows.len, query.pos.words, query.pos.len, query.osp.words, query.osp.len);
+    expect(answer.refused == 0 && answer.rows_words == query.rows.len && answer.pos_words == query.pos.len && answer.osp_words == query.osp.len,
+           "buffers of exact lengths are enough");
+    expect(memcmp(query.rows.words, first, sizeof first) == 0, "the first stem of seed 1 stands in n116 and has a diameter of 220");
+    kept = make_buffer(least_output(&query));
+    merge_in_turns(&query, 100, kept, 0);
+    printf("grown, stand n116: ");
+    print_total(kept.words);
+    answer = sotjarn_grow(1, STEMS, NUMBER(MEASURED), query.rows.words, query.rows.len, query.pos.words, query.pos.len, query.osp.words, query.osp.len);
+    printf("a year as a number's word: refused by %" PRIu32 ": %s\n", answer.refused, sotjarn_refusal_text(answer.refused));
+    expect(answer.refused == SOTJARN_REFUSED_STEMS && answer.rows_words == 0, "the year is a plain number");
+    answer = sotjarn_grow(1, STEMS, MEASURED, query.rows.words, query.rows.len, query.pos.words, query.pos.len, query.osp.words, query.osp.len - 1);
+    expect(answer.refused == SOTJARN_REFUSED_GROWN_LENGTHS && answer.osp_words == 0, "a buffer of one word less is refused by 25");
+    free(kept.words);
+    free_query(&query);
+}
+
 /* Calls that are refused by number and change nothing: short buffers, tables out of order, a quantum of 0, merged rows, part of a plan. */
 static void refusals(void)
 {
@@ -552,6 +584,7 @@ int main(void)
     adviser();
     next_upload();
     years();
+    grown();
     refusals();
     return 0;
 }

@@ -1,6 +1,6 @@
-/* Sotjarn's calls for C and C++: making tables from an upload, and those that an adviser may see from tables; opening a query, one turn of
- * it, and merging a turn's list into a kept one; how long an output has to be for a plan; and queries of several owners in a queue: joining,
- * serving and topping up.
+/* Sotjarn's calls for C and C++: making tables from an upload, those that an adviser may see from tables, and a wood grown from a seed; opening
+ * a query, one turn of it, and merging a turn's list into a kept one; how long an output has to be for a plan; and queries of several owners
+ * in a queue: joining, serving and topping up.
  *
  * Link with libsotjarn.a, the proved library, which `rt staticlib sotjarn` writes to target/staticlib/; or with libsotjarn_portable.a,
  * the same source without its proofs, which cargo makes in portable/. `make install` installs either. No call allocates, keeps an
@@ -30,7 +30,7 @@ extern "C" {
 #endif
 
 /* The version of this header, which is that of the libraries made beside it. */
-#define SOTJARN_VERSION "0.12.0"
+#define SOTJARN_VERSION "0.13.0"
 
 /* How a turn ended. */
 enum {
@@ -47,11 +47,14 @@ enum { SOTJARN_STATE_WORDS = 11, SOTJARN_MOST_STEPS = 1000000, SOTJARN_SURVEYS =
  * rows and plans may have, the first being 1. */
 enum { SOTJARN_MOST_ROWS = 65536, SOTJARN_ROW_WORDS = 4, SOTJARN_REPORT_WORDS = 2, SOTJARN_MOST_YEAR = 9999 };
 
+/* The most stems that a grown wood may have: each has two rows. */
+enum { SOTJARN_MOST_STEMS = 32768 };
+
 /* The bytes of stack to provide for sotjarn_make. It keeps what it sorts in 448 KiB of local arrays, whatever the upload's length, and
  * allocates nothing; with its frames, threads of 456 KiB were enough (tests/stack measures it). Some threads have less by default, as
  * musl's with 128 KiB. sotjarn_view keeps a mark and a flag for each row, in 320 KiB, and 328 KiB were
- * enough. The other calls have no such arrays. */
-enum { SOTJARN_MAKE_STACK = 524288, SOTJARN_VIEW_STACK = 393216 };
+ * enough. sotjarn_grow sorts in 128 KiB, and 136 KiB were enough. The other calls have no such arrays. */
+enum { SOTJARN_MAKE_STACK = 524288, SOTJARN_VIEW_STACK = 393216, SOTJARN_GROW_STACK = 196608 };
 
 /* The most entries of a queue, in the line and set aside together: each of its two buffers has so many at least. The words that an entry has
  * for its plan, as many as the longest has, and for its state. */
@@ -146,6 +149,16 @@ struct sotjarn_tables sotjarn_view(const uint32_t *rows, size_t rows_len,
                                    uint32_t *view_rows, size_t view_rows_len,
                                    uint32_t *view_pos, size_t view_pos_len,
                                    uint32_t *view_osp, size_t view_osp_len);
+
+/* Writes a wood made to measure: so many stems of the year `year`, a plain number, drawn from `seed`. Stem j, from 0, is n(1000000 + j), with a
+ * stand by n10, n100 to n119, and a diameter by n12, i20 to i619. The tables pass tests 1 to 4 and 23, and depend on these three numbers alone, so
+ * that anyone grows the same wood again. Of n stems 8 n, 2 n and 2 n words are written, none of no stems; buffers of exactly so many are enough, and
+ * what longer ones have behind those words stays. Refused by 24 (more than SOTJARN_MOST_STEMS stems, or a year outside 1 to SOTJARN_MOST_YEAR), then by
+ * 25 (a buffer is too short). Needs a stack of SOTJARN_GROW_STACK bytes. */
+struct sotjarn_tables sotjarn_grow(uint32_t seed, uint32_t stems, uint32_t year,
+                                   uint32_t *rows, size_t rows_len,
+                                   uint32_t *pos, size_t pos_len,
+                                   uint32_t *osp, size_t osp_len);
 
 /* Writes the start state of a query over the front of `state`. Refused by 1, 2, 23 (a year), 3, 4, 5,
  * 6, 23 (the plan's year), 7, then by 22 (the survey's number is above 28 bits). */

@@ -126,7 +126,9 @@ enum {
     SOTJARN_REFUSED_GRANT = 20,
     SOTJARN_REFUSED_VIEW_LENGTHS = 21,
     SOTJARN_REFUSED_SURVEY = 22,
-    SOTJARN_REFUSED_YEAR = 23
+    SOTJARN_REFUSED_YEAR = 23,
+    SOTJARN_REFUSED_STEMS = 24,
+    SOTJARN_REFUSED_GROWN_LENGTHS = 25
 };
 
 /* What is wrong and what to do, in a line, by the number that a call refused by. */
@@ -181,6 +183,10 @@ static inline const char *sotjarn_refusal_text(uint32_t refused)
         "268,435,456; open the query anew over this survey, and let go what was kept of the other",
         "a row's year is outside 1 to 9,999, or the plan's is above 9,999; give rows a year from 1 to 9,999; ask for "
         "such a year, or for every year with 0",
+        "more than 32,768 stems are asked for, or a year outside 1 to 9,999; ask for at most 32,768 stems, and give the "
+        "year as a plain number from 1 to 9,999",
+        "a buffer is too short for the wood; for n stems lend 8 n words for rows and 2 n for each list: that is exactly "
+        "enough",
     };
     return refused < sizeof texts / sizeof *texts ? texts[refused] : "a number that this header does not know: the library is newer";
 }

@@ -7,9 +7,9 @@
 #include <stdlib.h>
 #include <string.h>
 
-enum { SET = 1, FILL, STEMS, OPEN, TURN, MERGE, MAKE, SHUFFLED, MAKE_STEMS, ENTRIES, JOIN, SERVE, TOP_UP, VIEW, VIEW_ALL };
+enum { SET = 1, FILL, STEMS, OPEN, TURN, MERGE, MAKE, SHUFFLED, MAKE_STEMS, ENTRIES, JOIN, SERVE, TOP_UP, VIEW, VIEW_ALL, GROW };
 enum { ROWS, POS, OSP, PLAN, STATE, THRESHOLD, OUTPUT, KEPT, LIST, UPLOAD, REPORT, LINE, ASIDE, GRANT, SEEN_ROWS, SEEN_POS, SEEN_OSP, BUFFERS };
-enum { GUARDS = 8, NUMBERS = 24, ENTRY_WORDS = sizeof(struct sotjarn_entry) / sizeof(uint32_t) };
+enum { GUARDS = 8, NUMBERS = 26, ENTRY_WORDS = sizeof(struct sotjarn_entry) / sizeof(uint32_t) };
 
 #define GUARD UINT32_C(0xA5A5C3C3)
 /* The year of the stems that are made by a rule. */
@@ -371,6 +371,21 @@ static void run_view_all(void)
         memcpy(buffers[seen[i]].right + GUARDS, words_of(lent[i]), words[i] * sizeof(uint32_t));
 }
 
+/* A wood, grown over the buffers of a view. */
+static void run_grow(void)
+{
+    uint32_t seed = word(), many = word(), year = word(), refused = word(), words[3];
+    struct sotjarn_tables made = sotjarn_grow(seed, many, year, words_of(SEEN_ROWS), buffers[SEEN_ROWS].len, words_of(SEEN_POS), buffers[SEEN_POS].len,
+                                              words_of(SEEN_OSP), buffers[SEEN_OSP].len);
+    for (int i = 0; i < 3; i++)
+        words[i] = word();
+    if (made.refused != refused || made.rows_words != words[0] || made.pos_words != words[1] || made.osp_words != words[2])
+        fail("the answer is another");
+    count(refused);
+    for (int i = 0; i < 3; i++)
+        must_write(seen[i], words[i]);
+}
+
 static void run(void)
 {
     uint32_t instruction = word();
@@ -390,6 +405,7 @@ static void run(void)
     case TOP_UP: run_top_up(); break;
     case VIEW: run_view(); break;
     case VIEW_ALL: run_view_all(); break;
+    case GROW: run_grow(); break;
     default: fail("there is no such instruction");
     }
     compare();

@@ -5,14 +5,14 @@
 import { readFileSync } from 'node:fs';
 
 const [SET, FILL, STEMS, OPEN, TURN, MERGE, MAKE, SHUFFLED, MAKE_STEMS, ENTRIES, JOIN, SERVE, TOP_UP] = [1, 2, 3, 4, 5, 6, 7, 8, 9, 10, 11, 12, 13];
-const [VIEW, VIEW_ALL] = [14, 15];
+const [VIEW, VIEW_ALL, GROW] = [14, 15, 16];
 const [ROWS, POS, OSP, PLAN, STATE, THRESHOLD, OUTPUT, KEPT, LIST, UPLOAD, REPORT] = [0, 1, 2, 3, 4, 5, 6, 7, 8, 9, 10];
 const [LINE, ASIDE, GRANT, SEEN_ROWS, SEEN_POS, SEEN_OSP, BUFFERS] = [11, 12, 13, 14, 15, 16, 17];
 const [PLAN_ROOM, STATE_ROOM] = [256, 11];
 const ENTRY_WORDS = 5 + PLAN_ROOM + STATE_ROOM;
 const GUARDS = 8;
 const GUARD = 0xa5a5c3c3;
-const NUMBERS = 24;
+const NUMBERS = 26;
 const PAGE = 65536;
 
 let calls = 0;
@@ -30,7 +30,8 @@ if (vectorFile === undefined) {
   process.exit(2);
 }
 const { instance } = await WebAssembly.instantiate(readFileSync(libraryFile));
-const { memory, sotjarn_open, sotjarn_turn, sotjarn_merge, sotjarn_make, sotjarn_join, sotjarn_serve, sotjarn_top_up, sotjarn_view } = instance.exports;
+const { memory, sotjarn_open, sotjarn_turn, sotjarn_merge, sotjarn_make, sotjarn_join, sotjarn_serve, sotjarn_top_up } = instance.exports;
+const { sotjarn_view, sotjarn_grow } = instance.exports;
 const answerAt = memory.buffer.byteLength;
 const ROOM = 17 * PAGE;
 memory.grow(1 + (BUFFERS * ROOM) / PAGE);
@@ -233,6 +234,14 @@ function viewAll() {
   });
 }
 
+// A wood, grown over the buffers of a view.
+function growWood() {
+  const [seed, stems, year, refused, ...lengths] = words(7);
+  sotjarn_grow(answerAt, seed, stems, year, ...seen.flatMap(buffer));
+  mustAnswer(answer(4), [refused, ...lengths], refused);
+  seen.forEach((number, i) => mustWrite(number, lengths[i]));
+}
+
 // Every word of every buffer, and beside it, must be right.
 function compare() {
   for (let number = 0; number < BUFFERS; number += 1) {
@@ -246,7 +255,7 @@ function compare() {
 const lending = { [SET]: set, [FILL]: fill, [STEMS]: stems, [SHUFFLED]: shuffled, [ENTRIES]: entries };
 const calling = {
   [OPEN]: open, [TURN]: turn, [MERGE]: merge, [MAKE]: make, [MAKE_STEMS]: makeStems, [JOIN]: join, [SERVE]: serve, [TOP_UP]: topUp,
-  [VIEW]: viewSome, [VIEW_ALL]: viewAll,
+  [VIEW]: viewSome, [VIEW_ALL]: viewAll, [GROW]: growWood,
 };
 
 for (let number = 0; number < BUFFERS; number += 1) lend(number, []);

@@ -140,19 +140,9 @@ fn ask(plan: &Plan, saved: Vec<u32>, service: Sender<Request>) -> Result<Finishe
     }
 }
 
-/// A wood of so many stems, each with its stand (n10) and its diameter (n12).
+/// A wood of so many stems, each with its stand (n10) and its diameter (n12), grown from a seed.
 fn wood(stems: u32) -> TableWords {
-    let stem = |stem: u32| {
-        let (stand, size) = (
-            100 + stem.wrapping_mul(2_654_435_761) % 7,
-            20 + stem.wrapping_mul(40_507) % 600,
-        );
-        [
-            [Name(stem), Name(10), Name(stand)],
-            [Name(stem), Name(12), Number(size as i32)],
-        ]
-    };
-    TableWords::of_year(2026, (0..stems).flat_map(stem)).expect("every value fits in 30 bits")
+    TableWords::grow(1, stems, 2026).expect("so many stems may be grown")
 }
 
 /// Stems with stand and diameter, from a diameter on.

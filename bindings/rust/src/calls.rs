@@ -26,6 +26,12 @@ pub const MAKE_STACK: usize = 524_288;
 /// The bytes of stack that [`view`] may use: it marks each row there.
 pub const VIEW_STACK: usize = 393_216;
 
+/// The most stems of a grown wood, which has two rows for each.
+pub const MOST_STEMS: u32 = 32_768;
+
+/// The bytes of stack that [`grow`] may use: it sorts there.
+pub const GROW_STACK: usize = 196_608;
+
 /// The most entries of a queue, in the line and set aside together; each of its two lists has room for so many.
 pub const MOST_ENTRIES: usize = 32;
 
@@ -72,6 +78,17 @@ pub struct Viewed {
     /// Three for each visible row.
     pub rows_words: usize,
     /// One for each visible row.
+    pub pos_words: usize,
+    /// The same.
+    pub osp_words: usize,
+}
+
+/// What growing a wood answers: the words written over the front of each buffer.
+#[derive(Clone, Copy, Debug, PartialEq, Eq, Hash)]
+pub struct Grown {
+    /// Eight for each stem.
+    pub rows_words: usize,
+    /// Two for each stem.
     pub pos_words: usize,
     /// The same.
     pub osp_words: usize,
@@ -298,6 +315,38 @@ pub fn view(
     let answer = engine::sotjarn_view(tables.rows, tables.pos, tables.osp, grant, membership, rows, pos, osp);
     match answer.refused {
         0 => Ok(Viewed {
+            rows_words: answer.rows,
+            pos_words: answer.pos,
+            osp_words: answer.osp,
+        }),
+        code => Err(refusal(code)),
+    }
+}
+
+/// Writes a wood made to measure over the front of `rows`, `pos` and `osp`: so many stems of a year, drawn from a seed. Stem j, from 0, is
+/// n(1000000 + j), with a stand by n10, n100 to n119, and a diameter by n12, i20 to i619. The tables depend on these three numbers alone, so that
+/// anyone grows the same wood again. Of n stems 8 n, 2 n and 2 n words are written, and buffers of exactly so many are enough. Refused by 24
+/// (more than [`MOST_STEMS`], or a year outside 1 to [`MOST_YEAR`]) and 25. It needs [`GROW_STACK`] bytes of stack.
+/// [`TableWords::grow`](crate::TableWords::grow) has buffers of its own.
+///
+/// ```
+/// use sotjarn::{grow, Grown, Refusal};
+///
+/// let (mut rows, mut pos, mut osp) = ([0; 16], [0; 4], [0; 4]);
+/// let grown = grow(1, 2, 2026, &mut rows, &mut pos, &mut osp)?;
+/// assert_eq!(grown, Grown { rows_words: 16, pos_words: 4, osp_words: 4 });
+/// assert_eq!(rows[..8], [0x4000_07EA, 1_000_000, 10, 116, 0x4000_07EA, 1_000_000, 12, 0x4000_00DC]); // i220
+/// assert_eq!(rows[8..], [0x4000_07EA, 1_000_001, 10, 106, 0x4000_07EA, 1_000_001, 12, 0x4000_0267]); // i615
+/// assert_eq!((pos, osp), ([2, 0, 1, 3], [2, 0, 1, 3]));
+/// assert_eq!(grow(1, 32_769, 2026, &mut rows, &mut pos, &mut osp), Err(Refusal::Stems));
+/// assert_eq!(grow(1, 2, 10_000, &mut rows, &mut pos, &mut osp), Err(Refusal::Stems));
+/// assert_eq!(grow(1, 2, 2026, &mut rows[1..], &mut pos, &mut osp), Err(Refusal::GrownLengths));
+/// # Ok::<(), Refusal>(())
+/// ```
+pub fn grow(seed: u32, stems: u32, year: u32, rows: &mut [u32], pos: &mut [u32], osp: &mut [u32]) -> Result<Grown, Refusal> {
+    let answer = engine::sotjarn_grow(seed, stems, year, rows, pos, osp);
+    match answer.refused {
+        0 => Ok(Grown {
             rows_words: answer.rows,
             pos_words: answer.pos,
             osp_words: answer.osp,

@@ -1,5 +1,5 @@
 //! Sotjarn's calls for Rust: making tables from an upload, opening a query, one turn of it, and merging a turn's list into a kept one;
-//! queries of several owners in a queue; and tables of what an adviser may see.
+//! queries of several owners in a queue; tables of what an adviser may see; and woods grown from a seed, for trials.
 //!
 //! Sotjarn answers queries over shared tables, a turn of counted steps at a time. A turn may end after any row, and the answer does
 //! not depend on where the cuts fall. Whatever words come in, a call ends, touches nothing outside what it was lent, and refuses
@@ -11,9 +11,10 @@
 //!
 //! | you have | use |
 //! |---|---|
-//! | words in buffers of your own | [`make`], [`open`], [`turn`], [`merge`], [`least_output`]; [`join`], [`serve`], [`top_up`]; [`view`] |
+//! | words in buffers of your own | [`make`], [`open`], [`turn`], [`merge`], [`least_output`]; [`join`], [`serve`], [`top_up`]; [`view`]; [`grow`] |
 //! | rows in any order | [`TableWords::make`], [`TableWords::from_rows`]; [`Dropped`] |
 //! | an adviser's grant | [`TableWords::view`] |
+//! | a seed, for trials | [`TableWords::grow`] |
 //! | tables and their number | [`Survey`]: [`TableWords::survey`], [`Tables::survey`] |
 //! | a query to write | [`Plan::builder`] |
 //! | a query to run | [`Query`] and its [`turns`](Query::turns), [`Kept`] |
@@ -78,8 +79,8 @@ mod uploads;
 use sotjarn_portable as engine;
 
 pub use calls::{
-    join, least_output, make, merge, open, serve, top_up, turn, view, Made, Queued, Served, TurnEnding, Turned, Viewed, MAKE_STACK,
-    MOST_ENTRIES, MOST_ROWS, MOST_STEPS, MOST_YEAR, STATE_WORDS, SURVEYS, VIEW_STACK,
+    grow, join, least_output, make, merge, open, serve, top_up, turn, view, Grown, Made, Queued, Served, TurnEnding, Turned,
+    Viewed, GROW_STACK, MAKE_STACK, MOST_ENTRIES, MOST_ROWS, MOST_STEMS, MOST_STEPS, MOST_YEAR, STATE_WORDS, SURVEYS, VIEW_STACK,
 };
 pub use engine::Entry;
 pub use lists::{read_groups, read_rows, Group, Kept, List, Row, Unreadable};

@@ -168,6 +168,18 @@ mod foreign {
             view_osp_len: usize,
         ) -> TablesNumbers;
 
+        pub fn sotjarn_grow(
+            seed: u32,
+            stems: u32,
+            year: u32,
+            rows: *mut u32,
+            rows_len: usize,
+            pos: *mut u32,
+            pos_len: usize,
+            osp: *mut u32,
+            osp_len: usize,
+        ) -> TablesNumbers;
+
         pub fn sotjarn_join(
             rows: *const u32,
             rows_len: usize,
@@ -350,6 +362,23 @@ pub fn sotjarn_view(
             view_pos.len(),
             view_osp.as_mut_ptr(),
             view_osp.len(),
+        )
+    }
+}
+
+pub fn sotjarn_grow(seed: u32, stems: u32, year: u32, rows: &mut [u32], pos: &mut [u32], osp: &mut [u32]) -> TablesNumbers {
+    // Sound: each address and length is a slice's; all three are written, and are `&mut` slices, so they do not overlap (see the module).
+    unsafe {
+        foreign::sotjarn_grow(
+            seed,
+            stems,
+            year,
+            rows.as_mut_ptr(),
+            rows.len(),
+            pos.as_mut_ptr(),
+            pos.len(),
+            osp.as_mut_ptr(),
+            osp.len(),
         )
     }
 }

@@ -10,7 +10,7 @@ use std::fmt;
 ///
 /// assert_eq!(Refusal::Quantum.code(), 8);
 /// assert_eq!(Refusal::from_code(8), Some(Refusal::Quantum));
-/// assert_eq!(Refusal::from_code(24), None);
+/// assert_eq!(Refusal::from_code(26), None);
 /// assert_eq!(Refusal::Quantum.fault(), "the quantum is outside its range");
 /// assert_eq!(Refusal::Quantum.remedy(), "give 1 to 1,000,000 steps");
 /// assert_eq!(Refusal::Quantum.to_string(), "refused by 8: the quantum is outside its range; give 1 to 1,000,000 steps");
@@ -65,10 +65,14 @@ pub enum Refusal {
     Survey = 22,
     /// A row's year outside 1 to 9,999, after 2; or a plan's above 9,999, after 6.
     Year = 23,
+    /// Growing a wood: more than 32,768 stems, or a year outside 1 to 9,999.
+    Stems = 24,
+    /// Growing a wood: a buffer is too short for it.
+    GrownLengths = 25,
 }
 
 /// All of them, by their numbers from 1 on.
-const ALL: [Refusal; 23] = [
+const ALL: [Refusal; 25] = [
     Refusal::TableLengths,
     Refusal::FieldKind,
     Refusal::RowOrder,
@@ -92,6 +96,8 @@ const ALL: [Refusal; 23] = [
     Refusal::ViewLengths,
     Refusal::Survey,
     Refusal::Year,
+    Refusal::Stems,
+    Refusal::GrownLengths,
 ];
 
 impl Refusal {
@@ -136,6 +142,8 @@ impl Refusal {
             Refusal::ViewLengths => "a buffer is too short for the visible rows",
             Refusal::Survey => "the survey's number is above 28 bits, or the state is of another survey",
             Refusal::Year => "a row's year is outside 1 to 9,999, or the plan's is above 9,999",
+            Refusal::Stems => "more than 32,768 stems are asked for, or a year outside 1 to 9,999",
+            Refusal::GrownLengths => "a buffer is too short for the wood",
         }
     }
 
@@ -187,6 +195,8 @@ impl Refusal {
                 "number the surveys below 268,435,456; open the query anew over this survey, and let go what was kept of the other"
             }
             Refusal::Year => "give rows a year from 1 to 9,999; ask for such a year, or for every year with 0",
+            Refusal::Stems => "ask for at most 32,768 stems, and give the year as a plain number from 1 to 9,999",
+            Refusal::GrownLengths => "for n stems lend 8 n words for rows and 2 n for each list: that is exactly enough",
         }
     }
 }

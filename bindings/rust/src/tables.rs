@@ -3,7 +3,7 @@
 use std::error::Error;
 use std::fmt;
 
-use crate::calls::{make, view, MOST_ROWS};
+use crate::calls::{grow, make, view, MOST_ROWS, MOST_STEMS};
 use crate::refusals::Refusal;
 use crate::terms::{Term, TooLarge};
 use crate::uploads::{read_report, Dropped, Reason};
@@ -205,6 +205,34 @@ impl TableWords {
         seen.pos.truncate(words.pos_words);
         seen.osp.truncate(words.osp_words);
         Ok(seen)
+    }
+
+    /// The wood of a seed with so many stems in a year, by the engine's call ([`grow`]): the same wood for whoever grows it. Refused by 24.
+    ///
+    /// ```
+    /// use sotjarn::{Refusal, TableWords, Term::Name, Term::Number};
+    ///
+    /// let (first, second) = (Name(1_000_000), Name(1_000_001));
+    /// let rows = [
+    ///     [first, Name(10), Name(116)],
+    ///     [first, Name(12), Number(220)],
+    ///     [second, Name(10), Name(106)],
+    ///     [second, Name(12), Number(615)],
+    /// ];
+    /// assert_eq!(TableWords::grow(1, 2, 2026)?, TableWords::of_year(2026, rows)?);
+    /// assert_eq!(TableWords::grow(1, 0, 2026)?, TableWords::default());
+    /// assert_eq!(TableWords::grow(1, 2, 0), Err(Refusal::Stems));
+    /// # Ok::<(), Box<dyn std::error::Error>>(())
+    /// ```
+    pub fn grow(seed: u32, stems: u32, year: u32) -> Result<TableWords, Refusal> {
+        let count = 2 * stems.min(MOST_STEMS) as usize;
+        let mut grown = TableWords {
+            rows: vec![0; ROW_WORDS * count],
+            pos: vec![0; count],
+            osp: vec![0; count],
+        };
+        grow(seed, stems, year, &mut grown.rows, &mut grown.pos, &mut grown.osp)?;
+        Ok(grown)
     }
 
     /// The tables, to lend to a call.

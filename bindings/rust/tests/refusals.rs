@@ -4,7 +4,7 @@ use std::collections::BTreeSet;
 
 use sotjarn::Term::{Name, Number};
 use sotjarn::{
-    join, make, merge, open, serve, top_up, turn, view, Branch, Entry, Plan, PlanBuilder, Refusal, TableWords, Variable,
+    grow, join, make, merge, open, serve, top_up, turn, view, Branch, Entry, Plan, PlanBuilder, Refusal, TableWords, Variable,
 };
 use sotjarn::{MOST_ENTRIES, NO_ENTRY};
 
@@ -248,6 +248,30 @@ fn each_refusal_of_a_view_has_its_call() {
     assert_eq!(view_refused(|_| (), &[100], 6), None);
 }
 
+/// What refuses growing so many stems in a year, with buffers of so many words.
+fn grow_refused(stems: u32, year: u32, [rows, pos, osp]: [usize; 3]) -> Option<u32> {
+    let (mut rows, mut pos, mut osp) = (vec![0; rows], vec![0; pos], vec![0; osp]);
+    grow(7, stems, year, &mut rows, &mut pos, &mut osp).err().map(Refusal::code)
+}
+
+#[test]
+fn each_refusal_of_growing_has_its_call() {
+    let most = [262_144, 65_536, 65_536];
+    assert_eq!(grow_refused(32_768, 1, most), None);
+    assert_eq!(grow_refused(32_768, 9_999, most), None);
+    assert_eq!(grow_refused(32_769, 2026, [262_152, 65_538, 65_538]), Some(24));
+    assert_eq!(grow_refused(u32::MAX, 2026, most), Some(24));
+    assert_eq!(grow_refused(2, 0, [16, 4, 4]), Some(24));
+    assert_eq!(grow_refused(2, 10_000, [16, 4, 4]), Some(24));
+    assert_eq!(grow_refused(2, 0x4000_07EA, [16, 4, 4]), Some(24)); // the year is no word
+    assert_eq!(grow_refused(2, 0, [0, 0, 0]), Some(24));
+    assert_eq!(grow_refused(2, 2026, [16, 4, 4]), None);
+    assert_eq!(grow_refused(2, 2026, [15, 4, 4]), Some(25));
+    assert_eq!(grow_refused(2, 2026, [16, 3, 4]), Some(25));
+    assert_eq!(grow_refused(2, 2026, [16, 4, 3]), Some(25));
+    assert_eq!(grow_refused(0, 2026, [0, 0, 0]), None);
+}
+
 #[test]
 fn each_refusal_has_its_call() {
     assert_eq!(refused(|_| ()), None);
@@ -313,15 +337,15 @@ fn a_record_of_no_rows_passes_only_without_keys() {
 
 #[test]
 fn each_refusal_says_its_number_and_something_of_its_own() {
-    let said: BTreeSet<String> = (1..=23)
+    let said: BTreeSet<String> = (1..=25)
         .filter_map(Refusal::from_code)
         .map(|refusal| refusal.to_string())
         .collect();
-    assert_eq!(said.len(), 23);
-    for code in 1..=23 {
+    assert_eq!(said.len(), 25);
+    for code in 1..=25 {
         let refusal = Refusal::from_code(code).expect("the rules have it");
         assert_eq!(refusal.code(), code);
         assert!(refusal.to_string().starts_with(&format!("refused by {code}: ")));
     }
-    assert_eq!((Refusal::from_code(0), Refusal::from_code(24)), (None, None));
+    assert_eq!((Refusal::from_code(0), Refusal::from_code(26)), (None, None));
 }

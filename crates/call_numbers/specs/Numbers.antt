@@ -10,6 +10,8 @@ use Rattle.uploads.specs.declared.Made.{Made}
 use Rattle.uploads.specs.Making.{madeRefusal, madeWords}
 use Rattle.views.specs.declared.Viewed.{Viewed}
 use Rattle.views.specs.Viewing.{viewRefusal, viewWords}
+use Rattle.woods.specs.declared.Grown.{Grown}
+use Rattle.woods.specs.Growing.{grownRefusal, grownWords}
 use Rattle.queues.specs.declared.Queued.{Queued}
 use Rattle.queues.specs.declared.Service.{Service}
 use Rattle.queues.specs.Refusals.{refusalBy, lineBy, asideBy}
@@ -56,6 +58,9 @@ madeNumbers m =
 
 abbrev pub viewedNumbers : Viewed → TablesNumbers
 viewedNumbers v = record { refused = viewRefusal v; rows = viewWords v .rows; pos = viewWords v .pos; osp = viewWords v .osp }
+
+abbrev pub grownNumbers : Grown → TablesNumbers
+grownNumbers g = record { refused = grownRefusal g; rows = grownWords g .rows; pos = grownWords g .pos; osp = grownWords g .osp }
 
 abbrev pub queuedNumbers : Queued → QueuedNumbers
 queuedNumbers q = record { refused = refusalBy q; waiting = lineBy q; resting = asideBy q }

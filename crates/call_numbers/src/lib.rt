@@ -5,10 +5,11 @@ use turns::TurnEnding;
 use turns::Turned;
 use uploads::Made;
 use views::Viewed;
+use woods::Grown;
 use words::Written;
 ghost use mathlib.Core.Path.{_≡_};
 ghost use Rattle.call_numbers.specs.Numbers.{writtenNumbers, endingNumbers, turnedNumbers, madeNumbers, queuedNumbers, serviceNumbers};
-ghost use Rattle.call_numbers.specs.Numbers.{viewedNumbers};
+ghost use Rattle.call_numbers.specs.Numbers.{viewedNumbers, grownNumbers};
 
 // What a call that writes to one buffer answers, or that says how long one has to be: the number of the test that refused it, or 0; and
 // the words written or asked for.
@@ -182,6 +183,26 @@ pub fn viewed_numbers(v: Viewed) -> TablesNumbers
             osp: osp,
         },
         Viewed::Refused(number) => TablesNumbers {
+            refused: number,
+            rows: 0,
+            pos: 0,
+            osp: 0,
+        },
+    }
+}
+
+// The numbers of what growing a wood answers: no words are written by a refused call.
+pub fn grown_numbers(g: Grown) -> TablesNumbers
+    ensures { λ r. ⌜ r ≡ grownNumbers g ⌝ }
+{
+    match g {
+        Grown::Words { rows, pos, osp } => TablesNumbers {
+            refused: 0,
+            rows: rows,
+            pos: pos,
+            osp: osp,
+        },
+        Grown::Refused(number) => TablesNumbers {
             refused: number,
             rows: 0,
             pos: 0,

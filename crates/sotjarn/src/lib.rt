@@ -10,6 +10,7 @@ pub use call_numbers::ServiceNumbers;
 pub use call_numbers::TablesNumbers;
 pub use call_numbers::TurnedNumbers;
 pub use call_numbers::WrittenNumbers;
+use call_numbers::grown_numbers;
 use call_numbers::made_numbers;
 use call_numbers::queued_numbers;
 use call_numbers::service_numbers;
@@ -25,11 +26,13 @@ ghost use Rattle.merges.specs.Merging.{mergeInput, mergeOf};
 ghost use Rattle.list_endings.specs.PlanOutputs.{planOutput};
 ghost use Rattle.uploads.specs.Making.{makeInput, makeOf};
 ghost use Rattle.views.specs.Viewing.{viewInput, viewCallOf};
+ghost use Rattle.woods.specs.Growing.{growInput, growOf};
 ghost use Rattle.queues.specs.Lists.{lentAs};
 ghost use Rattle.queues.specs.Joining.{joinQueueOf};
 ghost use Rattle.queues.specs.Serving.{serveOf};
 ghost use Rattle.queues.specs.ToppingUp.{topUpOf};
 ghost use Rattle.call_numbers.specs.Numbers.{writtenNumbers, turnedNumbers, madeNumbers, queuedNumbers, serviceNumbers, viewedNumbers};
+ghost use Rattle.call_numbers.specs.Numbers.{grownNumbers};
 
 // Writes the start state of a query to the state buffer, or refuses.
 #[no_mangle]
@@ -264,4 +267,25 @@ pub extern "C" fn sotjarn_view(
         view_pos,
         view_osp,
     ))
+}
+
+// Writes the wood of a seed, with so many stems in a year, or refuses.
+#[no_mangle]
+pub extern "C" fn sotjarn_grow(
+    seed: u32,
+    stems: u32,
+    year: u32,
+    rows: &mut [u32],
+    pos: &mut [u32],
+    osp: &mut [u32],
+) -> TablesNumbers
+    ensures answer { λ r. ⌜ r ≡ grownNumbers (growOf (growInput seed stems year (now (rows .entry)) (now (pos .entry)) (now (osp .entry))) .answer) ⌝ }
+    ensures rows { λ _. ⌜ now (rows .exit)
+        ≡ growOf (growInput seed stems year (now (rows .entry)) (now (pos .entry)) (now (osp .entry))) .buffers .rows ⌝ }
+    ensures pos { λ _. ⌜ now (pos .exit)
+        ≡ growOf (growInput seed stems year (now (rows .entry)) (now (pos .entry)) (now (osp .entry))) .buffers .pos ⌝ }
+    ensures osp { λ _. ⌜ now (osp .exit)
+        ≡ growOf (growInput seed stems year (now (rows .entry)) (now (pos .entry)) (now (osp .entry))) .buffers .osp ⌝ }
+{
+    grown_numbers(wood_calls::grow(seed, stems, year, rows, pos, osp))
 }

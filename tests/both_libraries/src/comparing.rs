@@ -5,6 +5,7 @@ use std::ops::Range;
 use std::process::exit;
 
 use crate::evaluation::calls::{Merge, Open, Query, Turn};
+use crate::evaluation::growing::Grow;
 use crate::evaluation::queues::{Join, Serve, TopUp, MOST};
 use crate::evaluation::tables::Tables;
 use crate::evaluation::uploads::Make;
@@ -12,7 +13,7 @@ use crate::evaluation::views::View;
 use crate::evaluation::words::*;
 use crate::histories::{self, Calls};
 use crate::inputs::random::Random;
-use crate::inputs::{calls, damage, plans, queues, uploads, views, woods};
+use crate::inputs::{calls, damage, growing, plans, queues, uploads, views, woods};
 use crate::lending;
 use crate::libraries::{self, Library, Queued, Service, Turned, Viewed, Written};
 
@@ -84,6 +85,12 @@ impl Calls for Both {
     fn view(&mut self, call: &View) -> (Viewed, [Vec<u32>; 3]) {
         let made = self.made(call, lending::view);
         self.note(named(made.answer.refused, "viewed"));
+        (made.answer, [0, 1, 2].map(|at| made.at_exit(at).to_vec()))
+    }
+
+    fn grow(&mut self, call: &Grow) -> (Viewed, [Vec<u32>; 3]) {
+        let made = self.made(call, lending::grow);
+        self.note(named(made.answer.refused, "grown"));
         (made.answer, [0, 1, 2].map(|at| made.at_exit(at).to_vec()))
     }
 
@@ -220,6 +227,28 @@ pub fn viewed(to: &mut impl Calls, random: &mut Random, most: usize) {
     to.view(&views::made_up(random));
 }
 
+/// Woods of at most so many stems: grown, and damaged calls. What a served one writes passes an opening's tests of tables.
+pub fn grown(to: &mut impl Calls, random: &mut Random, most: u32) {
+    let mut call = growing::grow(random, most);
+    let (answer, [rows, pos, osp]) = to.grow(&call);
+    let tables = Tables {
+        rows: rows[..answer.rows_words].to_vec(),
+        pos: pos[..answer.pos_words].to_vec(),
+        osp: osp[..answer.osp_words].to_vec(),
+    };
+    let (opened, _) = to.open(&Open {
+        tables,
+        survey: woods::survey(random),
+        plan: vec![],
+        state: vec![],
+    });
+    assert!(opened.refused == 5, "a grown wood is refused by {}", opened.refused);
+    for _ in 0..random.pick(&[1, 2, 2, 3]) {
+        growing::damage(random, &mut call);
+        to.grow(&call);
+    }
+}
+
 /// Calls of queues of at most so many entries, with up to three things changed in each; some of them are still right.
 pub fn queued(to: &mut impl Calls, random: &mut Random, most: usize) {
     let queries = queues::queries(random, 3);
@@ -316,6 +345,19 @@ fn largest_views(to: &mut impl Calls) {
     }
 }
 
+/// The largest woods that are grown, and one stem more than there may be.
+fn largest_grown(to: &mut impl Calls) {
+    let random = &mut Random::new(65_536);
+    for stems in [32_767, 32_768, 32_769] {
+        let call = growing::lend(random, 1, stems, 2026);
+        let (answer, _) = to.grow(&call);
+        assert!(
+            answer.refused == if stems > 32_768 { 24 } else { 0 },
+            "32,768 stems are grown"
+        );
+    }
+}
+
 /// Every number of a refusal and every ending must come so often in a run of the usual size.
 const OFTEN: u64 = 100;
 
@@ -338,6 +380,7 @@ pub fn compare(file: &str, seeds: Range<u64>) {
         uploaded(&mut both, &mut Random::new(seed ^ 0x0AD5_0000), 25);
         queued(&mut both, &mut Random::new(seed ^ 0x0E0E_0000), MOST);
         viewed(&mut both, &mut Random::new(seed ^ 0x0ADE_0000), 40);
+        grown(&mut both, &mut Random::new(seed ^ 0x06A0_0000), 40);
     }
     let (apart, histories) = (both.calls, seeds.end - seeds.start);
     for seed in seeds {
@@ -350,6 +393,7 @@ pub fn compare(file: &str, seeds: Range<u64>) {
     largest(&mut both);
     largest_uploads(&mut both);
     largest_views(&mut both);
+    largest_grown(&mut both);
     println!("{:?}", both.came);
     let served = [
         "opened",
@@ -363,8 +407,9 @@ pub fn compare(file: &str, seeds: Range<u64>) {
         "served, spent",
         "topped up",
         "viewed",
+        "grown",
     ];
-    let whats = (1..=21).map(|number| named(number, "")).chain(served.map(String::from));
+    let whats = (1..=25).map(|number| named(number, "")).chain(served.map(String::from));
     let rare: Vec<String> = whats
         .filter(|what| both.came.get(what).copied().unwrap_or(0) < OFTEN)
         .collect();

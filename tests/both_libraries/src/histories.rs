@@ -1,6 +1,7 @@
 //! Whole histories of a query: opened, cut at random, each list merged or left, with repeated and refused calls in between.
 
 use crate::evaluation::calls::{Merge, Open, Query, Turn};
+use crate::evaluation::growing::Grow;
 use crate::evaluation::plan::Ending;
 use crate::evaluation::queues::{Join, Serve, TopUp};
 use crate::evaluation::uploads::Make;
@@ -16,6 +17,7 @@ pub trait Calls {
     fn merge(&mut self, call: &Merge) -> (Written, Vec<u32>);
     fn make(&mut self, call: &Make) -> Made;
     fn view(&mut self, call: &View) -> (Viewed, [Vec<u32>; 3]);
+    fn grow(&mut self, call: &Grow) -> (Viewed, [Vec<u32>; 3]);
     fn join(&mut self, call: &Join) -> Queued;
     fn serve(&mut self, call: &Serve) -> Service;
     fn top_up(&mut self, call: &TopUp) -> Queued;

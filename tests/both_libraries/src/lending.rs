@@ -1,6 +1,7 @@
 //! Calls made of a library over copies of their buffers, with guard words around each: what they answer, and every word at exit.
 
 use crate::evaluation::calls::{Merge, Open, Turn};
+use crate::evaluation::growing::Grow;
 use crate::evaluation::queues::{Join, Lists, Serve, TopUp, Waiting};
 use crate::evaluation::uploads::Make;
 use crate::evaluation::views::View;
@@ -129,6 +130,19 @@ pub fn view(library: &Library, call: &View) -> Made<Viewed> {
     let buffers = [seen.words_mut(), seen_pos.words_mut(), seen_osp.words_mut()];
     let answer = library.view(&lent, grant.words(), call.membership, buffers);
     Made::new(answer, vec![seen, seen_pos, seen_osp, rows, pos, osp, grant])
+}
+
+pub fn grow(library: &Library, call: &Grow) -> Made<Viewed> {
+    let [mut rows, mut pos, mut osp] = [&call.rows, &call.pos, &call.osp].map(|words| Copied::new(words));
+    let answer = library.grow(
+        call.seed,
+        call.stems,
+        call.year,
+        rows.words_mut(),
+        pos.words_mut(),
+        osp.words_mut(),
+    );
+    Made::new(answer, vec![rows, pos, osp])
 }
 
 /// An entry as C has it, and as the evaluation has it.

@@ -30,6 +30,7 @@ pub struct Made {
     pub report_words: usize,
 }
 
+/// What writing a view and growing a wood answer.
 #[derive(Clone, Copy, Debug, PartialEq)]
 #[repr(C)]
 pub struct Viewed {
@@ -117,6 +118,7 @@ type ViewCall = unsafe extern "C" fn(
     Write,
     usize,
 ) -> Viewed;
+type GrowCall = unsafe extern "C" fn(u32, u32, u32, Write, usize, Write, usize, Write, usize) -> Viewed;
 type JoinCall = unsafe extern "C" fn(
     Read,
     usize,
@@ -214,6 +216,7 @@ extern "C" {
         _: Write,
         _: usize,
     ) -> Viewed;
+    fn sotjarn_grow(_: u32, _: u32, _: u32, _: Write, _: usize, _: Write, _: usize, _: Write, _: usize) -> Viewed;
     fn sotjarn_join(
         _: Read,
         _: usize,
@@ -275,6 +278,7 @@ pub struct Library {
     least: LeastCall,
     make: MakeCall,
     view: ViewCall,
+    grow: GrowCall,
     join: JoinCall,
     serve: ServeCall,
     top_up: TopUpCall,
@@ -306,6 +310,7 @@ impl Library {
             least: sotjarn_least_output,
             make: sotjarn_make,
             view: sotjarn_view,
+            grow: sotjarn_grow,
             join: sotjarn_join,
             serve: sotjarn_serve,
             top_up: sotjarn_top_up,
@@ -334,6 +339,7 @@ impl Library {
                 least: transmute_copy(&symbol(c"sotjarn_least_output")),
                 make: transmute_copy(&symbol(c"sotjarn_make")),
                 view: transmute_copy(&symbol(c"sotjarn_view")),
+                grow: transmute_copy(&symbol(c"sotjarn_grow")),
                 join: transmute_copy(&symbol(c"sotjarn_join")),
                 serve: transmute_copy(&symbol(c"sotjarn_serve")),
                 top_up: transmute_copy(&symbol(c"sotjarn_top_up")),
@@ -459,6 +465,23 @@ impl Library {
                 view_pos.len(),
                 view_osp.as_mut_ptr(),
                 view_osp.len(),
+            )
+        }
+    }
+
+    pub fn grow(&self, seed: u32, stems: u32, year: u32, rows: &mut [u32], pos: &mut [u32], osp: &mut [u32]) -> Viewed {
+        // Sound: each address and length is a slice's, and the written buffers are `&mut` slices.
+        unsafe {
+            (self.grow)(
+                seed,
+                stems,
+                year,
+                rows.as_mut_ptr(),
+                rows.len(),
+                pos.as_mut_ptr(),
+                pos.len(),
+                osp.as_mut_ptr(),
+                osp.len(),
             )
         }
     }

@@ -7,7 +7,8 @@ use std::process::exit;
 
 use crate::evaluation::calls::Query;
 use crate::evaluation::plan::Ending;
-use crate::inputs::queues::{queries, STEPS};
+use crate::evaluation::tables::Tables;
+use crate::inputs::queues::{queries, queries_over, STEPS};
 use crate::inputs::random::Random;
 use crate::libraries::{Entry, Lent, LentLists, Library, Queued, Service};
 
@@ -289,9 +290,24 @@ impl Soak<'_> {
     }
 }
 
-/// One wood: so many calls.
-fn soak_wood(library: &Library, seen: &mut Seen, random: &mut Random, calls: u64) {
-    let queries = queries(random, PLANS);
+/// A wood of a few stems, grown by the library.
+fn grown(library: &Library, random: &mut Random) -> Tables {
+    let many = random.between(1, 30);
+    let (mut rows, mut pos, mut osp) = (vec![0; 8 * many], vec![0; 2 * many], vec![0; 2 * many]);
+    let answer = library.grow(random.word(), many as u32, 2026, &mut rows, &mut pos, &mut osp);
+    expect(answer.refused == 0 && answer.rows_words == rows.len(), "a wood is grown");
+    Tables { rows, pos, osp }
+}
+
+/// One wood: so many calls. Every other wood is grown by the library's call; the rest have rows of any kind and of several years.
+fn soak_wood(library: &Library, seen: &mut Seen, random: &mut Random, grow: bool, calls: u64) {
+    let queries = match grow {
+        true => {
+            let tables = grown(library, random);
+            queries_over(random, tables, PLANS)
+        }
+        false => queries(random, PLANS),
+    };
     let alone: Vec<_> = queries.iter().map(|query| alone(library, query)).collect();
     expect(
         alone.iter().all(|(_, steps)| *steps < STEPS as u64),
@@ -331,7 +347,7 @@ pub fn soak(file: Option<&str>, calls: u64, first: u64) {
     let mut seed = first;
     while seen.calls < calls {
         let many = CALLS_A_WOOD.min(calls - seen.calls);
-        soak_wood(&library, &mut seen, &mut Random::new(seed ^ 0x50A6_0000), many);
+        soak_wood(&library, &mut seen, &mut Random::new(seed ^ 0x50A6_0000), seed % 2 == 0, many);
         seed += 1;
     }
     println!("{:?}", seen.came);

@@ -2,8 +2,9 @@
 
 use std::fs;
 
-use crate::comparing::{damaged, made_up, queued, uploaded, viewed};
+use crate::comparing::{damaged, grown, made_up, queued, uploaded, viewed};
 use crate::evaluation::calls::{Merge, Open, Query, Turn};
+use crate::evaluation::growing::Grow;
 use crate::evaluation::plan::{Branch, Condition, Ending, Plan};
 use crate::evaluation::queues::{Join, Lists, Serve, TopUp, Waiting, PLAN_ROOM, STATE_ROOM};
 use crate::evaluation::tables::Tables;
@@ -40,6 +41,7 @@ const SERVE: u32 = 12;
 const TOP_UP: u32 = 13;
 const VIEW: u32 = 14;
 const VIEW_ALL: u32 = 15;
+const GROW: u32 = 16;
 
 /// How many small uploads there are, and the most rows of one.
 const UPLOADS: u64 = 60;
@@ -48,6 +50,10 @@ const UPLOADED: usize = 14;
 /// How many small woods are viewed, and the most rows of one.
 const VIEWS: u64 = 60;
 const VIEWED: usize = 12;
+
+/// How many small woods are grown, and the most stems of one.
+const GROWN: u64 = 40;
+const GROWN_STEMS: u32 = 12;
 
 /// How many small queues there are, and the most entries of one; and how many as large as they may be.
 const QUEUES: u64 = 45;
@@ -82,7 +88,7 @@ const BUFFERS: usize = 17;
 const LINE: usize = 11;
 const ASIDE: usize = 12;
 
-/// The buffers that a view is written to.
+/// The buffers that a view and a grown wood are written to.
 const SEEN: [Name; 3] = [Name::SeenRows, Name::SeenPos, Name::SeenOsp];
 
 /// An entry of zeros.
@@ -460,6 +466,33 @@ impl Calls for Vectors {
         (made.answer, [0, 1, 2].map(|at| made.at_exit(at).to_vec()))
     }
 
+    fn grow(&mut self, call: &Grow) -> (Viewed, [Vec<u32>; 3]) {
+        let call = Grow {
+            rows: filled(call.rows.len()),
+            pos: filled(call.pos.len()),
+            osp: filled(call.osp.len()),
+            ..call.clone()
+        };
+        let made = lending::grow(&self.proved, &call);
+        let Viewed {
+            refused,
+            rows_words,
+            pos_words,
+            osp_words,
+        } = made.answer;
+        for (buffer, words) in SEEN.into_iter().zip([&call.rows, &call.pos, &call.osp]) {
+            self.lend(buffer, words);
+        }
+        let lengths = [rows_words, pos_words, osp_words];
+        self.words.extend([GROW, call.seed, call.stems, call.year, refused]);
+        self.words.extend(lengths.map(|words| words as u32));
+        for (at, buffer) in SEEN.into_iter().enumerate() {
+            self.written(buffer, made.at_exit(at), lengths[at]);
+        }
+        self.calls += 1;
+        (made.answer, [0, 1, 2].map(|at| made.at_exit(at).to_vec()))
+    }
+
     fn join(&mut self, call: &Join) -> Queued {
         let call = Join {
             lists: plain(&call.lists),
@@ -608,6 +641,29 @@ fn views(to: &mut Vectors) {
     }
 }
 
+/// Grown woods: small ones as they come and damaged; a larger one; and the limits, by what refuses without room.
+fn woods(to: &mut Vectors) {
+    for seed in 0..GROWN {
+        grown(to, &mut Random::new(seed), GROWN_STEMS);
+    }
+    for (stems, year, many) in [
+        (500, 2026, 500),
+        (32_768, 9_999, 0),
+        (32_769, 9_999, 0),
+        (32_768, 0, 0),
+        (u32::MAX, 1, 0),
+    ] {
+        to.grow(&Grow {
+            seed: 1,
+            stems,
+            year,
+            rows: filled(8 * many),
+            pos: filled(2 * many),
+            osp: filled(2 * many),
+        });
+    }
+}
+
 /// The pairs of stems of one stand, counted.
 fn pairs() -> Plan {
     let patterns = vec![[variable(0), name(10), variable(1)], [variable(2), name(10), variable(1)]];
@@ -658,6 +714,7 @@ pub fn write(file: &str) {
     uploads(&mut made);
     queues(&mut made);
     views(&mut made);
+    woods(&mut made);
     long(&mut made);
     let bytes: Vec<u8> = made.words.iter().flat_map(|word| word.to_le_bytes()).collect();
     fs::write(file, &bytes).expect("the file is written");

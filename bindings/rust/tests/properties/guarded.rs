@@ -4,6 +4,7 @@ use std::cell::Cell;
 use std::hint::black_box;
 
 use crate::evaluation::calls::{Answer, How, Merge, Open, Turn};
+use crate::evaluation::growing::{self, Grow};
 use crate::evaluation::queues::{Counts, Join, Lists, Serve, Service, TopUp, Waiting};
 use crate::evaluation::uploads::{Make, Written};
 use crate::evaluation::views::{self, View};
@@ -167,6 +168,27 @@ pub fn view(call: &View) -> (Result<views::Written, u32>, View) {
         ..call.clone()
     };
     let answer = answer.map(|viewed| (viewed.rows_words, viewed.pos_words, viewed.osp_words));
+    (answer.map_err(number), at_exit)
+}
+
+pub fn grow(call: &Grow) -> (Result<growing::Written, u32>, Grow) {
+    let (mut rows, mut pos) = (Guarded::new("rows", &call.rows), Guarded::new("pos", &call.pos));
+    let mut osp = Guarded::new("osp", &call.osp);
+    let answer = sotjarn::grow(
+        call.seed,
+        call.stems,
+        call.year,
+        rows.lent_mut(),
+        pos.lent_mut(),
+        osp.lent_mut(),
+    );
+    let at_exit = Grow {
+        rows: rows.at_exit(),
+        pos: pos.at_exit(),
+        osp: osp.at_exit(),
+        ..call.clone()
+    };
+    let answer = answer.map(|grown| (grown.rows_words, grown.pos_words, grown.osp_words));
     (answer.map_err(number), at_exit)
 }
 

@@ -6,6 +6,7 @@
 mod checking;
 mod client;
 mod evaluation;
+mod growing;
 mod guarded;
 mod inputs;
 mod long;

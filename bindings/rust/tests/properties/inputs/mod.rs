@@ -1,7 +1,8 @@
-//! Random inputs: woods, uploads, plans, queues and views, calls of them, and damage.
+//! Random inputs: woods, uploads, plans, queues, views and woods to be grown, calls of them, and damage.
 
 pub mod calls;
 pub mod damage;
+pub mod growing;
 pub mod plans;
 pub mod queues;
 pub mod random;

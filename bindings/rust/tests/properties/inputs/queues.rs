@@ -4,6 +4,7 @@ use super::random::Random;
 use super::{calls, plans, woods};
 use crate::evaluation::calls::{self as evaluation, Query, Turn};
 use crate::evaluation::queues::{turn_of, Join, Lists, Serve, TopUp, Waiting, MOST, PLAN_ROOM, STATE_ROOM};
+use crate::evaluation::tables::Tables;
 
 /// The most steps of an owner's run.
 pub const STEPS: usize = 1_500;
@@ -11,7 +12,13 @@ pub const STEPS: usize = 1_500;
 /// Queries over one wood, under one number, so many.
 pub fn queries(random: &mut Random, many: usize) -> Vec<Query> {
     let most_rows = random.pick(&[0, 3, 12, 25, 25, 60]);
-    let (tables, deliveries) = (woods::wood(random, most_rows), random.pick(&[0, 2, 6]));
+    let tables = woods::wood(random, most_rows);
+    queries_over(random, tables, many)
+}
+
+/// Queries over these tables.
+pub fn queries_over(random: &mut Random, tables: Tables, many: usize) -> Vec<Query> {
+    let deliveries = random.pick(&[0, 2, 6]);
     let (survey, mut made) = (woods::survey(random), Vec::new());
     while made.len() < many {
         let words = plans::plan(random, &tables).words();

@@ -1,6 +1,7 @@
 //! Random tables.
 
 use super::random::Random;
+use crate::evaluation::growing;
 use crate::evaluation::tables::{Row, Tables};
 use crate::evaluation::words::*;
 
@@ -62,16 +63,7 @@ pub fn wood(random: &mut Random, rows: usize) -> Tables {
     Tables::of((0..rows).map(|_| row(random)).collect())
 }
 
-/// A wood of stems as the three-stem wood has them: a stand (n10) and a diameter (n12) each.
+/// A wood of stems as the three-stem wood has them, a stand (n10) and a diameter (n12) each: the one that is grown from a seed.
 pub fn stems(random: &mut Random, many: u32) -> Tables {
-    let stand = |random: &mut Random, stem| [number(2026), name(1_000_000 + stem), name(10), name(100 + random.small(20))];
-    let size = |random: &mut Random, stem| {
-        [
-            number(2026),
-            name(1_000_000 + stem),
-            name(12),
-            number(20 + random.small(600) as i32),
-        ]
-    };
-    Tables::of((0..many).flat_map(|stem| [stand(random, stem), size(random, stem)]).collect())
+    growing::wood(random.word(), many, 2026)
 }

@@ -1,0 +1,79 @@
+// Growing a wood: the call.
+use tables::COLUMNS;
+use tables::MOST_ROWS;
+use wood_tables::write_tables;
+use woods::Grown;
+use woods::MOST_STEMS;
+use woods::STEM_ROWS;
+use words::MOST_YEAR;
+ghost use mathlib.Core.Path.{_≡_};
+ghost use Prim.Native.Nat.{_≤_};
+ghost use Rattle.tables.specs.Tables.{mostRows};
+ghost use Rattle.woods.specs.Growing.{growInput, buffersOf, askedRight, growOf};
+ghost use Rattle.woods.specs.Refusals.{GrowAnswers};
+ghost use Rattle.wood_calls.specs.Room.{roomFor};
+
+// The tests of growing a wood, by their numbers.
+pub const ASKED: u32 = 24;
+
+pub const ROOM: u32 = 25;
+
+// The places that a sort works in: half of the most rows.
+const HALF: usize = MOST_ROWS / 2;
+
+// Whether there may be so many stems in such a year.
+fn asked_right(stems: u32, year: u32) -> bool
+    ensures { λ r. ⌜ r ≡ askedRight stems year ⌝ }
+{
+    if MOST_STEMS < stems {
+        return false;
+    }
+    if year < 1 {
+        return false;
+    }
+    year <= MOST_YEAR
+}
+
+// Whether buffers of these lengths have room for the rows and for both lists.
+fn has_room(count: usize, rows: usize, pos: usize, osp: usize) -> bool
+    requires { ⌜ count ≤ mostRows ⌝ }
+    ensures { λ r. ⌜ r ≡ roomFor count rows pos osp ⌝ }
+{
+    if rows < count * COLUMNS {
+        return false;
+    }
+    if pos < count {
+        return false;
+    }
+    count <= osp
+}
+
+// Writes the wood of a seed, with so many stems in a year. It is refused by the number of the first test that fails, and then nothing is
+// written.
+pub fn grow(
+    seed: u32,
+    stems: u32,
+    year: u32,
+    rows: &mut [u32],
+    pos: &mut [u32],
+    osp: &mut [u32],
+) -> Grown
+    ensures { λ r. ⌜ record { answer = r; buffers = buffersOf (now (rows .exit)) (now (pos .exit)) (now (osp .exit)) }
+        ≡ growOf (growInput seed stems year (now (rows .entry)) (now (pos .entry)) (now (osp .entry))) ⌝ }
+    ensures number { λ r. ⌜ GrowAnswers (growInput seed stems year (now (rows .entry)) (now (pos .entry)) (now (osp .entry))) r ⌝ }
+{
+    if !asked_right(stems, year) {
+        return Grown::Refused(ASKED);
+    }
+    let count = words::wide(stems) * STEM_ROWS;
+    if !has_room(count, rows.len(), pos.len(), osp.len()) {
+        return Grown::Refused(ROOM);
+    }
+    let mut spare = [0u32; HALF];
+    let end = write_tables(seed, stems, year, count, rows, pos, osp, &mut spare);
+    Grown::Words {
+        rows: end,
+        pos: count,
+        osp: count,
+    }
+}

@@ -1,0 +1,5 @@
+pub mod Woods
+pub mod Growing
+pub mod Refusals
+pub mod Computing
+pub mod Cases
