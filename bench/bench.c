@@ -153,6 +153,26 @@ static struct query top = {
 static const char *top_early =
     "select a.s, a.o, b.o from t a join t b on b.y = a.y and b.s = a.s where a.y = 1073743850 and a.p = 10 and b.p = 12 order by b.o desc limit 10";
 
+/* the diameter's pattern first: its places ascend by diameter, so that ten of the least keep out all that follow, and of the greatest none */
+#define BY_DIAMETER W(1, 1), W(2, 2), V(0), N(12), V(2), V(0), N(10), V(1)
+
+static struct query least = {
+    "least 10 by diameter",
+    "select a.s, a.o, b.o from t a join t b on b.y = a.y and b.s = a.s where a.y = 1073743850 and a.p = 10 and b.p = 12 order by +b.o, b.s limit 10",
+    {BY_DIAMETER, W(3, 0), W(9, 10), W(8, 3), V(0), V(1), V(2), W(10, 2), W(10, 0)}, 16};
+
+static struct query greatest = {
+    "greatest 10 by diameter",
+    "select a.s, a.o, b.o from t a join t b on b.y = a.y and b.s = a.s where a.y = 1073743850 and a.p = 10 and b.p = 12 order by +b.o desc, b.s limit 10",
+    {BY_DIAMETER, W(3, 0), W(9, 10), W(8, 3), V(0), V(1), V(2), W(11, 2), W(10, 0)}, 16};
+
+/* the stand's pattern first, and its stems in their order: what is pruned is only the third pattern */
+static struct query third = {
+    "10 by diameter, three patterns",
+    "select a.s, a.o, b.o from t a join t b on b.y = a.y and b.s = a.s join t c on c.y = a.y and c.s = a.s and c.o = b.o where a.y = 1073743850 and a.p = 10 "
+    "and b.p = 12 and c.p = 12 order by +b.o desc, b.s limit 10",
+    {W(1, 1), W(2, 3), V(0), N(10), V(1), V(0), N(12), V(2), V(0), N(12), V(2), W(3, 0), W(9, 10), W(8, 3), V(0), V(1), V(2), W(11, 2), W(10, 0)}, 19};
+
 static struct query groups = {
     "groups by stand",
     "select a.o, count(*), count(b.o), sum(b.o), min(b.o), max(b.o) from t a join t b on b.y = a.y and b.s = a.s "
@@ -308,6 +328,37 @@ static void make_lists(void)
         memcpy(groups_a + 9 * i, a, sizeof a);
         memcpy(groups_b + 9 * i, b, sizeof b);
     }
+}
+
+/* ---- a best-of query in turns, each list merged into the kept one, whose last row is sent as the threshold or not */
+
+enum { FEW_BEST = 10, FEW_WIDTH = 3 };
+static int sends;
+
+static double time_in_turns(enum who w, const struct query *q, uint32_t quantum)
+{
+    struct result *r = &results[w == SQLITE ? ENGINE : w];
+    uint32_t state[SOTJARN_STATE_WORDS], list[FEW_BEST * FEW_WIDTH], steps = 0;
+    size_t held = 0, words;
+    double t = now();
+    if (w == SQLITE) {
+        sum = 0;
+        found = run_sql(q->sql, (uint64_t)-1, &sum);
+        return now() - t;
+    }
+    words = open_by(w, q, state).words;
+    do {
+        size_t limit = sends && held == FEW_BEST * FEW_WIDTH ? FEW_WIDTH : 0;
+        r->turned = calls[w].turn(TABLES, 0, q->plan, q->words, state, SOTJARN_STATE_WORDS, words, quantum, r->output + held - limit, limit, list,
+                                  FEW_BEST * FEW_WIDTH);
+        steps += r->turned.steps;
+        words = r->turned.state_words;
+        held = calls[w].merge(q->plan, q->words, r->output, FEW_BEST * FEW_WIDTH, held, list, r->turned.list_words).words;
+    } while (r->turned.ending == SOTJARN_SPENT);
+    t = now() - t;
+    r->turned.steps = steps;
+    r->turned.list_words = held;
+    return t;
 }
 
 static void load_list(const char *name, const char *columns, const uint32_t *list, int width, int count)
@@ -531,7 +582,7 @@ static void measure(const char *name, timer f, const struct query *q, uint32_t q
             if (t < best[w])
                 best[w] = t;
         }
-    printf("%s\t%s\t%u\t%.0f\t%.0f\t", of, name, f == time_turn || f == time_pairs ? results[0].turned.steps : 0, best[ENGINE], best[PEER]);
+    printf("%s\t%s\t%u\t%.0f\t%.0f\t", of, name, f == time_turn || f == time_pairs || f == time_in_turns ? results[0].turned.steps : 0, best[ENGINE], best[PEER]);
     if (f != time_make && f != time_grow)
         printf("%.0f\t", best[SQLITE]);
     else
@@ -552,6 +603,17 @@ static void measure_turn(const char *name, const struct query *q, uint32_t quant
         fail("SQLite finds another number of rows");
     if (q != &top && quantum != 1 && sum != fields(&results[0], q == &groups || q == &pairs ? 1 : 0))
         fail("SQLite finds other rows");
+}
+
+/* without a threshold, and with one: the same list, that of SQLite too */
+static void measure_in_turns(const char *with, const char *without, const struct query *q)
+{
+    for (sends = 0; sends < 2; sends++) {
+        measure(sends ? with : without, time_in_turns, q, 5000);
+        same();
+        if (found != FEW_BEST || sum != fields(&results[0], 0))
+            fail("SQLite finds other rows");
+    }
 }
 
 static void measure_make(const char *name, timer f, void (*put)(void), size_t kept_rows)
@@ -592,6 +654,11 @@ static void measure_wood(enum wood wood)
     measure_turn(top.name, &top, 1000000, 10);
     if (wood == DENSE)
         measure_early();
+    if (wood == DENSE) {
+        measure_in_turns("least 10, pruned", "least 10 by diameter, in turns of 5,000", &least);
+        measure_in_turns("greatest 10, pruned", "greatest 10 by diameter, in turns of 5,000", &greatest);
+        measure_in_turns("greatest 10 of three patterns, pruned", "greatest 10 of three patterns, in turns of 5,000", &third);
+    }
     measure_turn(groups.name, &groups, 1000000, 20);
     measure_turn("turn of 1 step", &whole, 1, 1);
     measure_turn("turn of 1,000 steps", &whole, 1000, 333);

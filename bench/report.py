@@ -1,10 +1,12 @@
 """Makes a table and a plot of what bench/bench measured: report.py [--docs] FOLDER."""
 import math
+import re
 import sys
 
 TARGETS = {'tables of ': 1.3, 'merge of ': 1.5, '': 1.0}  # times C, by how a measure's name begins; C++ where tables are made
 FIRST, OTHERS = 'dense', ('gaps', 'far cluster')          # woods
 ONE = 'turn of 1 step'
+MANY_TURNS = re.compile('in turns|pruned')                # measures that check the tables many times
 BEGIN, END = '<!-- measured: begin -->\n', '<!-- measured: end -->\n'
 
 
@@ -41,10 +43,10 @@ def a_step(ns, one, steps):
 
 
 def steps_alone(found, measure):
-    """Nanoseconds a step of the engine and of C; none where the steps are too few to tell."""
+    """Nanoseconds a step of the engine and of C; none where the steps are too few to tell, or are those of many turns."""
     one = next(m for m in found if m[0] == ONE)
     _, steps, e, c, *_ = measure
-    return (a_step(e, one[2], steps), a_step(c, one[3], steps)) if steps >= 1000 else None
+    return (a_step(e, one[2], steps), a_step(c, one[3], steps)) if steps >= 1000 and not MANY_TURNS.search(measure[0]) else None
 
 
 def table(found):

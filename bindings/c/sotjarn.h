@@ -30,7 +30,7 @@ extern "C" {
 #endif
 
 /* The version of this header, which is that of the libraries made beside it. */
-#define SOTJARN_VERSION "0.13.0"
+#define SOTJARN_VERSION "0.14.0"
 
 /* How a turn ended. */
 enum {
@@ -169,7 +169,8 @@ struct sotjarn_written sotjarn_open(const uint32_t *rows, size_t rows_len,
                                     uint32_t *state, size_t state_len);
 
 /* Runs at most `quantum` steps from the saved state, which is the first `state_words` words of `state`: those that opening or the
- * turn before wrote. `threshold` is empty (length 0), or for a best-of query the last row of a full list merged from earlier turns.
+ * turn before wrote. `threshold` is empty (length 0), or for a best-of query the last row of a full list merged from earlier turns;
+ * matches that cannot come before it are not finished, which may save steps.
  * Refused by 1, 2, 23, 3, 4, 5, 6, 23, 7 to 9, then by 22 (the survey's number is above 28 bits, or the state is of another survey), then by 10
  * and 11. */
 struct sotjarn_turned sotjarn_turn(const uint32_t *rows, size_t rows_len,

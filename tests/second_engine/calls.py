@@ -63,10 +63,11 @@ class Script:
         answer, state = self.make(Open(self.tables, self.survey, self.words, self.filler(LEAST_STATE_WORDS + self.spare())))
         whole = tuple(self.right.list_words(self.plan, self.rows, (), True))
         kept, held, given, threshold, steps, joined = self.filler(len(whole) + self.spare()), 0, answer.words, (), 0, ()
+        sent = False
         while True:
             answer, state, output = self.make(Turn(self.tables, self.survey, self.words, state, given, quantum(), threshold,
                                                    self.output(share)))
-            made, given, steps = output[:answer.list_words], answer.state_words, steps + answer.steps
+            made, given, steps, sent = output[:answer.list_words], answer.state_words, steps + answer.steps, sent or threshold != ()
             if self.plan.kind == ROWS:
                 joined += made
             else:
@@ -76,7 +77,8 @@ class Script:
                 threshold = kept[held - width(self.plan):held]
             if answer.ending == DONE or answer.refused:
                 break
-        if answer.refused or steps != len(self.states) or (joined if self.plan.kind == ROWS else kept[:held]) != whole:
+        right = steps <= len(self.states) if sent else steps == len(self.states)
+        if answer.refused or not right or (joined if self.plan.kind == ROWS else kept[:held]) != whole:
             raise CutDiffers
 
     def cuts(self):

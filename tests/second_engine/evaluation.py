@@ -11,7 +11,7 @@ from inputs import (ascend, delivered_term, kinds_right, lengths_right, order_ri
 from lists import Lists
 from plan_reader import named_right, read_plan, width
 from running import Running, remember
-from words import GROUP, MOST_YEAR, ROWS, SURVEYS, TOP
+from words import GROUP, MOST_YEAR, ROWS, SURVEYS, TOP, UNBOUND, variable as variable_word
 
 LEAST_STATE_WORDS = 11
 MOST_QUANTUM = 1000000
@@ -112,14 +112,60 @@ class Evaluation(Running, Lists):
             return Turned(REFUSED, refused, 0, 0, 0), state, output
         walk, delivered = self.walk(tables, words), self.deliveries(tables, words)
         start = walk.number[state_of(state[:given])]
-        ending, end = self.end_of_turn(plan, delivered, start, quantum, len(output) // width(plan))
-        rows = [row for row in delivered[start:end] if row is not None]
+        if threshold:
+            way, end = self.pruned_way(plan, walk, start, quantum, threshold)
+            ending = SPENT if end < len(walk.states) else DONE
+        else:
+            ending, end = self.end_of_turn(plan, delivered, start, quantum, len(output) // width(plan))
+            way = range(start, end)
+        rows = [delivered[at] for at in way if delivered[at] is not None]
         made = self.list_words(plan, rows, threshold, ending == DONE, delivered[:start])
         left = [] if ending == DONE else self.save(survey, walk.states[self.saved(end)])
-        return Turned(ending, 0, self.steps(start, end, ending), len(left), len(made)), written(state, left), written(output, made)
+        return Turned(ending, 0, self.steps(way, end, ending), len(left), len(made)), written(state, left), written(output, made)
 
-    def steps(self, start, end, ending):
-        return end - start
+    def steps(self, way, end, ending):
+        """The steps of a turn, by the states that they are made from."""
+        return len(way)
+
+    # Pruning: with a threshold, which is that of a best-of query, and so never full.
+
+    def pruned_way(self, plan, walk, start, quantum, threshold):
+        """The numbers of the states that a turn's steps are made from, and of the one that it ends at."""
+        way, at = [], start
+        while at < len(walk.states) and len(way) < quantum:
+            way.append(at)
+            at = self.place_on(walk, at) if self.pruned(plan, walk, at, threshold) else at + 1
+        return way, at
+
+    def place_on(self, walk, at):
+        """The number of the state with its last place moved on by one."""
+        year, branch, places = walk.states[at]
+        return walk.number[year, branch, places[:-1] + (places[-1] + 1,)]
+
+    def pruned(self, plan, walk, at, threshold):
+        """Whether a step that would open a level moves on instead."""
+        return at in walk.opened and self.left_out(plan, plan.branches[walk.states[at][1]], walk.opened[at], threshold)
+
+    def known(self, branch, bound, variable):
+        """Whether a key's variable has its value: a pattern matched so far has it, or none of the branch."""
+        return variable in bound or all(word != variable_word(variable) for pattern in branch.patterns for word in pattern)
+
+    def left_out(self, plan, branch, bound, threshold):
+        """Whether the known keys, from the first on, put a match after the threshold, or all are known and equal."""
+        for falling, variable in plan.keys:
+            if not self.known(branch, bound, variable):
+                return False
+            own = self.compared_by(falling, bound.get(variable, UNBOUND))
+            limit = self.compared_by(falling, threshold[plan.columns.index(variable)])
+            if own != limit:
+                return own > limit
+        return self.equal_left_out()
+
+    def compared_by(self, falling, word):
+        return self.rank(falling, word)
+
+    def equal_left_out(self):
+        return True
 
     def saved(self, end):
         return end

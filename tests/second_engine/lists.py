@@ -20,9 +20,13 @@ class Lists:
         """What a word counts for among those of its kind."""
         return number_value(word) if term_kind(word) == NUMBER else term_value(word)
 
+    def rank(self, falling, word):
+        """A word's position by a key."""
+        kind, value = self.key(word)
+        return (-kind, -value) if falling else (kind, value)
+
     def sort_key(self, plan, row):
-        values = [(falling, self.key(row[plan.columns.index(v)])) for falling, v in plan.keys]
-        return tuple((-kind, -value) if falling else (kind, value) for falling, (kind, value) in values)
+        return tuple(self.rank(falling, row[plan.columns.index(v)]) for falling, v in plan.keys)
 
     def best_count(self, plan):
         return plan.k or DEFAULT_BEST

@@ -558,6 +558,59 @@ class NothingNotMerged(Misreading):
         return {keys: totals for keys, totals in super().added_groups(plan, kept, made).items() if totals.rows}
 
 
+# Pruning.
+
+class Pruning(Misreading):
+    """It concerns turns of best-of queries that were sent a threshold."""
+    concerns, endings = 'calls', (TOP,)
+    calls = (Turn,)
+
+
+class NotPruned(Pruning):
+    """a match that the threshold leaves out is finished"""
+    def pruned(self, plan, walk, at, threshold):
+        return False
+
+
+class UnknownPruned(Pruning):
+    """a key that a later pattern binds is compared as unbound"""
+    def known(self, branch, bound, variable):
+        return True
+
+
+class NeverBoundUnknown(Pruning):
+    """a key that the branch never binds is taken for unknown"""
+    def known(self, branch, bound, variable):
+        return variable in bound
+
+
+class StrictlyPruned(Pruning):
+    """a match that is equal to the threshold in all keys is finished"""
+    def equal_left_out(self):
+        return False
+
+
+class WordsPruned(Pruning):
+    """words are compared as they are, not by the order of keys"""
+    def compared_by(self, falling, word):
+        return -word if falling else word
+
+
+class PrunedDropsLevel(Pruning):
+    """a pruned step drops its level"""
+    def place_on(self, walk, at):
+        year, branch, places = walk.states[at]
+        if len(places) == 1:
+            return super().place_on(walk, at)
+        return walk.number[year, branch, places[:-2] + (places[-2] + 1,)]
+
+
+class UnprunedSteps(Pruning):
+    """a turn answers the steps that it would have taken unpruned"""
+    def steps(self, way, end, ending):
+        return end - way[0]
+
+
 # Turns, states and refusals.
 
 class FullTakesStep(Misreading):
@@ -565,8 +618,8 @@ class FullTakesStep(Misreading):
     concerns, endings = 'calls', (ROWS, GROUP)
     calls = (Turn,)
 
-    def steps(self, start, end, ending):
-        return end - start + (ending == FULL)
+    def steps(self, way, end, ending):
+        return super().steps(way, end, ending) + (ending == FULL)
 
 
 class FullLosesRow(Misreading):
@@ -608,8 +661,8 @@ class DoneTakesStep(Misreading):
     concerns = 'calls'
     calls = (Turn,)
 
-    def steps(self, start, end, ending):
-        return end - start + (ending == DONE)
+    def steps(self, way, end, ending):
+        return super().steps(way, end, ending) + (ending == DONE)
 
 
 class SavedEarly(Misreading):
@@ -749,7 +802,8 @@ ALL_MISREADINGS = [
     FirstForLatest, EveryWithoutWord, YearSkipped, YearsBackwards, AcrossYears, NamedMustBeThere, YearUntested, YearsBeforeKinds,
     YearsAfterOrder, PlanYearFirst, AnyPlanYear, RepeatsIgnored, EmptyAtZero, EndTooEarly, SubjectBeforeObject, BoundBefore,
     BranchDuplicates, AllDuplicates, RawWords, UnboundFirstFalling, TextsBeforeNumbers, BitsCompared, BitsAsKeys, LeastByBits,
-    SumOfBits, SumsUnsigned, SumsWrap, ZeroIsNone, ZeroIsMost, LaterPushesOut, TurnFirst, ThresholdNotAfter, LeastFromZero,
+    SumOfBits, SumsUnsigned, SumsWrap, ZeroIsNone, ZeroIsMost, LaterPushesOut, TurnFirst, ThresholdNotAfter, NotPruned,
+    UnknownPruned, NeverBoundUnknown, StrictlyPruned, WordsPruned, PrunedDropsLevel, UnprunedSteps, LeastFromZero,
     CarryDropped, SingleFloats, TextsCounted, NoNumberNoRow, UnboundLeftOut, NoTotal, TotalOfUnfinished, TotalOfWholeAlone,
     TotalFromStart, TotalWithKey, NothingIsZero, NothingIsARow, NothingRefused, NothingWithKeyPasses, NothingNotMerged, FullTakesStep,
     FullLosesRow, FullKnownGroup, FullAtOnce, DoneTakesStep, SavedEarly, BelowEnd, NumberNotCompared, NumberCut, NumberAfterPlaces,

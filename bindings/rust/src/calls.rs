@@ -170,7 +170,8 @@ pub fn open(survey: Survey, plan: &[u32], state: &mut [u32]) -> Result<usize, Re
 }
 
 /// Runs at most `quantum` steps from the saved state, which is the first `state_words` words of `state`: those that opening or the
-/// turn before wrote. `threshold` is empty, or for a best-of query the last row of a full list merged from earlier turns.
+/// turn before wrote. `threshold` is empty, or for a best-of query the last row of a full list merged from earlier turns; matches that cannot come
+/// before it are not finished, which may save steps.
 /// Refused as an opening is by tables and plan, then by 7 to 11, with 22 after 9: a state goes on with the survey that it was saved under
 /// alone, and with a year that is being read.
 ///

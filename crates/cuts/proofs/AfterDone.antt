@@ -14,17 +14,17 @@ use Rattle.turns.specs.Turns.{turnOf}
 use Rattle.turns.specs.AfterDone.{NoStateRefused}
 use Rattle.turns.proofs.AfterDone.{no-state-refused}
 use Rattle.merges.specs.Merging.{MergeResult, mergeOf}
-use Rattle.cuts.specs.Histories.{Event, turns, merges, joins, Phone, ServedTurn, servedIn, doneIn, turnInputOf, afterTurn, afterTaking, mergeInputOf}
-use Rattle.cuts.specs.Histories.{afterMerge, afterMerging, afterJoin, afterJoining, happens, history, fresh}
+use Rattle.cuts.specs.Histories.{Event, turns, merges, joins, Phone, ServedTurn, servedIn, doneIn, turnInputOf, servedOf, afterTurn, afterTaking}
+use Rattle.cuts.specs.Histories.{mergeInputOf, afterMerge, afterMerging, afterJoin, afterJoining, happens, history, fresh}
 use Rattle.cuts.specs.Premises.{Premises}
 use Rattle.cuts.specs.Uncut.{AsUncut}
 use Rattle.cuts.specs.AfterDone.{NoTurnServed}
 use Rattle.cuts.proofs.AnyCut.{any-cut}
 
 -- with no saved words no turn is served, and an event keeps it so
-record Same (h g : Phone) : Type 0 where
-  saved : g .saved ≡ h .saved
-  served : servedIn g ≡ servedIn h
+pub record Same (h g : Phone) : Type 0 where
+  pub saved : g .saved ≡ h .saved
+  pub served : servedIn g ≡ servedIn h
 
 module _ (v : Survey) (plan : List ℕ) (h : Phone) where
   same : Same h h
@@ -52,11 +52,11 @@ module _ (v : Survey) (plan : List ℕ) (h : Phone) where
   joined [] e = same
   joined (x ∷ rest) e = joining x rest (planOf plan .ending) e
 
-  merge-same : (behind : List ℕ) → Same h (happens v plan h (merges behind))
+  pub merge-same : (behind : List ℕ) → Same h (happens v plan h (merges behind))
   unfolding happens
   merge-same behind = merged behind (h .waiting) refl
 
-  join-same : Same h (happens v plan h joins)
+  pub join-same : Same h (happens v plan h joins)
   unfolding happens
   join-same = joined (h .waiting) refl
 
@@ -71,7 +71,7 @@ module _ (v : Survey) (plan : List ℕ) (h : Phone) where
         → happens v plan h (turns behind quantum threshold output) ≡ h
     unfolding happens
     turn-unmoved behind quantum threshold output =
-        ap (afterTurn h quantum (turnOf (turnInputOf v plan h behind quantum threshold output)))
+        ap (afterTurn h (servedOf quantum threshold (turnOf (turnInputOf v plan h behind quantum threshold output))))
         (turn-refused behind quantum threshold output .refused)
 
     event-same : (e : Event) → Same h (happens v plan h e)

@@ -1,27 +1,29 @@
--- ServedTurn turns are pieces of the uncut run, one behind the other.
+-- Served turns are pieces of the uncut run, one behind the other: their lists make the run's list up to where they end.
 use Prim.Native.Nat.{ℕ, zero, suc, _+_, _≤_}
 use native.Mathlib.Omega.{arith}
 use mathlib.Core.Path.{_≡_, refl, sym, _∙_, ap, ap₂, subst}
 use mathlib.Core.Bool.{Bool, true, false, _||_}
-use mathlib.Core.List.{List, [], _∷_, _++_, map, flatten, append-assoc, append-nil}
+use mathlib.Core.List.{List, [], _∷_, _++_, flatten, append-assoc, append-nil}
 use lib.ListN.{take}
 use Rattle.words.specs.Bindings.{Bindings}
 use Rattle.words.specs.Sequences.{iterate}
 use Rattle.tables.specs.Tables.{Tables}
-use Rattle.plans.specs.Endings.{Ending, rows}
+use Rattle.plans.specs.Endings.{rows}
 use Rattle.plans.specs.Plans.{Plan}
 use Rattle.plans.proofs.Bounds.{EndingForm}
-use Rattle.steps.specs.Steps.{Run, after}
-use Rattle.lists.specs.Gathering.{gathered, takenInto, rowsFit}
+use Rattle.steps.specs.Steps.{after}
+use Rattle.lists.specs.Gathering.{gathered, takenInto, rowsFit, thresholdRight}
 use Rattle.lists.specs.Closing.{listAt}
 use Rattle.lists.proofs.TopLists.{Fine}
 use Rattle.lists.proofs.FullLists.{listsOf, deliveredBy}
 use Rattle.lists.proofs.OneRow.{gathered-nil}
 use Rattle.lists.proofs.Closing.{at-adds}
+use Rattle.turns.specs.Surveys.{Survey}
 use Rattle.turns.specs.Turns.{isDone, isOver}
 use Rattle.cuts.specs.Histories.{ServedTurn, stepsIn, doneIn}
 use Rattle.cuts.specs.Premises.{listsIn}
-use Rattle.cuts.specs.Uncut.{WithinQuantum, joinedLists, runList, keptAfter}
+use Rattle.cuts.specs.Uncut.{Takes, Placed, joinedLists, runList, keptAfter}
+use Rattle.cuts.specs.Unsent.{Unsent}
 
 -- ---- steps added up, and done
 pub steps-append : (xs ys : List ServedTurn) → stepsIn (xs ++ ys) ≡ stepsIn xs + stepsIn ys
@@ -47,106 +49,103 @@ done-more (y ∷ xs) x e = go (isDone (y .ending)) e (done-more xs x)
     go true f ih = absurd (let z : true ≡ false = f in let w : _≡_ {A = ℕ} 0 1 = cc in omega arith)
     go false f ih = ih f
 
+-- ---- what is kept of the uncut run
+module _ (t : Tables) (q : Plan) (form : EndingForm (q .ending)) where
+  -- up to where the run goes on it is the list of its rows there
+  pub kept-going : (from : ℕ) → isOver (after t q from .state) ≡ false → keptAfter t q from ≡ gathered (q .ending) [] (after t q from .delivered)
+  unfolding after iterate
+  kept-going zero e = sym (gathered-nil (q .ending) [])
+  kept-going (suc n) e = ap (λ d. listAt (q .ending) [] d (after t q (suc n) .delivered)) e
+
+  -- after some steps
+  pub kept-some : (n : ℕ) → 1 ≤ n → keptAfter t q n ≡ runList (q .ending) (after t q n)
+  kept-some zero l = absurd (omega arith)
+  kept-some (suc n) l = refl
+
 -- ---- pieces
--- a served turn, after some steps of the run, which goes on there: its list is made of the rows of its own steps, closed at the run's end,
--- and these are so few that their totals fit
-pub record Piece (t : Tables) (q : Plan) (from : ℕ) (x : ServedTurn) : Type 0 where
+-- a served turn that takes the run from one position, where it goes on, to another: its list is that of the run's rows between them, which its
+-- threshold may leave out, closed at the run's end; they are so few that their totals fit
+pub record Piece (v : Survey) (q : Plan) (from to : ℕ) (x : ServedTurn) : Type 0 where
+  pub takes : Takes v q from to x
   pub rows : List Bindings
-  pub threshold : List ℕ
-  pub more : after t q (from + x .steps) .delivered ≡ after t q from .delivered ++ rows
-  pub going : isOver (after t q from .state) ≡ false
-  pub list : x .list ≡ listAt (q .ending) threshold (isOver (after t q (from + x .steps) .state)) rows
-  pub fine : Fine (q .ending) (after t q from .delivered) threshold
+  pub more : after (v .tables) q to .delivered ≡ after (v .tables) q from .delivered ++ rows
+  pub going : isOver (after (v .tables) q from .state) ≡ false
+  pub list : x .list ≡ listAt (q .ending) (x .sent) (isOver (after (v .tables) q to .state)) rows
+  pub right : thresholdRight (q .ending) (x .sent) ≡ true
+  pub fine : Fine (q .ending) (after (v .tables) q from .delivered) (x .sent)
   pub fits : rowsFit (q .ending) rows ≡ true
-  pub least : 1 ≤ x .steps
-  pub most : x .steps ≤ x .quantum
 
-abbrev pub Chain : Tables → Plan → ℕ → List ServedTurn → Type 0
-Chain t q from [] = Unit {0}
-Chain t q from (x ∷ xs) = Piece t q from x × Chain t q (from + x .steps) xs
+abbrev pub Chain : Survey → Plan → ℕ → List ServedTurn → ℕ → Type 0
+Chain v q from [] end = from ≡ end
+Chain v q from (x ∷ xs) end = (to : ℕ) × (Piece v q from to x × Chain v q to xs end)
 
-module _ (t : Tables) (q : Plan) where
-  -- where the rest of a chain begins
-  later : (from : ℕ) (x : ServedTurn) (xs : List ServedTurn) → (from + x .steps) + stepsIn xs ≡ from + stepsIn (x ∷ xs)
-  unfolding stepsIn
-  later from x xs = omega arith
+-- to a row query no threshold is sent, by test 11
+no-threshold : (vs threshold : List ℕ) → thresholdRight (rows vs) threshold ≡ true → threshold ≡ []
+unfolding thresholdRight
+no-threshold vs [] e = refl
+no-threshold vs (w ∷ ws) e = absurd (let z : _≡_ {A = ℕ} 0 1 = cc in omega arith)
 
-  pub chain-append : (from : ℕ) (xs ys : List ServedTurn) → Chain t q from xs → Chain t q (from + stepsIn xs) ys → Chain t q from (xs ++ ys)
-  unfolding stepsIn
-  chain-append from [] ys c d = subst (λ n. Chain t q n ys) (let e : from + 0 ≡ from = omega arith in e) d
-  chain-append from (x ∷ xs) ys c d =
-      (c .0, chain-append (from + x .steps) xs ys (c .1) (subst (λ n. Chain t q n ys) (sym (later from x xs)) d))
+module _ (v : Survey) (q : Plan) where
+  pub chain-append : (a b c : ℕ) (xs ys : List ServedTurn) → Chain v q a xs b → Chain v q b ys c → Chain v q a (xs ++ ys) c
+  chain-append a b c [] ys p r = subst (λ n. Chain v q n ys c) (sym p) r
+  chain-append a b c (x ∷ xs) ys p r = (p .0, (p .1 .0, chain-append (p .0) b c xs ys (p .1 .1) r))
 
-  pub chain-rest : (from : ℕ) (xs ys : List ServedTurn) → Chain t q from (xs ++ ys) → Chain t q (from + stepsIn xs) ys
-  unfolding stepsIn
-  chain-rest from [] ys c = subst (λ n. Chain t q n ys) (let e : from ≡ from + 0 = omega arith in e) c
-  chain-rest from (x ∷ xs) ys c = subst (λ n. Chain t q n ys) (later from x xs) (chain-rest (from + x .steps) xs ys (c .1))
+  pub chain-take : (k a c : ℕ) (xs : List ServedTurn) → Chain v q a xs c → (b : ℕ) × Chain v q a (take k xs) b
+  chain-take zero a c xs p = (a, refl)
+  chain-take (suc k) a c [] p = (a, refl)
+  chain-take (suc k) a c (x ∷ xs) p = let r = chain-take k (p .0) c xs (p .1 .1) in (r .0, (p .0, (p .1 .0, r .1)))
 
-  pub chain-take : (k from : ℕ) (xs : List ServedTurn) → Chain t q from xs → Chain t q from (take k xs)
-  chain-take zero from xs c = tt
-  chain-take (suc k) from [] c = tt
-  chain-take (suc k) from (x ∷ xs) c = (c .0, chain-take k (from + x .steps) xs (c .1))
+  pub chain-placed : (a b : ℕ) (xs : List ServedTurn) → Chain v q a xs b → Placed v q a xs b
+  chain-placed a b [] c = c
+  chain-placed a b (x ∷ xs) c = (c .0, (c .1 .0 .takes, chain-placed (c .0) b xs (c .1 .1)))
 
-  -- ---- what a chain says
-  pub within-quantum : (from : ℕ) (xs : List ServedTurn) → Chain t q from xs → WithinQuantum xs
-  within-quantum from [] c = tt
-  within-quantum from (x ∷ xs) c = ((c .0 .least, c .0 .most), within-quantum (from + x .steps) xs (c .1))
+  pub rows-unsent : (vs : List ℕ) → q .ending ≡ rows vs → (a b : ℕ) (xs : List ServedTurn) → Chain v q a xs b → Unsent xs
+  rows-unsent vs e a b [] c = tt
+  rows-unsent vs e a b (x ∷ xs) c = (
+    no-threshold vs (x .sent) (subst (λ d. thresholdRight d (x .sent) ≡ true) e (c .1 .0 .right)),
+    rows-unsent vs e (c .0) b xs (c .1 .1),
+  )
 
-  -- the thresholds and the rows of its turns
-  pub turnsOf : (from : ℕ) (xs : List ServedTurn) → Chain t q from xs → List (List ℕ × List Bindings)
-  turnsOf from [] c = []
-  turnsOf from (x ∷ xs) c = (c .0 .threshold, c .0 .rows) ∷ turnsOf (from + x .steps) xs (c .1)
+  -- ---- the thresholds and the rows of the pieces, and their lists, where done adds nothing to them
+  pub sentRows : (a b : ℕ) (xs : List ServedTurn) → Chain v q a xs b → List (List ℕ × List Bindings)
+  sentRows a b [] c = []
+  sentRows a b (x ∷ xs) c = (x .sent, c .1 .0 .rows) ∷ sentRows (c .0) b xs (c .1 .1)
 
-  -- and their lists, where done adds nothing to them
-  pub turns-lists : ((threshold : List ℕ) (done : Bool) (bs : List Bindings) → listAt (q .ending) threshold done bs ≡ gathered (q .ending) threshold bs)
-      → (from : ℕ) (xs : List ServedTurn) (c : Chain t q from xs) → listsOf (q .ending) (turnsOf from xs c) ≡ listsIn xs
-  unfolding turnsOf
-  turns-lists same from [] c = refl
-  turns-lists same from (x ∷ xs) c =
-      ap₂ _∷_ (sym (c .0 .list ∙ same (c .0 .threshold) (isOver (after t q (from + x .steps) .state)) (c .0 .rows)))
-      (turns-lists same (from + x .steps) xs (c .1))
+  pub sent-lists : ((threshold : List ℕ) (done : Bool) (bs : List Bindings) → listAt (q .ending) threshold done bs ≡ gathered (q .ending) threshold bs)
+      → (a b : ℕ) (xs : List ServedTurn) (c : Chain v q a xs b) → listsOf (q .ending) (sentRows a b xs c) ≡ listsIn xs
+  unfolding sentRows
+  sent-lists same a b [] c = refl
+  sent-lists same a b (x ∷ xs) c =
+      ap₂ _∷_ (sym (c .1 .0 .list ∙ same (x .sent) (isOver (after (v .tables) q (c .0) .state)) (c .1 .0 .rows)))
+      (sent-lists same (c .0) b xs (c .1 .1))
 
-  pub turns-rows : (from : ℕ) (xs : List ServedTurn) (c : Chain t q from xs)
-      → after t q (from + stepsIn xs) .delivered ≡ after t q from .delivered ++ deliveredBy (turnsOf from xs c)
-  unfolding turnsOf stepsIn flatten
-  turns-rows from [] c = ap (λ n. after t q n .delivered) (let p : from + 0 ≡ from = omega arith in p) ∙ sym (append-nil (after t q from .delivered))
-  turns-rows from (x ∷ xs) c =
-      ap (λ n. after t q n .delivered) (sym (later from x xs))
-      ∙ turns-rows (from + x .steps) xs (c .1)
-      ∙ ap (λ l. l ++ deliveredBy (turnsOf (from + x .steps) xs (c .1))) (c .0 .more)
-      ∙ append-assoc (after t q from .delivered) (c .0 .rows) (deliveredBy (turnsOf (from + x .steps) xs (c .1)))
+  pub sent-rows : (a b : ℕ) (xs : List ServedTurn) (c : Chain v q a xs b)
+      → after (v .tables) q b .delivered ≡ after (v .tables) q a .delivered ++ deliveredBy (sentRows a b xs c)
+  unfolding sentRows flatten
+  sent-rows a b [] c = ap (λ n. after (v .tables) q n .delivered) (sym c) ∙ sym (append-nil (after (v .tables) q a .delivered))
+  sent-rows a b (x ∷ xs) c =
+      sent-rows (c .0) b xs (c .1 .1)
+      ∙ ap (λ l. l ++ deliveredBy (sentRows (c .0) b xs (c .1 .1))) (c .1 .0 .more)
+      ∙ append-assoc (after (v .tables) q a .delivered) (c .1 .0 .rows) (deliveredBy (sentRows (c .0) b xs (c .1 .1)))
 
   module _ (form : EndingForm (q .ending)) where
-    -- what is kept up to where the run goes on is the list of its rows there
-    pub kept-going : (from : ℕ) → isOver (after t q from .state) ≡ false → keptAfter t q from ≡ gathered (q .ending) [] (after t q from .delivered)
-    unfolding after iterate
-    kept-going zero e = sym (gathered-nil (q .ending) [])
-    kept-going (suc n) e = ap (λ d. listAt (q .ending) [] d (after t q (suc n) .delivered)) e
-
-    -- what is kept after some steps
-    pub kept-some : (n : ℕ) → 1 ≤ n → keptAfter t q n ≡ runList (q .ending) (after t q n)
-    kept-some zero l = absurd (omega arith)
-    kept-some (suc n) l = refl
-
     -- the list of a piece, taken into what was kept before it
-    pub piece-adds : (from : ℕ) (x : ServedTurn) → Piece t q from x
-        → takenInto (q .ending) (keptAfter t q from) (x .list) ≡ keptAfter t q (from + x .steps)
-    piece-adds from x p =
-        let d = isOver (after t q (from + x .steps) .state) in
-        ap₂ (takenInto (q .ending)) (kept-going from (p .going)) (p .list)
-        ∙ at-adds (q .ending) form (p .threshold) d (after t q from .delivered) (p .rows) (p .fine)
+    pub piece-adds : (a b : ℕ) (x : ServedTurn) → Piece v q a b x
+        → takenInto (q .ending) (keptAfter (v .tables) q a) (x .list) ≡ keptAfter (v .tables) q b
+    piece-adds a b x p =
+        let d = isOver (after (v .tables) q b .state) in
+        ap₂ (takenInto (q .ending)) (kept-going (v .tables) q form a (p .going)) (p .list)
+        ∙ at-adds (q .ending) form (x .sent) d (after (v .tables) q a .delivered) (p .rows) (p .fine)
         ∙ ap (listAt (q .ending) [] d) (sym (p .more))
-        ∙ sym (kept-some (from + x .steps) (omega (arith, p .least)))
+        ∙ sym (kept-some (v .tables) q form b (omega (arith, p .takes .least, p .takes .no-further)))
 
-    -- the lists of a row query's chain, joined behind the rows before it
-    pub chain-joined : (vs : List ℕ) → q .ending ≡ rows vs → (from : ℕ) (xs : List ServedTurn) → Chain t q from xs
-        → keptAfter t q from ++ joinedLists xs ≡ keptAfter t q (from + stepsIn xs)
-    unfolding stepsIn flatten
-    chain-joined vs e from [] c =
-        append-nil (keptAfter t q from) ∙ ap (keptAfter t q) (let p : from ≡ from + 0 = omega arith in p)
-    chain-joined vs e from (x ∷ xs) c =
-        sym (append-assoc (keptAfter t q from) (x .list) (joinedLists xs))
+    -- the lists of a row query's pieces, joined behind the rows before them
+    pub chain-joined : (vs : List ℕ) → q .ending ≡ rows vs → (a b : ℕ) (xs : List ServedTurn) → Chain v q a xs b
+        → keptAfter (v .tables) q a ++ joinedLists xs ≡ keptAfter (v .tables) q b
+    unfolding flatten
+    chain-joined vs e a b [] c = append-nil (keptAfter (v .tables) q a) ∙ ap (keptAfter (v .tables) q) c
+    chain-joined vs e a b (x ∷ xs) c =
+        sym (append-assoc (keptAfter (v .tables) q a) (x .list) (joinedLists xs))
         ∙ ap (λ l. l ++ joinedLists xs)
-        (sym (ap (λ d. takenInto d (keptAfter t q from) (x .list)) e) ∙ piece-adds from x (c .0))
-        ∙ chain-joined vs e (from + x .steps) xs (c .1)
-        ∙ ap (keptAfter t q) (later from x xs)
+        (sym (ap (λ d. takenInto d (keptAfter (v .tables) q a) (x .list)) e) ∙ piece-adds a (c .0) x (c .1 .0))
+        ∙ chain-joined vs e (c .0) b xs (c .1 .1)

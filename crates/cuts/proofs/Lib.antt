@@ -1,11 +1,15 @@
+pub mod Placing
 pub mod Chains
 pub mod Accepting
 pub mod KeptValid
+pub mod Keeping
 pub mod Turning
+pub mod MergeRefusals
 pub mod Taking
 pub mod AnyCut
-pub mod MergeRefusals
+pub mod Unsent
 pub mod States
+pub mod AfterDone
 pub mod TurnRows
 pub mod KeptFits
-pub mod AfterDone
+pub mod Once

@@ -1,6 +1,6 @@
 -- A merge of a best-of or group query, where what is kept is the uncut run's and its totals fit, is refused only for the uncut run's totals up to
 -- the end of the turn or for its list's room, by 13 or 14.
-use Prim.Native.Nat.{ℕ, _+_}
+use Prim.Native.Nat.{ℕ}
 use native.Mathlib.Omega.{arith}
 use mathlib.Core.Path.{_≡_, refl, sym, _∙_, ap, ap₂, subst}
 use mathlib.Core.Logic.{_⊎_, inl, inr}
@@ -33,13 +33,12 @@ use Rattle.turns.specs.Turns.{isOver}
 use Rattle.merges.specs.Merging.{MergeInput, mergeTests, mergedWords, mergeOf}
 use Rattle.merges.specs.Refusals.{Merges}
 use Rattle.merges.proofs.Refusals.{merge-passed, merge-refusals}
-use Rattle.cuts.specs.Histories.{Phone, ServedTurn, stepsIn, mergeInputOf}
+use Rattle.cuts.specs.Histories.{Phone, ServedTurn, mergeInputOf}
 use Rattle.cuts.specs.Uncut.{keptAfter, runFits, MergesLists, NotTaken, totals-pass, no-room}
 use Rattle.cuts.specs.Accepting.{Accepted}
 use Rattle.cuts.proofs.Accepting.{accepted-form, accepted-gathering, accepted-values}
 use Rattle.cuts.proofs.Chains.{Piece, kept-going, piece-adds}
-use Rattle.cuts.proofs.Turning.{Kept}
-use Rattle.cuts.proofs.Taking.{merged-taken, next-piece}
+use Rattle.cuts.proofs.Keeping.{Kept, next}
 
 -- the later of two lists' elements
 each-later : {A : Type 0} (P : A → Type 0) (xs ys : List A) → Each P (xs ++ ys) → Each P ys
@@ -63,11 +62,14 @@ last-two true true false c d e y p q o r h = absurd-true o refl
 last-two true false z c d e y p q o r h = absurd-true q refl
 last-two false b z c d e y p q o r h = absurd-true p refl
 
--- the totals of the lists taken so far fit
-abbrev pub TakenFits : Survey → List ℕ → Phone → Type 0
-TakenFits v plan h = runFits (planOf plan .ending) (after (v .tables) (planOf plan) (stepsIn (h .taken))) ≡ true
+-- a list that test 12 passes is merged by taking it
+pub merged-taken : (e : Ending) (kept list : List ℕ) → listRight e kept ≡ true → merged e kept list ≡ takenInto e kept list
+unfolding listRight
+merged-taken (rows vs) kept list r = absurd-true refl (sym r)
+merged-taken (top k vs keys) kept list r = refl
+merged-taken (group vs m) kept list r = refl
 
-module _ (v : Survey) (plan : List ℕ) (a : Accepted (v .tables) plan) (h : Phone) (k : Kept v (planOf plan) h) (f : TakenFits v plan h) where
+module _ (v : Survey) (plan : List ℕ) (a : Accepted (v .tables) plan) (h : Phone) (k : Kept v (planOf plan) h) where
   abbrev t : Tables
   t = v .tables
 
@@ -79,10 +81,14 @@ module _ (v : Survey) (plan : List ℕ) (a : Accepted (v .tables) plan) (h : Pho
     i = mergeInputOf plan h behind x
 
     abbrev n : ℕ
-    n = stepsIn (h .taken)
+    n = k .upto
 
-    piece : Piece t q n x
-    piece = next-piece v plan a h k x rest waits
+    -- where that turn ends
+    abbrev to : ℕ
+    to = next v q h k x rest waits .0
+
+    piece : Piece v q n to x
+    piece = next v q h k x rest waits .1 .0
 
     -- the run goes on where the turn began: what is kept is the list of its rows up to there
     kept-is : h .kept ≡ gathered (q .ending) [] (after t q n .delivered)
@@ -95,28 +101,28 @@ module _ (v : Survey) (plan : List ℕ) (a : Accepted (v .tables) plan) (h : Pho
 
     -- the turn is at the run's end, or not
     abbrev over : Bool
-    over = isOver (after t q (n + x .steps) .state)
+    over = isOver (after t q to .state)
 
     list-right : listRight (q .ending) (x .list) ≡ true
     list-right =
         ap (listRight (q .ending)) (piece .list)
         ∙ valid-right (q .ending) m _
-        (at-valid (q .ending) (accepted-form t plan a .ending) (piece .threshold) over (piece .rows)
+        (at-valid (q .ending) (accepted-form t plan a .ending) (x .sent) over (piece .rows)
         (each-later (λ (b : Bindings). all isValue b ≡ true) (after t q n .delivered) (piece .rows)
-        (subst AllValues (piece .more) (accepted-values t plan a (n + x .steps)))))
+        (subst AllValues (piece .more) (accepted-values t plan a to))))
 
     -- the totals and the words of the result are the uncut run's up to the end of that turn
-    totals-are : totalsFit (q .ending) (h .kept) (x .list) ≡ runFits (q .ending) (after t q (n + x .steps))
+    totals-are : totalsFit (q .ending) (h .kept) (x .list) ≡ runFits (q .ending) (after t q to)
     totals-are =
         ap₂ (totalsFit (q .ending)) kept-is (piece .list)
-        ∙ at-fit (q .ending) (piece .threshold) over (after t q n .delivered) (piece .rows) f (piece .fits)
+        ∙ at-fit (q .ending) (x .sent) over (after t q n .delivered) (piece .rows) (k .fits) (piece .fits)
         ∙ ap (rowsFit (q .ending)) (sym (piece .more))
 
-    words-are : merged (q .ending) (h .kept) (x .list) ≡ keptAfter t q (n + x .steps)
+    words-are : merged (q .ending) (h .kept) (x .list) ≡ keptAfter t q to
     words-are =
         merged-taken (q .ending) (h .kept) (x .list) kept-right
         ∙ ap (λ l. takenInto (q .ending) l (x .list)) (k .list)
-        ∙ piece-adds t q (accepted-form t plan a .ending) n x piece
+        ∙ piece-adds v q (accepted-form t plan a .ending) n to x piece
 
     given-kept : take (i .given) (i .kept) ≡ h .kept
     given-kept = take-append-seam (h .kept) behind
@@ -128,23 +134,23 @@ module _ (v : Survey) (plan : List ℕ) (a : Accepted (v .tables) plan) (h : Pho
         (and-both (listRight (q .ending) (take (i .given) (i .kept))) (listRight (q .ending) (x .list))
         (ap (listRight (q .ending)) given-kept ∙ kept-right) list-right)
 
-    pub merge-refused : (y : ℕ) → mergeOf i .answer ≡ Refused y → NotTaken t q (n + x .steps) (length (h .kept ++ behind)) y
+    pub merge-refused : (y : ℕ) → mergeOf i .answer ≡ Refused y → NotTaken t q to (length (h .kept ++ behind)) y
     unfolding firstFailing
     merge-refused y e =
-        let fits : totalsFit (q .ending) (take (i .given) (i .kept)) (x .list) ≡ runFits (q .ending) (after t q (n + x .steps)) =
+        let fits : totalsFit (q .ending) (take (i .given) (i .kept)) (x .list) ≡ runFits (q .ending) (after t q to) =
         ap (λ l. totalsFit (q .ending) l (x .list)) given-kept ∙ totals-are in
         let long = ap length (ap (λ l. merged (q .ending) l (x .list)) given-kept ∙ words-are) in
         elim (last-two (hasForm (readPlan plan)) (variablesRight q) (yearAllowed (q .years))
         (leb (i .given) (length (i .kept)) && (listRight (q .ending) (take (i .given) (i .kept)) && listRight (q .ending) (x .list)))
         (totalsFit (q .ending) (take (i .given) (i .kept)) (x .list)) (leb (length (mergedWords i)) (length (i .kept))) y
         (ap hasForm (a .read)) (a .variables) (a .years) lists-right (fails-first y (mergeTests i) (merge-refusals i .refused y .0 e))) [
-          | inl g ↦ subst (NotTaken t q (n + x .steps) (length (h .kept ++ behind))) (sym (g .0)) (totals-pass (sym fits ∙ g .1))
-          | inr g ↦ subst (NotTaken t q (n + x .steps) (length (h .kept ++ behind))) (sym (g .0))
+          | inl g ↦ subst (NotTaken t q to (length (h .kept ++ behind))) (sym (g .0)) (totals-pass (sym fits ∙ g .1))
+          | inr g ↦ subst (NotTaken t q to (length (h .kept ++ behind))) (sym (g .0))
               (no-room (sym fits ∙ g .1) (omega (arith, long, leb-false (length (mergedWords i)) (length (i .kept)) (g .2))))
         ]
 
     -- and of one that is served the totals of the uncut run up to there fit
-    pub merge-fits : (words : ℕ) → mergeOf i .answer ≡ Words words → runFits (q .ending) (after t q (n + x .steps)) ≡ true
+    pub merge-fits : (words : ℕ) → mergeOf i .answer ≡ Words words → runFits (q .ending) (after t q to) ≡ true
     merge-fits words e =
         let serve : Merges i = λ y f. let z : _≡_ {A = ℕ} 0 1 = cc in omega arith in
         sym totals-are ∙ ap (λ l. totalsFit (q .ending) l (x .list)) (sym given-kept) ∙ merge-passed i 13 serve

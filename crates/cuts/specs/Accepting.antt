@@ -4,9 +4,9 @@ use Prim.Native.Nat.{ℕ, _≤_, _<_}
 use mathlib.Core.Path.{_≡_}
 use mathlib.Core.Bool.{true, _&&_}
 use mathlib.Core.Option.{none, some}
-use mathlib.Core.List.{List}
+use mathlib.Core.List.{List, _++_}
 use lib.Dec.{leb}
-use lib.ListN.{length}
+use lib.ListN.{length, take}
 use Rattle.words.specs.Words.{lowNumbers}
 use Rattle.words.specs.Tests.{firstFailing}
 use Rattle.tables.specs.Tables.{Tables, tableTests}
@@ -14,7 +14,7 @@ use Rattle.plans.specs.Years.{yearAllowed}
 use Rattle.plans.specs.Plans.{readPlan, planOf, variablesRight}
 use Rattle.steps.specs.Steps.{State, after}
 use Rattle.steps.specs.Saved.{stateWords, shapeRight, surveyRight, placesRight}
-use Rattle.turns.specs.Turns.{TurnInput, givenState, givenPlan}
+use Rattle.turns.specs.Turns.{TurnInput, givenState, givenPlan, turnOf}
 
 -- tests 1, 2, 23, 3, 4 and 5, 6, 23 pass: the tables' first, and the plan is read, its variables are right and its year is one that rows may have
 pub record Accepted (t : Tables) (plan : List ℕ) : Type 0 where
@@ -38,3 +38,19 @@ StateAccepted i =
     ((leb (i .given) (length (i .state)) && shapeRight (i .survey .tables) (givenPlan i) (givenState i)) ≡ true)
     × (surveyRight (i .survey .number) (givenState i) ≡ true)
     × (placesRight (i .survey .tables) (givenPlan i) (givenState i) ≡ true)
+
+-- the state that a turn left, as words; and a turn over the same survey and plan that is given it, with some words behind it
+abbrev pub leftBy : TurnInput → List ℕ
+leftBy i = take (turnOf i .answer .saved) (turnOf i .state)
+
+abbrev pub resumed : TurnInput → List ℕ → ℕ → List ℕ → List ℕ → TurnInput
+resumed i behind quantum threshold output =
+    record {
+      survey = i .survey;
+      plan = i .plan;
+      state = leftBy i ++ behind;
+      given = length (leftBy i);
+      quantum = quantum;
+      threshold = threshold;
+      output = output;
+    }

@@ -24,12 +24,14 @@ pub data Event : Type 0 where
   merges : List ℕ → Event
   joins : Event
 
--- a served turn: its quantum, what it answered, and its list
+-- a served turn: its quantum, the threshold that it was sent, what it answered, its list, and the saved words that it left
 pub record ServedTurn : Type 0 where
   pub quantum : ℕ
+  pub sent : List ℕ
   pub ending : TurnEnding
   pub steps : ℕ
   pub list : List ℕ
+  pub left : List ℕ
 
 -- what the phone holds: the saved words, the served turns whose lists are taken and those whose lists are not yet, and the kept list
 pub record Phone : Type 0 where
@@ -65,29 +67,25 @@ turnInputOf v plan h behind quantum threshold output =
       output = output;
     }
 
-abbrev pub servedOf : ℕ → TurnResult → ServedTurn
-servedOf quantum r =
+abbrev pub servedOf : ℕ → List ℕ → TurnResult → ServedTurn
+servedOf quantum threshold r =
     record {
       quantum = quantum;
+      sent = threshold;
       ending = r .answer .ending;
       steps = r .answer .steps;
       list = take (r .answer .listed) (r .output);
+      left = take (r .answer .saved) (r .state);
     }
 
-abbrev pub afterServed : Phone → ℕ → TurnResult → Phone
-afterServed h quantum r =
-    record {
-      saved = take (r .answer .saved) (r .state);
-      taken = h .taken;
-      waiting = h .waiting ++ (servedOf quantum r ∷ []);
-      kept = h .kept;
-    }
+abbrev pub afterServed : Phone → ServedTurn → Phone
+afterServed h x = record { saved = x .left; taken = h .taken; waiting = h .waiting ++ (x ∷ []); kept = h .kept }
 
-abbrev pub afterTurn : Phone → ℕ → TurnResult → TurnEnding → Phone
-afterTurn h quantum r ending.Done = afterServed h quantum r
-afterTurn h quantum r ending.Spent = afterServed h quantum r
-afterTurn h quantum r ending.Full = afterServed h quantum r
-afterTurn h quantum r (ending.Refused x) = h
+abbrev pub afterTurn : Phone → ServedTurn → TurnEnding → Phone
+afterTurn h x ending.Done = afterServed h x
+afterTurn h x ending.Spent = afterServed h x
+afterTurn h x ending.Full = afterServed h x
+afterTurn h x (ending.Refused y) = h
 
 -- the earliest list that is not taken is taken, and the kept list is now another
 abbrev pub afterTaking : Phone → ServedTurn → List ServedTurn → List ℕ → Phone
@@ -117,7 +115,7 @@ afterJoining plan h (x ∷ rest) = afterJoin (planOf plan .ending) h x rest
 
 unfoldable pub happens : Survey → List ℕ → Phone → Event → Phone
 happens v plan h (turns behind quantum threshold output) =
-    afterTurn h quantum (turnOf (turnInputOf v plan h behind quantum threshold output))
+    afterTurn h (servedOf quantum threshold (turnOf (turnInputOf v plan h behind quantum threshold output)))
     (turnOf (turnInputOf v plan h behind quantum threshold output) .answer .ending)
 happens v plan h (merges behind) = afterMerging plan h behind (h .waiting)
 happens v plan h joins = afterJoining plan h (h .waiting)

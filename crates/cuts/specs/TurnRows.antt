@@ -1,4 +1,5 @@
--- The rows that the turns of a history delivered, joined in order. Assumes nothing: these are definitions.
+-- The rows that the turns of a history delivered, joined in order: where no threshold was sent they are the uncut run's. Assumes nothing: these are
+-- definitions.
 use Prim.Native.Nat.{ℕ}
 use mathlib.Core.List.{List, [], _∷_, _++_}
 use Rattle.words.specs.Bindings.{Bindings}

@@ -1,5 +1,6 @@
--- What demand 3 says of a history: it is as the uncut run. Assumes nothing: these are definitions.
-use Prim.Native.Nat.{ℕ, zero, suc, _≤_, _<_}
+-- What demand 3 says of a history: it is as the uncut run, which knows no threshold. A position of that run is the number of its steps up to there.
+-- Assumes nothing: these are definitions.
+use Prim.Native.Nat.{ℕ, zero, suc, _+_, _≤_, _<_}
 use mathlib.Core.Path.{_≡_}
 use mathlib.Core.Logic.{_↔_}
 use mathlib.Core.List.{List, [], _∷_, flatten}
@@ -49,29 +50,59 @@ MergesLists (rows vs) = ⊥
 MergesLists (top k vs keys) = Unit {0}
 MergesLists (group vs m) = Unit {0}
 
--- each served turn took at least one step and no more than its quantum
-abbrev pub WithinQuantum : List ServedTurn → Type 0
-WithinQuantum [] = Unit {0}
-WithinQuantum (x ∷ xs) = ((1 ≤ x .steps) × (x .steps ≤ x .quantum)) × WithinQuantum xs
-
 -- some served turns' lists, joined end to end
 abbrev pub joinedLists : List ServedTurn → List ℕ
 joinedLists xs = flatten (listsIn xs)
 
+-- ---- positions
+-- a served turn takes the uncut run from one position to another: it leaves the words of the state there, under the survey's number, or none; it
+-- took a step at least, no more than its quantum and no more than the distance, and exactly the distance where it was sent no threshold
+pub record Takes (v : Survey) (q : Plan) (from to : ℕ) (x : ServedTurn) : Type 0 where
+  pub left : x .left ≡ savedWords (v .number) (after (v .tables) q to .state)
+  -- no position lies past the run's end
+  pub going : (m : ℕ) → m < to → after (v .tables) q m .state ≡ none → ⊥
+  pub least : 1 ≤ x .steps
+  pub within : x .steps ≤ x .quantum
+  pub no-further : from + x .steps ≤ to
+  pub as-far : x .sent ≡ [] → from + x .steps ≡ to
+
+-- some of them, one behind the other, from a position to a position
+abbrev pub Placed : Survey → Plan → ℕ → List ServedTurn → ℕ → Type 0
+Placed v q from [] end = from ≡ end
+Placed v q from (x ∷ xs) end = (to : ℕ) × (Takes v q from to x × Placed v q to xs end)
+
 pub record AsUncut (v : Survey) (q : Plan) (h : Phone) : Type 0 where
-  -- the saved words are, under the survey's number, a state of the uncut run, as many steps on as the served turns took, or none
-  pub state : h .saved ≡ savedWords (v .number) (after (v .tables) q (stepsIn (servedIn h)) .state)
+  -- the positions of the uncut run at the end of the last list taken, and at the saved words
+  pub upto : ℕ
+  pub reached : ℕ
+  pub ordered : upto ≤ reached
+  -- each served turn lies between two positions, one behind the other
+  pub taken : Placed v q 0 (h .taken) upto
+  pub waiting : Placed v q upto (h .waiting) reached
+  -- the turns took no more steps than the uncut run takes to come there
+  pub steps : stepsIn (servedIn h) ≤ reached
+  -- the saved words are, under the survey's number, its state there, or none
+  pub state : h .saved ≡ savedWords (v .number) (after (v .tables) q reached .state)
   -- none exactly at its end
-  pub end : (h .saved ≡ []) ↔ EndsAt (v .tables) q (stepsIn (servedIn h))
+  pub end : (h .saved ≡ []) ↔ EndsAt (v .tables) q reached
   -- done was answered exactly then
-  pub done : (doneIn (servedIn h) ≡ true) ↔ EndsAt (v .tables) q (stepsIn (servedIn h))
-  -- no turn's steps are above its quantum
-  pub quantum : WithinQuantum (servedIn h)
+  pub done : (doneIn (servedIn h) ≡ true) ↔ EndsAt (v .tables) q reached
   -- the lists taken so far make its rows, its best-of list or its groups up to where the last of them ended
-  pub list : h .kept ≡ keptAfter (v .tables) q (stepsIn (h .taken))
-  -- for a row query, the first lists of any number make its rows up to where the last of them ended
+  pub list : h .kept ≡ keptAfter (v .tables) q upto
+  -- whose totals are in their range
+  pub fits : runFits (q .ending) (after (v .tables) q upto) ≡ true
+  -- for a row query, to which no threshold is sent, the first lists of any number make its rows up to where the last of them ended
   pub prefixes : (vs : List ℕ) → q .ending ≡ rows vs → (k : ℕ)
       → joinedLists (take k (servedIn h)) ≡ runList (q .ending) (after (v .tables) q (stepsIn (take k (servedIn h))))
-  -- a finished query, done answered and every list taken: its steps and its list are the whole uncut run's
+  -- a finished query, done answered and every list taken: its list is the whole uncut run's
   pub finished : doneIn (servedIn h) ≡ true → h .waiting ≡ []
-      → EndsAt (v .tables) q (stepsIn (h .taken)) × (h .kept ≡ runList (q .ending) (after (v .tables) q (stepsIn (h .taken))))
+      → EndsAt (v .tables) q upto × (h .kept ≡ runList (q .ending) (after (v .tables) q upto))
+
+-- why the earliest list that is not taken yet was left by a merge into a buffer of so many words, by its number: where the turn takes the uncut
+-- run from the end of the last list taken to
+pub record NotTakenAt (v : Survey) (q : Plan) (h : Phone) (x : ServedTurn) (room y : ℕ) : Type 0 where
+  pub upto : ℕ
+  pub taken : Placed v q 0 (h .taken) upto
+  pub to : ℕ
+  pub takes : Takes v q upto to x
+  pub cause : NotTaken (v .tables) q to room y

@@ -11,7 +11,7 @@ ghost use Rattle.plans.specs.Endings.{keyAmong};
 ghost use Rattle.lists.specs.Rows.{indexOf, rankBy, rowBefore};
 
 // The place of a term by a key: a falling key reverses the order of keys.
-fn rank_by(key: u32, word: u32) -> u32
+pub fn rank_by(key: u32, word: u32) -> u32
     ensures { λ r. ⌜ r ≡ rankBy key word ⌝ }
 {
     let rank = Term(word).key_rank();
@@ -36,7 +36,7 @@ fn index_of(word: u32, words: &[u32]) -> usize
 }
 
 // The column of a row that has the value of a key's variable.
-fn column_of(vars: &[u32], key: u32) -> usize
+pub fn column_of(vars: &[u32], key: u32) -> usize
     ensures { λ r. ⌜ r ≡ indexOf (variable (low key)) (now (vars .entry)) ⌝ }
 {
     let variable = Term::variable(PlanWord(key).low());

@@ -17,17 +17,21 @@ use Rattle.lists.specs.Thresholds.{absent}
 use Rattle.turns.specs.Surveys.{Survey}
 use Rattle.turns.specs.declared.TurnEnding.{TurnEnding}
 use Rattle.turns.specs.declared.TurnEnding.the-variants as ending
-use Rattle.turns.specs.Turns.{isDone, TurnInput, TurnResult, turnOf}
+use Rattle.turns.specs.Turns.{isDone, TurnInput, turnOf}
 use Rattle.turns.proofs.Follows.{follows}
 use Rattle.turns.proofs.OnTheRun.{keeps-lengths}
 use Rattle.cuts.specs.Histories.{Event, turns, Phone, ServedTurn, servedIn, stepsIn, doneIn, turnInputOf, servedOf, afterServed, afterTurn}
 use Rattle.cuts.specs.Histories.{afterTaking, happens, history}
 use Rattle.cuts.specs.Premises.{Asked, Premises}
-use Rattle.cuts.specs.Uncut.{AsUncut, keptAfter, runFits}
+use Rattle.cuts.specs.Uncut.{keptAfter, runFits}
+use Rattle.cuts.specs.Unsent.{Unsent, StepForStep}
 use Rattle.cuts.specs.Accepting.{Accepted, Passed}
+use Rattle.cuts.proofs.Accepting.{accepted-form}
+use Rattle.cuts.proofs.Placing.{unsent-append}
 use Rattle.cuts.proofs.Chains.{steps-more, done-more}
-use Rattle.cuts.proofs.Turning.{Kept}
-use Rattle.cuts.proofs.AnyCut.{history-keeps, as-uncut}
+use Rattle.cuts.proofs.Keeping.{Kept, as-uncut, taken-to}
+use Rattle.cuts.proofs.AnyCut.{history-keeps}
+use Rattle.cuts.proofs.Unsent.{step-for-step}
 use Rattle.queries.specs.declared.Keeping.{Keeping}
 use Rattle.queries.specs.Stepping.{isServed, keeps, keptOf}
 use Rattle.queries.proofs.UnderWay.{UnderWay}
@@ -48,11 +52,11 @@ module _ (v : Survey) (plan : List ℕ) where
   premises-more (x ∷ es) h e p a = (p .0, premises-more es (happens v plan h x) e (p .1) a)
 
 -- a served turn leaves what its result says
-served-after : (h : Phone) (quantum : ℕ) (r : TurnResult) (e : TurnEnding) → isServed e ≡ true → afterTurn h quantum r e ≡ afterServed h quantum r
-served-after h quantum r ending.Done f = refl
-served-after h quantum r ending.Spent f = refl
-served-after h quantum r ending.Full f = refl
-served-after h quantum r (ending.Refused x) f = absurd-true f refl
+served-after : (h : Phone) (x : ServedTurn) (e : TurnEnding) → isServed e ≡ true → afterTurn h x e ≡ afterServed h x
+served-after h x ending.Done f = refl
+served-after h x ending.Spent f = refl
+served-after h x ending.Full f = refl
+served-after h x (ending.Refused y) f = absurd-true f refl
 
 -- no words are no state's
 pub some-words : (survey : ℕ) (o : Option State) → ¬ (savedWords survey o ≡ []) → (s : State) × (o ≡ some s)
@@ -92,12 +96,12 @@ module _ (keep : Keeping) (v : Survey) (plan : List ℕ) (a : Accepted (v .table
     pub held-keeps : Kept v q h
     held-keeps = subst (Kept v q) (u .reached) (history-keeps v plan a (u .events) first k (u .premises))
 
-    pub held-uncut : AsUncut v q h
-    held-uncut = as-uncut v plan a h held-keeps
-
     -- every list is taken
     pub all-taken : servedIn h ≡ h .taken
     all-taken = ap (λ l. h .taken ++ l) (u .taken) ∙ append-nil (h .taken)
+
+    pub held-uncut : StepForStep v q h
+    held-uncut = step-for-step v q h (subst⁻¹ Unsent all-taken (u .unsent)) (as-uncut v q (accepted-form t plan a .ending) h held-keeps)
 
     pub kept-front : take used kept ≡ part (h .kept)
     kept-front = ap₂ take (u .words) (u .list) ∙ take-over (part (h .kept)) before
@@ -124,7 +128,7 @@ module _ (keep : Keeping) (v : Survey) (plan : List ℕ) (a : Accepted (v .table
       pub given-state : ¬ (saved ≡ 0)
           → (s : State) × (after t q (stepsIn (h .taken)) .state ≡ some s) × (take saved state ≡ stateWords (v .number) s)
       given-state f =
-          let kept-words = held-keeps .saved ∙ ap (λ l. savedWords (v .number) (after t q (stepsIn l) .state)) all-taken in
+          let kept-words = held-uncut .state ∙ ap (λ l. savedWords (v .number) (after t q (stepsIn l) .state)) all-taken in
           let s = some-words (v .number) (after t q (stepsIn (h .taken)) .state) (λ e. f (u .state-count ∙ ap length (kept-words ∙ e))) in
           (s .0, s .1, u .state-words ∙ kept-words ∙ ap (savedWords (v .number)) (s .1))
 
@@ -140,16 +144,16 @@ module _ (keep : Keeping) (v : Survey) (plan : List ℕ) (a : Accepted (v .table
 
       module _ (served : isServed (turnOf i .answer .ending) ≡ true) where
         abbrev x : ServedTurn
-        x = servedOf quantum (turnOf i)
+        x = servedOf quantum [] (turnOf i)
 
         abbrev turned : Phone
-        turned = afterServed h quantum (turnOf i)
+        turned = afterServed h x
 
         turn-made : happens v plan h call ≡ turned
         unfolding happens
         turn-made =
-            ap (λ j. afterTurn h quantum (turnOf j) (turnOf j .answer .ending)) same-input
-            ∙ served-after h quantum (turnOf i) (turnOf i .answer .ending) served
+            ap (λ j. afterTurn h (servedOf quantum [] (turnOf j)) (turnOf j .answer .ending)) same-input
+            ∙ served-after h x (turnOf i .answer .ending) served
 
         pub one-waits : turned .waiting ≡ x ∷ []
         one-waits = ap (λ l. l ++ (x ∷ [])) (u .taken)
@@ -180,13 +184,16 @@ module _ (keep : Keeping) (v : Survey) (plan : List ℕ) (a : Accepted (v .table
           pub now-keeps : Kept v q now
           now-keeps = subst (Kept v q) more-reach (history-keeps v plan a (calls ++ (e ∷ [])) first k more-premises)
 
+          now-unsent : Unsent (now .taken)
+          now-unsent = unsent-append (h .taken) (x ∷ []) (u .unsent) (refl, tt)
+
           pub now-list : list ≡ keptAfter t q (stepsIn (h .taken) + x .steps)
-          now-list = now-keeps .list ∙ ap (keptAfter t q) (steps-more (h .taken) x)
+          now-list = now-keeps .list ∙ ap (keptAfter t q) (taken-to v q now now-keeps now-unsent ∙ steps-more (h .taken) x)
 
           pub kept-shorter : length (part (h .kept)) ≤ length (part list)
           kept-shorter =
               kept-longer (keeps keep (q .ending)) (h .kept) list
-              (omega (arith, ap length now-list, ap length (held-keeps .list), no-shorter t plan a (stepsIn (h .taken)) (x .steps)))
+              (omega (arith, ap length now-list, ap length (held-uncut .list), no-shorter t plan a (stepsIn (h .taken)) (x .steps)))
 
           module _ (fits : runFits (q .ending) (after t q (stepsIn (h .taken) + x .steps)) ≡ true)
               (new : List ℕ) (words : ℕ) (whole : new ≡ over (part list) kept) (counted : words ≡ length (part list))
@@ -212,6 +219,7 @@ module _ (keep : Keeping) (v : Survey) (plan : List ℕ) (a : Accepted (v .table
                     reached = more-reach;
                     taken = refl;
                     turns = length-append (h .taken) (x ∷ []) ∙ ap (λ n. n + 1) (u .turns);
+                    unsent = now-unsent;
                     state-words = refl;
                     state-count = s .state .counted ∙ ap length (sym (s .state .front));
                     state-room = omega (arith, keeps-lengths i (is-served i served) .state, u .state-room);

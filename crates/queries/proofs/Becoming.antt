@@ -20,7 +20,7 @@ use Rattle.merges.specs.Merging.{MergeResult}
 use Rattle.cuts.specs.Histories.{Phone, ServedTurn, stepsIn, servedOf}
 use Rattle.cuts.specs.Uncut.{runFits}
 use Rattle.cuts.specs.Accepting.{Accepted}
-use Rattle.cuts.proofs.Turning.{Kept}
+use Rattle.cuts.proofs.Keeping.{Kept}
 use Rattle.queries.specs.declared.Keeping.{Keeping}
 use Rattle.queries.specs.declared.Went.{Went}
 use Rattle.queries.specs.declared.Went.the-variants.{On, Over, Stopped}
@@ -57,7 +57,7 @@ module _ (keep : Keeping) (v : Survey) (plan : List ℕ) (a : Accepted (v .table
     m = takenBy keep i (turnOf i) kept used
 
     abbrev x : ServedTurn
-    x = servedOf quantum (turnOf i)
+    x = servedOf quantum [] (turnOf i)
 
     abbrev Taken : List ℕ → Written → Type 0
     Taken = taking.TakenAs keep v plan a first k before quantum count output state saved kept used g

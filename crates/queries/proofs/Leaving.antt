@@ -12,9 +12,10 @@ use Rattle.steps.specs.Steps.{after}
 use Rattle.steps.specs.Saved.{savedWords}
 use Rattle.turns.specs.Surveys.{Survey}
 use Rattle.cuts.specs.Histories.{Phone, servedIn, stepsIn, doneIn}
-use Rattle.cuts.specs.Uncut.{EndsAt, AsUncut}
+use Rattle.cuts.specs.Uncut.{EndsAt}
+use Rattle.cuts.specs.Unsent.{StepForStep}
 use Rattle.cuts.specs.Accepting.{Accepted}
-use Rattle.cuts.proofs.Turning.{Kept}
+use Rattle.cuts.proofs.Keeping.{Kept}
 use Rattle.queries.specs.declared.Keeping.{Keeping}
 use Rattle.queries.specs.declared.Went.{Went}
 use Rattle.queries.specs.declared.Went.the-variants.{On, Over, Stopped}
@@ -54,11 +55,8 @@ module _ (keep : Keeping) (v : Survey) (plan : List ℕ) (a : Accepted (v .table
     h = u .held
 
     -- ---- what a query under way says of the uncut run
-    uncut : AsUncut v q h
+    uncut : StepForStep v q h
     uncut = advancing.held-uncut keep v plan a first k before count state saved kept used u
-
-    run-kept : Kept v q h
-    run-kept = advancing.held-keeps keep v plan a first k before count state saved kept used u
 
     all-taken : servedIn h ≡ h .taken
     all-taken = advancing.all-taken keep v plan a first k before count state saved kept used u
@@ -67,8 +65,8 @@ module _ (keep : Keeping) (v : Survey) (plan : List ℕ) (a : Accepted (v .table
     holds =
         record {
           fits = u .fits;
-          whole = u .list ∙ ap (λ l. over (part l) before) (run-kept .list);
-          counted = u .words ∙ ap (λ l. length (part l)) (run-kept .list);
+          whole = u .list ∙ ap (λ l. over (part l) before) (uncut .list);
+          counted = u .words ∙ ap (λ l. length (part l)) (uncut .list);
           room = u .room;
         }
 
@@ -80,7 +78,7 @@ module _ (keep : Keeping) (v : Survey) (plan : List ℕ) (a : Accepted (v .table
     stands f quantum room made =
         let n = stepsIn (h .taken) in
         let s : h .saved ≡ savedWords (v .number) (after t q n .state) =
-        run-kept .saved ∙ ap (λ l. savedWords (v .number) (after t q (stepsIn l) .state)) all-taken in
+        uncut .state ∙ ap (λ l. savedWords (v .number) (after t q (stepsIn l) .state)) all-taken in
         record {
           steps = n;
           made = made;

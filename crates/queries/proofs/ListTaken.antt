@@ -24,7 +24,7 @@ use Rattle.cuts.specs.Histories.{merges, joins, Phone, ServedTurn, servedIn, st
 use Rattle.cuts.specs.Histories.{afterMerge, afterMerging, afterJoin, afterJoining, happens}
 use Rattle.cuts.specs.Uncut.{keptAfter, runFits, MergesLists, NotTaken, no-room}
 use Rattle.cuts.specs.Accepting.{Accepted}
-use Rattle.cuts.proofs.Turning.{Kept}
+use Rattle.cuts.proofs.Keeping.{Kept, next, taken-to}
 use Rattle.cuts.proofs.MergeRefusals as merging
 use Rattle.queries.specs.declared.Keeping.{Keeping}
 use Rattle.queries.specs.declared.Keeping.the-variants.{All, Merged}
@@ -76,10 +76,10 @@ module _ (keep : Keeping) (v : Survey) (plan : List ℕ) (a : Accepted (v .table
     m = takenBy keep i (turnOf i) kept used
 
     abbrev x : ServedTurn
-    x = servedOf quantum (turnOf i)
+    x = servedOf quantum [] (turnOf i)
 
     abbrev turned : Phone
-    turned = afterServed (u .held) quantum (turnOf i)
+    turned = afterServed (u .held) x
 
     -- what the list's taking comes to, by its answer
     abbrev pub TakenAs : List ℕ → Written → Type 0
@@ -98,6 +98,12 @@ module _ (keep : Keeping) (v : Survey) (plan : List ℕ) (a : Accepted (v .table
 
       turned-keeps : Kept v q turned
       turned-keeps = advancing.turned-keeps keep v plan a first k before count state saved kept used u quantum output served
+
+      -- where its list ends
+      ends-at : next v q turned turned-keeps x [] one-waits .0 ≡ n + x .steps
+      ends-at =
+          let far = next v q turned turned-keeps x [] one-waits .1 .0 .takes .as-far refl in
+          omega (arith, far, taken-to v q turned turned-keeps (u .unsent))
 
       -- the turn is one of the uncut run
       turn : Turn t plan quantum (length output) n (n + x .steps)
@@ -206,8 +212,9 @@ module _ (keep : Keeping) (v : Survey) (plan : List ℕ) (a : Accepted (v .table
         not-taken-for : (y : ℕ) → mergeOf j .answer ≡ written.Refused y → NotTaken t q (n + x .steps) (length before) y
         not-taken-for y e =
             subst (λ l. NotTaken t q (n + x .steps) l y) (ap length kept-whole ∙ kept-length)
-            (merging.merge-refused v plan a turned turned-keeps (u .fits) others x [] one-waits (drop used kept) y
-            (ap (λ d. mergeOf d .answer) same-input ∙ e))
+            (subst (λ m. NotTaken t q m (length (turned .kept ++ drop used kept)) y) ends-at
+            (merging.merge-refused v plan a turned turned-keeps others x [] one-waits (drop used kept) y
+            (ap (λ d. mergeOf d .answer) same-input ∙ e)))
 
         by-answer : (w : Written) → mergeOf j .answer ≡ w → TakenAs (mergeOf j .kept) w
         by-answer (written.Refused y) e = (
@@ -218,7 +225,8 @@ module _ (keep : Keeping) (v : Survey) (plan : List ℕ) (a : Accepted (v .table
             let w = merge-writes j (λ y f. let z : _≡_ {A = ℕ} 0 1 = cc in omega arith) in
             let count-is : wordsIn (mergeOf j .answer) ≡ words = ap wordsIn e in
             let list = take words (mergeOf j .kept) in
-            let fits = merging.merge-fits v plan a turned turned-keeps (u .fits) others x [] one-waits (drop used kept) words
+            let fits = ap (λ m. runFits (q .ending) (after t q m)) (sym ends-at)
+            ∙ merging.merge-fits v plan a turned turned-keeps others x [] one-waits (drop used kept) words
             (ap (λ d. mergeOf d .answer) same-input ∙ e) in
             let front : list ≡ _ = ap (λ d. take d (mergeOf j .kept)) (sym count-is) ∙ w .kept .front in
             let all = sym (kept-all list) in

@@ -29,6 +29,7 @@ use Rattle.turns.proofs.Follows.{follows}
 use Rattle.turns.proofs.Progress.{progresses}
 use Rattle.turns.specs.Endings.{IsFull}
 use Rattle.turns.proofs.Endings.{endings}
+use Rattle.turns.proofs.Unsent.{given-unsent, next-unsent}
 use Rattle.cuts.specs.Uncut.{EndsAt}
 use Rattle.cuts.specs.Accepting.{Accepted}
 use Rattle.queries.specs.Stepping.{outputList}
@@ -58,14 +59,18 @@ module _ (i : TurnInput) (a : Accepted (i .survey .tables) (i .plan)) (n : ℕ) 
   start : stateIn (givenState i) ≡ s
   start = ap stateIn words ∙ loads-back t (i .plan) q (a .tables) (a .read) (i .survey .number) n s passes
 
+  -- with no threshold its run is the uncut one from there
+  run-is : (d : ℕ) → givenRun i d ≡ runFrom t q s d
+  run-is d = given-unsent i none-sent d ∙ ap (λ u. runFrom t q u d) start
+
   state-is : (d : ℕ) → after t q (n + d) .state ≡ givenRun i d .state
-  state-is d = after-state t q n d s passes ∙ sym (ap (λ u. runFrom t q u d .state) start)
+  state-is d = after-state t q n d s passes ∙ sym (ap (λ (r : Run). r .state) (run-is d))
 
   rows-are : (d : ℕ) → drop (length (after t q n .delivered)) (after t q (n + d) .delivered) ≡ givenRun i d .delivered
   rows-are d =
       ap (drop (length (after t q n .delivered))) (after-rows t q n d s passes)
       ∙ drop-append-seam (after t q n .delivered) (runFrom t q s d .delivered)
-      ∙ sym (ap (λ u. runFrom t q u d .delivered) start)
+      ∙ sym (ap (λ (r : Run). r .delivered) (run-is d))
 
   -- the list from there on is that of the run from the given state
   list-between : (d : ℕ) → listBetween t (i .plan) n (n + d) ≡ listAt (q .ending) [] (isOver (givenRun i d .state)) (givenRun i d .delivered)
@@ -86,7 +91,10 @@ module _ (i : TurnInput) (a : Accepted (i .survey .tables) (i .plan)) (n : ℕ) 
   no-more : IsFull i → length (i .output) < length (listBetween t (i .plan) n (n + m + 1))
   no-more f =
       let z = f .no-space in
-      let rows = row-more t q (stateIn (givenState i)) (z .state) m (z .here) (z .row) (z .next) (z .would-deliver) in
+      let rows = ap (λ (r : Run). r .delivered) (run-is (m + 1))
+      ∙ row-more t q s (z .state) m (ap (λ (r : Run). r .state) (sym (run-is m)) ∙ z .here) (z .row) (z .next)
+      (sym (next-unsent i none-sent (z .state)) ∙ z .would-deliver)
+      ∙ ap (λ (r : Run). r .delivered ++ (z .row ∷ [])) (sym (run-is m)) in
       let long = no-space-longer (q .ending) [] (length (i .output)) (givenRun i m .delivered) (z .row) (z .no-space) in
       let far : n + m + 1 ≡ n + (m + 1) = omega arith in
       let list = ap (listBetween t (i .plan) n) far ∙ list-between (m + 1) in

@@ -12,7 +12,7 @@ use Rattle.cuts.specs.Uncut.{EndsAt, runList, totals-pass, no-room}
 use Rattle.cuts.specs.Accepting.{Accepted}
 use Rattle.cuts.proofs.Accepting.{opening-accepts, accepted-form}
 use Rattle.cuts.proofs.Chains.{kept-some}
-use Rattle.cuts.proofs.AnyCut.{end-later}
+use Rattle.cuts.proofs.Keeping.{end-later}
 use Rattle.turns.specs.Surveys.{Survey}
 use Rattle.turns.specs.Opening.{Opens}
 use Rattle.queries.specs.declared.Keeping.{Keeping}

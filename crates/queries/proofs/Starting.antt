@@ -27,7 +27,7 @@ use Rattle.cuts.specs.Histories.{stepsIn, doneIn, history, fresh}
 use Rattle.cuts.specs.Uncut.{runFits}
 use Rattle.cuts.specs.Accepting.{Accepted}
 use Rattle.cuts.proofs.Accepting.{opening-accepts}
-use Rattle.cuts.proofs.Turning.{Kept}
+use Rattle.cuts.proofs.Keeping.{Kept}
 use Rattle.cuts.proofs.AnyCut.{fresh-keeps}
 use Rattle.queries.specs.declared.Keeping.{Keeping}
 use Rattle.queries.specs.Stepping.{keeps, keptOf}
@@ -70,6 +70,7 @@ module _ (v : Survey) (plan state : List ℕ) (saved : ℕ) (s : Started v plan 
         reached = refl;
         taken = refl;
         turns = refl;
+        unsent = tt;
         state-words = refl;
         state-count =
             s .counted

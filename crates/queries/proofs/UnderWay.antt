@@ -13,6 +13,7 @@ use Rattle.turns.specs.Surveys.{Survey}
 use Rattle.cuts.specs.Histories.{Event, Phone, stepsIn, history}
 use Rattle.cuts.specs.Premises.{Premises}
 use Rattle.cuts.specs.Uncut.{runFits}
+use Rattle.cuts.specs.Unsent.{Unsent}
 use Rattle.queries.specs.declared.Keeping.{Keeping}
 use Rattle.queries.specs.Stepping.{keptOf}
 
@@ -30,6 +31,8 @@ pub record UnderWay (keep : Keeping) (v : Survey) (plan : List ℕ) (first : Pho
   pub reached : history v plan first events ≡ held
   pub taken : held .waiting ≡ []
   pub turns : length (held .taken) ≡ count
+  -- to none of which a threshold was sent
+  pub unsent : Unsent (held .taken)
   pub state-words : take saved state ≡ held .saved
   pub state-count : saved ≡ length (held .saved)
   pub state-room : leastStateWords ≤ length state

@@ -22,6 +22,7 @@ use Rattle.turns.proofs.Follows.{follows}
 use Rattle.merges.specs.Merging.{MergeResult, mergeOf}
 use Rattle.cuts.specs.Histories.{Event, turns, merges, joins, Phone, ServedTurn, servedIn, turnInputOf, servedOf, afterServed, afterTurn}
 use Rattle.cuts.specs.Histories.{afterTaking, mergeInputOf, afterMerge, afterJoin, afterMerging, afterJoining, happens, history}
+use Rattle.cuts.proofs.Keeping.{served-more}
 use Rattle.queues.specs.declared.Entry.{Entry}
 use Rattle.queues.specs.Lists.{LentLists, lineOf, asideOf, hasOwner}
 use Rattle.queues.specs.Joining.{Joining, newEntry, joinTests, joinedAs, joinQueueOf, QueuedResult, listsWith}
@@ -59,30 +60,36 @@ module _ (v : Survey) (plan : List ℕ) (owner : ℕ) (s : Serving) (e : Entry) 
         output = s .output;
       }
 
-  after-served : (x : TurnEnding) → ((z : ℕ) → x ≡ ending.Refused z → ⊥) → afterTurn h quantum res x ≡ afterServed h quantum res
+  abbrev own : ServedTurn
+  own = servedOf quantum (s .threshold) res
+
+  after-served : (x : TurnEnding) → ((z : ℕ) → x ≡ ending.Refused z → ⊥) → afterTurn h own x ≡ afterServed h own
   after-served ending.Done f = refl
   after-served ending.Spent f = refl
   after-served ending.Full f = refl
   after-served (ending.Refused z) f = absurd (f z refl)
 
-  own-happens : ((x : ℕ) → res .answer .ending ≡ ending.Refused x → ⊥) → happens v plan h (ownTurn owner s e) ≡ afterServed h quantum res
+  own-happens : ((x : ℕ) → res .answer .ending ≡ ending.Refused x → ⊥) → happens v plan h (ownTurn owner s e) ≡ afterServed h own
   unfolding happens
   own-happens f =
-      ap (λ (i : TurnInput). afterTurn h quantum (turnOf i) (turnOf i .answer .ending)) same-input ∙ after-served (res .answer .ending) f
+      ap (λ (i : TurnInput). afterTurn h (servedOf quantum (s .threshold) (turnOf i)) (turnOf i .answer .ending)) same-input
+      ∙ after-served (res .answer .ending) f
 
   -- the entry that goes on holds the words that the turn saved
-  still-holds : ((x : ℕ) → res .answer .ending ≡ ending.Refused x → ⊥) → HoldsQuery owner plan (afterServed h quantum res .saved) (entryAfter e res)
+  still-holds : ((x : ℕ) → res .answer .ending ≡ ending.Refused x → ⊥) → HoldsQuery owner plan (own .left) (entryAfter e res)
   still-holds f =
       let o = follows (entryTurn v s e quantum) f .state in
       record { its = k .its; plans = k .plans; words = refl; count = ap length (o .front) ∙ sym (o .counted) }
 
-  told-same : (y : ServeResult) → Told v s e y → ownService owner s e y ≡ servedOf quantum res
+  told-same : (y : ServeResult) → Told v s e y → ownService v s e y ≡ own
   told-same y w i =
       record {
         quantum = quantum;
+        sent = s .threshold;
         ending = w .turned i .ending;
         steps = w .turned i .steps;
         list = take (w .turned i .listed) (w .output i);
+        left = take (w .turned i .saved) (res .state);
       }
 
 -- ---- what one call means for the owner
@@ -127,9 +134,6 @@ module _ (v : Survey) (owner : ℕ) (plan : List ℕ) where
   at-front saved q e es front hers (set-aside before behind d is hd a b c) = absurd (not-first owner e es (subst (NoneOf owner) front a) hers)
 
   -- ---- serving
-  served-more : (h : Phone) (n : ℕ) (r : TurnResult) → servedIn (afterServed h n r) ≡ servedIn h ++ (servedOf n r ∷ [])
-  served-more h n r = sym (append-assoc (h .taken) (h .waiting) (servedOf n r ∷ []))
-
   abbrev one-end : List Entry → Entry → List Entry
   one-end es d = es ++ (d ∷ [])
 
@@ -138,7 +142,7 @@ module _ (v : Survey) (owner : ℕ) (plan : List ℕ) where
     events es = ifOwn owner es y (ownTurn owner s)
 
     abbrev services : List Entry → List ServedTurn
-    services es = ifOwn owner es y (λ (e : Entry). ownService owner s e y)
+    services es = ifOwn owner es y (λ (e : Entry). ownService v s e y)
 
     -- a refused call is nobody's turn
     nobody's : {A : Type 0} (f : Entry → A) (es : List Entry) → isServed (y .answer .turned .ending) ≡ false → ifOwn owner es y f ≡ []
@@ -166,18 +170,18 @@ module _ (v : Survey) (owner : ℕ) (plan : List ℕ) where
       step-of : (line aside : List Entry) (xs ys : List Entry) → line ≡ es ++ xs → aside ≡ q .aside ++ ys
           → ((e .owner ≡ owner → ⊥) → NoneOf owner xs × NoneOf owner ys)
           → (e .owner ≡ owner → (hs : AtFront (h .saved) q e es)
-          → Waits owner plan (afterServed h (min (s .quantum) (e .allowance)) made .saved) (queue line aside))
+          → Waits owner plan (take (made .answer .saved) (made .state)) (queue line aside))
           → Step h (queue line aside) (events (q .line)) (services (q .line))
       step-of line aside xs ys f g others own = rw (front, counted) (by-owner (eqb (e .owner) owner) refl)
         where
           by-owner : (b : Bool) → eqb (e .owner) owner ≡ b
-              → Step h (queue line aside) (cond b (ownTurn owner s e ∷ []) []) (cond b (ownService owner s e y ∷ []) [])
+              → Step h (queue line aside) (cond b (ownTurn owner s e ∷ []) []) (cond b (ownService v s e y ∷ []) [])
           by-owner true hers =
               let at = at-front (h .saved) q e es front (eqb-true (e .owner) owner hers) w in
               let ev = own-happens v plan owner s e h (at .holds) (told .served) in
-              its-turn (ownTurn owner s e) (ownService owner s e y)
+              its-turn (ownTurn owner s e) (ownService v s e y)
               (subst (λ (z : Phone). Waits owner plan (z .saved) (queue line aside)) (sym ev) (own (eqb-true (e .owner) owner hers) at))
-              (ap servedIn ev ∙ served-more h (min (s .quantum) (e .allowance)) made
+              (ap servedIn ev ∙ served-more h (servedOf (min (s .quantum) (e .allowance)) (s .threshold) made)
               ∙ ap (λ (z : ServedTurn). servedIn h ++ (z ∷ [])) (sym (told-same v plan owner s e h (at .holds) y told)))
           by-owner false not-hers =
               let n = others (eqb-false (e .owner) owner not-hers) in
@@ -185,7 +189,7 @@ module _ (v : Survey) (owner : ℕ) (plan : List ℕ) where
               (tail-waits (h .saved) q e es front (eqb-false (e .owner) owner not-hers) w xs ys (n .0) (n .1)))
 
     serve-step : {q′ : Queue} → Serviced v s q y q′ → Step h q′ (events (q .line)) (services (q .line))
-    serve-step (not-served e) = rw (nobody's (ownTurn owner s) (q .line) e, nobody's (λ (x : Entry). ownService owner s x y) (q .line) e) (not-its w)
+    serve-step (not-served e) = rw (nobody's (ownTurn owner s) (q .line) e, nobody's (λ (x : Entry). ownService v s x y) (q .line) e) (not-its w)
     serve-step (off e es front told) =
         step-of e es front told es (q .aside) [] [] (sym (append-nil es)) (sym (append-nil (q .aside))) (λ _. (none-of-no-one owner, none-of-no-one owner))
         (λ hers at. gone (at .behind-none) (at .aside-none))

@@ -16,7 +16,7 @@ use Rattle.plans.specs.Plans.{Plan, planOf}
 use Rattle.steps.specs.Steps.{after}
 use Rattle.turns.specs.Surveys.{Survey}
 use Rattle.turns.specs.Opening.{openOf, Opens}
-use Rattle.cuts.specs.Histories.{Event, Phone, servedIn, stepsIn, happens, history, fresh}
+use Rattle.cuts.specs.Histories.{Event, Phone, servedIn, happens, history, fresh}
 use Rattle.cuts.specs.Premises.{Premises}
 use Rattle.cuts.specs.Uncut.{EndsAt, AsUncut, runList}
 use Rattle.cuts.proofs.AnyCut.{any-cut}
@@ -75,7 +75,7 @@ pub same-list : (v : Survey) (plan : List ℕ) (h k : Phone) → AsUncut v (plan
 same-list v plan h k a b f g =
     let x = a .finished (f .0) (f .1) in let y = b .finished (g .0) (g .1) in
     x .1 ∙ ap (λ (n : ℕ). runList (planOf plan .ending) (after (v .tables) (planOf plan) n))
-    (ends-once (v .tables) (planOf plan) (stepsIn (h .taken)) (stepsIn (k .taken)) (x .0) (y .0)) ∙ sym (y .1)
+    (ends-once (v .tables) (planOf plan) (a .upto) (b .upto) (x .0) (y .0)) ∙ sym (y .1)
 
 -- ---- a served join
 pub joined-waits : (v : Survey) (q : Queue) (m : MadeCall) (j : Joining) → firstFailing (joinTests v (lentTo q m) j) ≡ none

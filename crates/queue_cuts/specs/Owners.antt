@@ -17,7 +17,7 @@ use Rattle.queries.specs.Stepping.{isServed}
 use Rattle.queues.specs.declared.Entry.{Entry}
 use Rattle.queues.specs.Lists.{LentLists, hasOwner, ownersIn, entryPlan}
 use Rattle.queues.specs.Joining.{joinTests}
-use Rattle.queues.specs.Serving.{Serving, ServeResult, serveOf}
+use Rattle.queues.specs.Serving.{Serving, ServeResult, entryAfter, frontTurn, serveOf}
 use Rattle.queues.specs.Calls.{Queue, QueueCall, join, serve, topUp, MadeCall, lentTo, afterCall}
 
 -- what happens: a call on the queue, by anyone; or the owner's phone takes its earliest list, by a merge or a join
@@ -31,13 +31,16 @@ pub data Act : Type 0 where
 abbrev pub ownTurn : ℕ → Serving → Entry → Event
 ownTurn owner s e = turns (drop (e .saved) (e .state)) (min (s .quantum) (e .allowance)) (s .threshold) (s .output)
 
-abbrev pub ownService : ℕ → Serving → Entry → ServeResult → ServedTurn
-ownService owner s e r =
+-- as the call answered it; the words that it left are in its entry, if that goes on
+abbrev pub ownService : Survey → Serving → Entry → ServeResult → ServedTurn
+ownService v s e r =
     record {
       quantum = min (s .quantum) (e .allowance);
+      sent = s .threshold;
       ending = r .answer .turned .ending;
       steps = r .answer .turned .steps;
       list = take (r .answer .turned .listed) (r .output);
+      left = take (r .answer .turned .saved) (entryAfter e (frontTurn v s e) .state);
     }
 
 abbrev pub ifOwn {ℓ} : {A : Type ℓ} → ℕ → List Entry → ServeResult → (Entry → A) → List A
@@ -52,7 +55,7 @@ callEvents v owner q m (topUp o n) = []
 abbrev pub callServices : Survey → ℕ → Queue → MadeCall → QueueCall → List ServedTurn
 callServices v owner q m (join j) = []
 callServices v owner q m (serve s) =
-    ifOwn owner (q .line) (serveOf v (lentTo q m) s) (λ (e : Entry). ownService owner s e (serveOf v (lentTo q m) s))
+    ifOwn owner (q .line) (serveOf v (lentTo q m) s) (λ (e : Entry). ownService v s e (serveOf v (lentTo q m) s))
 callServices v owner q m (topUp o n) = []
 
 unfoldable pub ownEvents : Survey → ℕ → Queue → List Act → List Event

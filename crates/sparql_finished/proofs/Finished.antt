@@ -1,6 +1,7 @@
 -- Demands 2 and 3 together: a query that is finished, done answered and every list taken, has SPARQL's rows, best-of list or groups
 -- of its tables and its plan, whatever the turns, merges and joins were.
 use Prim.Native.Nat.{ℕ}
+use native.Mathlib.Omega.{arith}
 use mathlib.Core.Path.{_≡_, sym, _∙_, ap, subst}
 use mathlib.Core.Bool.{true}
 use mathlib.Core.List.{List, [], _++_, map, append-nil}
@@ -17,11 +18,13 @@ use Rattle.cuts.specs.Histories.{Event, Phone, servedIn, stepsIn, doneIn, histo
 use Rattle.cuts.specs.Premises.{Premises}
 use Rattle.cuts.specs.TurnRows.{deliveredIn}
 use Rattle.cuts.specs.Uncut.{EndsAt, runFits, runList}
+use Rattle.cuts.specs.Unsent.{Unsent}
 use Rattle.cuts.specs.Accepting.{Accepted}
 use Rattle.cuts.proofs.Accepting.{opening-accepts}
 use Rattle.cuts.proofs.AnyCut.{any-cut}
 use Rattle.cuts.proofs.TurnRows.{rows-are-uncut}
-use Rattle.cuts.proofs.KeptFits.{kept-fits}
+use Rattle.cuts.proofs.Placing.{placed-most}
+use Rattle.cuts.proofs.Unsent.{upto-is}
 use Rattle.sparql.specs.Algebra.{ToList}
 use Rattle.sparql.specs.Reading.{mappingOf, solutionsOf, isWord}
 use Rattle.sparql.specs.Answers.{YearByYear, Answer}
@@ -55,12 +58,20 @@ pub finished : (v : Survey) (plan state : List ℕ) → Opens v plan state → (
     → FinishedBy (v .tables) plan (deliveredIn v plan (fresh (openOf v plan state)) es) (history v plan (fresh (openOf v plan state)) es)
 finished v plan state o es p done taken =
     let h = history v plan (fresh (openOf v plan state)) es in
-    let f = any-cut v plan state o es p .finished done taken in
+    let c = any-cut v plan state o es p in
+    let f = c .finished done taken in
     let all-taken : servedIn h ≡ h .taken = ap (λ l. h .taken ++ l) taken ∙ append-nil (h .taken) in
-    let rows = rows-are-uncut v plan state o es p ∙ ap (λ l. after (v .tables) (planOf plan) (stepsIn l) .delivered) all-taken in
-    let k = run-answers (v .tables) plan (opening-accepts v plan state o) (stepsIn (h .taken)) (f .0) (kept-fits v plan state o es p) (h .kept) (f .1) in
+    let to : Unsent (servedIn h) → c .upto ≡ stepsIn (h .taken) = λ u. upto-is v (planOf plan) h u c in
+    let rows : Unsent (servedIn h) → deliveredIn v plan (fresh (openOf v plan state)) es ≡ after (v .tables) (planOf plan) (c .upto) .delivered = λ u.
+    rows-are-uncut v plan state o es p u
+    ∙ ap (λ l. after (v .tables) (planOf plan) (stepsIn l) .delivered) all-taken
+    ∙ ap (λ n. after (v .tables) (planOf plan) n .delivered) (sym (to u)) in
+    let k = run-answers (v .tables) plan (opening-accepts v plan state o) (c .upto) (f .0) (c .fits) (h .kept) (f .1) in
     record {
-      delivered = subst (λ bs. ToList (solutionsOf (v .tables) (planOf plan)) (map mappingOf bs)) (sym rows) (k .run);
-      years = subst (YearByYear (v .tables) (planOf plan)) (sym rows) (k .years);
+      steps = c .upto;
       kept = k;
+      no-more = omega (arith, placed-most v (planOf plan) 0 (c .upto) (h .taken) (c .taken));
+      delivered = λ u. subst (λ bs. ToList (solutionsOf (v .tables) (planOf plan)) (map mappingOf bs)) (sym (rows u)) (k .run);
+      years = λ u. subst (YearByYear (v .tables) (planOf plan)) (sym (rows u)) (k .years);
+      as-many = λ u. sym (to u);
     }

@@ -9,7 +9,7 @@ use Rattle.plans.specs.Plans.{planOf}
 use Rattle.turns.specs.Surveys.{Survey}
 use Rattle.cuts.proofs.Accepting.{opening-accepts, accepted-form}
 use Rattle.cuts.proofs.Chains.{kept-some}
-use Rattle.cuts.proofs.AnyCut.{end-later}
+use Rattle.cuts.proofs.Keeping.{end-later}
 use Rattle.queries.specs.declared.Keeping.the-variants.{All}
 use Rattle.queries.specs.declared.Played.the-variants as played
 use Rattle.queries.specs.Rounds.{Lent, playOf}

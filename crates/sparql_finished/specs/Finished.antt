@@ -1,5 +1,5 @@
 -- What a finished query has, however it was cut, and what a play that answers finished leaves. Assumes nothing: these are definitions.
-use Prim.Native.Nat.{ℕ}
+use Prim.Native.Nat.{ℕ, _≤_}
 use mathlib.Core.Path.{_≡_}
 use mathlib.Core.Bool.{true}
 use mathlib.Core.List.{List, map}
@@ -9,8 +9,9 @@ use Rattle.words.specs.Sequences.{all}
 use Rattle.tables.specs.Tables.{Tables}
 use Rattle.plans.specs.Plans.{planOf}
 use Rattle.steps.specs.Steps.{after}
-use Rattle.cuts.specs.Histories.{Phone, stepsIn}
+use Rattle.cuts.specs.Histories.{Phone, servedIn, stepsIn}
 use Rattle.cuts.specs.Uncut.{EndsAt}
+use Rattle.cuts.specs.Unsent.{Unsent}
 use Rattle.sparql.specs.Algebra.{ToList}
 use Rattle.sparql.specs.Reading.{mappingOf, solutionsOf, isWord}
 use Rattle.sparql.specs.Answers.{YearByYear, Answer}
@@ -24,12 +25,17 @@ pub record SparqlAnswer (t : Tables) (plan : List ℕ) (steps : ℕ) (list : Lis
   pub answer : Answer t (planOf plan) (after t (planOf plan) steps .delivered) (planOf plan .ending) list
   pub words : all isWord list ≡ true
 
--- a query whose turns delivered some rows, joined in order: these too are SPARQL's solutions, each as often, year after year. The turns' steps are
--- the whole run's, and the kept list is the answer
+-- a query whose turns delivered some rows, joined in order: the kept list is the answer, whatever thresholds were sent. Where none was, these rows too
+-- are SPARQL's solutions, each as often, year after year, and the turns' steps are the whole run's
 pub record FinishedBy (t : Tables) (plan : List ℕ) (rows : List Bindings) (h : Phone) : Type 0 where
-  pub delivered : ToList (solutionsOf t (planOf plan)) (map mappingOf rows)
-  pub years : YearByYear t (planOf plan) rows
-  pub kept : SparqlAnswer t plan (stepsIn (h .taken)) (h .kept)
+  -- the steps of the whole uncut run
+  pub steps : ℕ
+  pub kept : SparqlAnswer t plan steps (h .kept)
+  -- the turns took no more
+  pub no-more : stepsIn (h .taken) ≤ steps
+  pub delivered : Unsent (servedIn h) → ToList (solutionsOf t (planOf plan)) (map mappingOf rows)
+  pub years : Unsent (servedIn h) → YearByYear t (planOf plan) rows
+  pub as-many : Unsent (servedIn h) → stepsIn (h .taken) ≡ steps
 
 -- the first words of the kept buffer, so many as answered, are the answer, and those past them are as they were
 pub record PlayedOut (t : Tables) (plan before kept : List ℕ) (words : ℕ) : Type 0 where

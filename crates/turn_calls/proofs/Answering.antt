@@ -49,7 +49,7 @@ module _ (i : TurnInput) where
 
   -- those of a turn start at the given state
   abbrev runFor : State → Progress
-  runFor s = progress (i .survey .tables) (givenPlan i) (fitsIn (givenPlan i .ending) (i .threshold) (length (i .output))) (i .quantum) s
+  runFor s = progress (i .survey .tables) (givenPlan i) (i .threshold) (fitsIn (givenPlan i .ending) (i .threshold) (length (i .output))) (i .quantum) s
 
   served-by : firstFailing (turnTests i) ≡ none → turnOf i ≡ finished i (served i)
   unfolding turnOf

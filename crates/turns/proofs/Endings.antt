@@ -8,8 +8,9 @@ use mathlib.Core.List.{List, [], _∷_, _++_}
 use lib.ListN.{length}
 use Rattle.words.specs.Bindings.{Bindings}
 use Rattle.words.proofs.Testing.{none-some, some-injective}
-use Rattle.steps.specs.Steps.{State, delivers, step, Run}
+use Rattle.steps.specs.Steps.{State, delivers, Run}
 use Rattle.steps.specs.Saved.{positionWords, savedWords, stateIn}
+use Rattle.prunings.specs.Pruning.{prunedStep}
 use Rattle.lists.specs.Gathering.{gathered}
 use Rattle.lists.specs.Space.{NoSpaceFor}
 use Rattle.lists.proofs.Room.{no-space-longer, longer-no-space}
@@ -56,7 +57,7 @@ module _ (i : TurnInput) (serve : Served i) where
   abbrev rowsList : List Bindings → List ℕ
   rowsList bs = gathered (givenPlan i .ending) (i .threshold) bs
 
-  ended-as : (p : Progress) → AfterAttempts (i .survey .tables) (givenPlan i) (roomFor i) (stateIn (givenState i)) (i .quantum) p
+  ended-as : (p : Progress) → AfterAttempts (i .survey .tables) (givenPlan i) (i .threshold) (roomFor i) (stateIn (givenState i)) (i .quantum) p
       → turnOf i .answer .steps ≡ stepsOf p → turnOf i .answer .ending ≡ endingOf p
       → turnRun i ≡ record { state = leftOf p; delivered = rowsOf p } → Ended i
   ended-as (going n u bs) h s e r =
@@ -94,11 +95,12 @@ module _ (i : TurnInput) (serve : Served i) where
   ended = ended-as (served i) (served-attempts i) (served-steps i serve) (served-ending i serve) (served-run i serve)
 
   -- where a step was taken the run went on, and what it delivered had space
-  went-on : (n : ℕ) → GoesOn (i .survey .tables) (givenPlan i) (roomFor i) (givenRun i n) → (¬ (givenRun i n .state ≡ none)) × (¬ NoSpace i n)
+  went-on : (n : ℕ) → GoesOn (i .survey .tables) (givenPlan i) (i .threshold) (roomFor i) (givenRun i n)
+      → (¬ (givenRun i n .state ≡ none)) × (¬ NoSpace i n)
   went-on n g = (
     λ z. none-some (sym z ∙ g .here),
     λ s. let same : s .state ≡ g .state = some-injective (sym (s .here) ∙ g .here) in
-        let fits = g .fitting (s .row) (s .next) (ap (step (i .survey .tables) (givenPlan i)) (sym same) ∙ s .would-deliver) in
+        let fits = g .fitting (s .row) (s .next) (ap (prunedStep (i .survey .tables) (givenPlan i) (i .threshold)) (sym same) ∙ s .would-deliver) in
         let short = has-room i (givenRun i n .delivered ++ (s .row ∷ [])) .0 fits in
         let long = no-space-longer (givenPlan i .ending) (i .threshold) (length (i .output)) (givenRun i n .delivered) (s .row) (s .no-space) in
         omega arith,

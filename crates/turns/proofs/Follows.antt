@@ -1,4 +1,4 @@
--- A served turn is steps of the uncut run from the state that it was given, and a served opening writes where the run starts.
+-- A served turn is steps of the run from the state that it was given, which its threshold prunes, and a served opening writes where the uncut run starts.
 use Prim.Native.Nat.{ℕ, _≤_}
 use native.Mathlib.Omega.{arith}
 use mathlib.Core.Path.{_≡_, refl, sym, _∙_, ap, subst⁻¹}

@@ -6,5 +6,6 @@ pub mod Follows
 pub mod Closes
 pub mod Progress
 pub mod Endings
+pub mod Unsent
 pub mod OnTheRun
 pub mod AfterDone

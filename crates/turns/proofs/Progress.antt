@@ -20,9 +20,10 @@ module _ (i : TurnInput) (limits : TurnLimits i) where
   first-row b =
       let l = one-row (givenPlan i .ending) (i .threshold) b in has-room i (b ∷ []) .1 (omega (arith, limits .output-room))
 
-  advances : (p : Progress) → AfterAttempts (i .survey .tables) (givenPlan i) (roomFor i) (stateIn (givenState i)) (i .quantum) p
+  advances : (p : Progress) → AfterAttempts (i .survey .tables) (givenPlan i) (i .threshold) (roomFor i) (stateIn (givenState i)) (i .quantum) p
       → (1 ≤ stepsOf p) × (stepsOf p ≤ i .quantum)
-  advances = some-steps (i .survey .tables) (givenPlan i) (roomFor i) (stateIn (givenState i)) first-row (i .quantum) (limits .one-step)
+  advances =
+      some-steps (i .survey .tables) (givenPlan i) (i .threshold) (roomFor i) (stateIn (givenState i)) first-row (i .quantum) (limits .one-step)
 
 pub progresses : (i : TurnInput) → Served i → Progresses i
 progresses i h =

@@ -74,7 +74,7 @@ module _ (v : Survey) (plan state : List ℕ) where
 -- ---- a turn
 module _ (i : TurnInput) where
   -- the steps of a turn never end in a refusal
-  never-refused : (p : Progress) → How (i .survey .tables) (givenPlan i) (roomFor i) (i .quantum) p → (x : ℕ)
+  never-refused : (p : Progress) → How (i .survey .tables) (givenPlan i) (i .threshold) (roomFor i) (i .quantum) p → (x : ℕ)
       → ¬ (finished i p .answer .ending ≡ Refused x)
   never-refused (going n s bs) h x e = let z : _≡_ {A = ℕ} 0 1 = cc in omega arith
   never-refused (stopped Done n s bs) h x e = let z : _≡_ {A = ℕ} 0 1 = cc in omega arith
@@ -101,7 +101,7 @@ module _ (i : TurnInput) where
   abbrev AsEnded : Turned → Type 0
   AsEnded a = valuesOf a ≡ record { steps = a .steps; saved = a .saved; listed = a .listed }
 
-  steps-answer : (p : Progress) → How (i .survey .tables) (givenPlan i) (roomFor i) (i .quantum) p
+  steps-answer : (p : Progress) → How (i .survey .tables) (givenPlan i) (i .threshold) (roomFor i) (i .quantum) p
       → (refusalOf (finished i p .answer .ending) ≡ 0) × AsEnded (finished i p .answer)
   steps-answer (going n s bs) h = (refl, refl)
   steps-answer (stopped Done n s bs) h = (refl, let e = ap (λ o. length (savedWords (i .survey .number) o)) (h .0) in rw e)

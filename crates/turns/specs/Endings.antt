@@ -5,7 +5,8 @@ use mathlib.Core.Logic.{_↔_}
 use mathlib.Core.Option.{none, some}
 use lib.ListN.{length}
 use Rattle.words.specs.Bindings.{Bindings}
-use Rattle.steps.specs.Steps.{State, delivers, step}
+use Rattle.steps.specs.Steps.{State, delivers}
+use Rattle.prunings.specs.Pruning.{prunedStep}
 use Rattle.lists.specs.Space.{NoSpaceFor}
 use Rattle.turns.specs.declared.TurnEnding.the-variants.{Done, Spent, Full}
 use Rattle.turns.specs.Turns.{TurnInput, givenPlan, turnOf}
@@ -17,7 +18,7 @@ pub record NoSpace (i : TurnInput) (n : ℕ) : Type 0 where
   pub row : Bindings
   pub next : State
   pub here : givenRun i n .state ≡ some state
-  pub would-deliver : step (i .survey .tables) (givenPlan i) state ≡ delivers row next
+  pub would-deliver : prunedStep (i .survey .tables) (givenPlan i) (i .threshold) state ≡ delivers row next
   pub no-space : NoSpaceFor (givenPlan i .ending) (length (i .output)) (givenRun i n .delivered) row
 
 -- done, after at most the quantum, with no state words

@@ -1,21 +1,22 @@
--- A served turn is steps of the uncut run, from the state that it was given: its state is that many steps on, and its list is
--- made of the rows of those steps alone. A served opening writes where the run starts. Assumes nothing: these are definitions.
+-- A served turn is steps of a run, from the state that it was given, which its threshold prunes: its state is that many steps on, and its list is
+-- made of the rows of those steps alone. A served opening writes where the uncut run starts. Assumes nothing: these are definitions.
 use Prim.Native.Nat.{ℕ, _≤_}
 use mathlib.Core.List.{List}
 use lib.ListN.{length}
 use Rattle.words.specs.Answers.{wordsIn}
 use Rattle.words.specs.Buffers.{Overwritten}
 use Rattle.plans.specs.Plans.{planOf}
-use Rattle.steps.specs.Steps.{Run, runFrom, after}
+use Rattle.steps.specs.Steps.{Run, after}
 use Rattle.steps.specs.Saved.{savedWords, stateIn}
+use Rattle.prunings.specs.Pruning.{prunedFrom}
 use Rattle.lists.specs.Closing.{listAt}
 use Rattle.turns.specs.Surveys.{Survey}
 use Rattle.turns.specs.Opening.{openOf}
 use Rattle.turns.specs.Turns.{TurnInput, givenState, givenPlan, isOver, turnOf}
 
--- the run from the state that a turn was given
+-- the run from the state that a turn was given, pruned by its threshold: the uncut one where it was sent none
 abbrev pub givenRun : TurnInput → ℕ → Run
-givenRun i n = runFrom (i .survey .tables) (givenPlan i) (stateIn (givenState i)) n
+givenRun i n = prunedFrom (i .survey .tables) (givenPlan i) (i .threshold) (stateIn (givenState i)) n
 
 -- that run after the steps that the turn answers
 abbrev pub turnRun : TurnInput → Run

@@ -11,8 +11,9 @@ use Rattle.words.specs.Tests.{Test, firstFailing}
 use Rattle.tables.specs.Tables.{Tables, tableTests}
 use Rattle.plans.specs.Endings.{Ending}
 use Rattle.plans.specs.Plans.{Plan, planOf, planTests}
-use Rattle.steps.specs.Steps.{State, step}
+use Rattle.steps.specs.Steps.{State}
 use Rattle.steps.specs.Saved.{stateIn, savedWords, leastStateWords, shapeRight, surveyRight, placesRight}
+use Rattle.prunings.specs.Pruning.{prunedStep}
 use Rattle.lists.specs.Gathering.{gathered, leastOutput, thresholdRight}
 use Rattle.lists.specs.Closing.{listAt}
 use Rattle.turns.specs.declared.TurnEnding.{TurnEnding}
@@ -50,10 +51,10 @@ valuesOf a = valuesBy (a .ending) (a .steps) (a .saved) (a .listed)
 abbrev pub Progress : Type 0
 Progress = bounded.Progress State Bindings
 
--- at most so many steps from a state, as long as the rows that they deliver fit
-unfoldable pub progress : Tables → Plan → (List Bindings → Bool) → ℕ → State → Progress
+-- at most so many steps from a state, as long as the rows that they deliver fit: a partial match that the threshold leaves out is passed by
+unfoldable pub progress : Tables → Plan → List ℕ → (List Bindings → Bool) → ℕ → State → Progress
 unfolding bounded.progress
-progress t q fits quantum s = bounded.progress (step t q) fits quantum s
+progress t q threshold fits quantum s = bounded.progress (prunedStep t q threshold) fits quantum s
 
 -- the list of some rows fits an output of so many words
 abbrev pub fitsIn : Ending → List ℕ → ℕ → List Bindings → Bool
@@ -133,7 +134,7 @@ finished i (stopped e n s bs) = resultOf i e n (savedWords (i .survey .number) s
 -- the steps of a turn that is not refused
 abbrev pub served : TurnInput → Progress
 served i =
-    progress (i .survey .tables) (givenPlan i) (fitsIn (givenPlan i .ending) (i .threshold) (length (i .output))) (i .quantum)
+    progress (i .survey .tables) (givenPlan i) (i .threshold) (fitsIn (givenPlan i .ending) (i .threshold) (length (i .output))) (i .quantum)
     (stateIn (givenState i))
 
 -- a refusal answers its number alone, and changes nothing

@@ -2,3 +2,4 @@ pub mod Holds
 pub mod Finished
 pub mod ByOutcomes
 pub mod YearsHold
+pub mod PruningsHold

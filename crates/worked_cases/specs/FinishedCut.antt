@@ -5,7 +5,7 @@ use Rattle.turns.specs.declared.TurnEnding.the-variants.{Done, Spent}
 use Rattle.turns.specs.Opening.{Opened, openOf}
 use Rattle.cuts.specs.Histories.{Event, turns, merges, Phone, fresh, history}
 use Rattle.worked_cases.specs.Calls.{surveyed}
-use Rattle.worked_cases.specs.Wood.{wood, planTop, stem}
+use Rattle.worked_cases.specs.Wood.{wood, planTop, stateAt, stem}
 
 abbrev pub openedTop : Opened
 openedTop = openOf (surveyed wood) planTop (replicate 11 7)
@@ -30,8 +30,8 @@ expected =
     record {
       saved = [];
       taken =
-          record { quantum = 6; ending = Spent; steps = 6; list = stem 2 310 }
-          ∷ record { quantum = 100; ending = Done; steps = 4; list = [] }
+          record { quantum = 6; sent = []; ending = Spent; steps = 6; list = stem 2 310; left = stateAt (2 ∷ []) }
+          ∷ record { quantum = 100; sent = stem 2 310; ending = Done; steps = 4; list = []; left = [] }
           ∷ [];
       waiting = [];
       kept = stem 2 310;

@@ -2,6 +2,7 @@ pub mod Wood
 pub mod Calls
 pub mod Starred
 pub mod Years
+pub mod Prunings
 pub mod Refusals
 pub mod Misreadings
 pub mod FinishedCut

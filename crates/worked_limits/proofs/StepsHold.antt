@@ -23,9 +23,9 @@ abbrev doneAtOnce : Progress
 doneAtOnce = stopped Done 1 none []
 
 -- done after one step, and so after any more
-stays : (t : Tables) (q : Plan) (fits : List Bindings → Bool) (n : ℕ) (s : State) → progress t q fits 1 s ≡ doneAtOnce
-    → progress t q fits (1 + n) s ≡ doneAtOnce
-stays t q fits n s e = stopped-stays t q fits s 1 (1 + n) Done 1 none [] e (omega arith)
+stays : (t : Tables) (q : Plan) (threshold : List ℕ) (fits : List Bindings → Bool) (n : ℕ) (s : State)
+    → progress t q threshold fits 1 s ≡ doneAtOnce → progress t q threshold fits (1 + n) s ≡ doneAtOnce
+stays t q threshold fits n s e = stopped-stays t q threshold fits s 1 (1 + n) Done 1 none [] e (omega arith)
 
 -- an accepted turn that is done after one step
 done : (i : TurnInput) → firstFailing (turnTests i) ≡ none → served i ≡ doneAtOnce → turnOf i ≡ resultOf i Done 1 [] (turnList i Done [])
@@ -51,5 +51,5 @@ plan = givenPlan (emptyTurn 1)
 pub step-limit : StepLimit
 step-limit =
     done (emptyTurn 1000000) accepted
-    (stays stems plan (fitsIn (plan .ending) [] 128) 999999 (stateIn (givenState (emptyTurn 1))) first-step)
+    (stays stems plan [] (fitsIn (plan .ending) [] 128) 999999 (stateIn (givenState (emptyTurn 1))) first-step)
     ∙ ap (resultOf (emptyTurn 1000000) Done 1 []) no-list

@@ -101,8 +101,8 @@ doneWith list kept =
     record {
       saved = [];
       taken =
-          record { quantum = 9; ending = Spent; steps = 9; list = list }
-          ∷ record { quantum = 9; ending = Done; steps = 1; list = nothing }
+          record { quantum = 9; sent = []; ending = Spent; steps = 9; list = list; left = atPlace 0xF0000003 }
+          ∷ record { quantum = 9; sent = []; ending = Done; steps = 1; list = nothing; left = [] }
           ∷ [];
       waiting = [];
       kept = kept;

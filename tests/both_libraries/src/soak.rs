@@ -1,5 +1,5 @@
 //! A queue of 32 owners under a long list of calls: random plans, joins, top-ups and quanta, refused calls among them. Each owner's finished
-//! list is compared with that of the same query run alone, its steps with those of that run, what is left to it with what was granted, and its
+//! list is compared with that of the same query run alone, its steps with those of that run, no more where it was sent a threshold, what is left to it with what was granted, and its
 //! waits with the promise: as many served turns as its place from the front, and no more.
 
 use std::collections::BTreeMap;
@@ -86,6 +86,7 @@ struct Owner {
     query: usize,
     granted: u64,
     steps: u64,
+    sent: bool,
     kept: Vec<u32>,
     wait: Option<(usize, usize)>,
 }
@@ -172,6 +173,7 @@ impl Soak<'_> {
             query: at,
             granted: allowance,
             steps: 0,
+            sent: false,
             kept: Vec::new(),
             wait: None,
         };
@@ -225,6 +227,9 @@ impl Soak<'_> {
             aside_entries: self.aside_entries,
         };
         let served = library.serve(&tables, lists, quantum, &threshold, &mut output);
+        if let Some(known) = front.and_then(|owner| self.owners.get_mut(&owner)) {
+            known.sent |= !threshold.is_empty();
+        }
         let right = match (quantum, front) {
             (0 | 1_000_001, _) => QUANTUM_WRONG,
             (_, None) => EMPTY_LINE,
@@ -269,7 +274,11 @@ impl Soak<'_> {
                 known.kept == self.alone[query].0,
                 "the owner's list is that of its query alone",
             );
-            expect(known.steps == self.alone[query].1, "its steps are those of its query alone");
+            let steps = self.alone[query].1;
+            expect(
+                known.steps == steps || known.sent && known.steps < steps,
+                "its steps are those of its query alone, or fewer by a threshold",
+            );
         } else {
             self.owners.insert(owner, known);
         }

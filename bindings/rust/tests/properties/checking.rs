@@ -134,7 +134,9 @@ pub fn cut(tally: &Tally, random: &mut Random, query: &Query, most_quantum: usiz
     let mut state = check_open(tally, query, &inputs::calls::open(random, query)).expect("the opening is accepted");
     let (mut given, mut steps, mut held) = (query.saved(0).len(), 0, 0);
     let (mut kept, mut threshold) = (random.words(if rows { 0 } else { whole.len() + 2 }), Vec::new());
+    let mut sent = false;
     loop {
+        sent |= !Vec::is_empty(&threshold);
         let call = Turn {
             tables: query.tables.clone(),
             survey: query.survey,
@@ -171,6 +173,8 @@ pub fn cut(tally: &Tally, random: &mut Random, query: &Query, most_quantum: usiz
             break;
         }
     }
-    assert_eq!((steps, given), (query.run.steps(), 0));
+    // A threshold prunes: the steps are no more, and the list is the same.
+    assert!(if sent { steps <= query.run.steps() } else { steps == query.run.steps() });
+    assert_eq!(given, 0);
     assert_eq!(kept[..held], whole);
 }

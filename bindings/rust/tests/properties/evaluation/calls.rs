@@ -4,7 +4,7 @@ use std::collections::BTreeSet;
 
 use super::lists;
 use super::plan::{self, Ending, Plan};
-use super::run::{self, Run};
+use super::run::{self, Bound, Run};
 use super::tables::Tables;
 use super::words::*;
 
@@ -180,29 +180,42 @@ impl<'a> Space<'a> {
     }
 }
 
-/// The steps of a turn from a state that the run makes `start` steps to, and how it ends.
-fn walked(query: &Query, start: usize, quantum: usize, output: usize) -> (usize, How) {
+/// The state that a turn's step leads to, by numbers: one that would open a level moves its place on where the threshold leaves the match out.
+fn next(query: &Query, at: usize, threshold: &[u32]) -> usize {
     let Query { plan, run, .. } = query;
+    let branch = &plan.branches[run.states[at][1] as usize];
+    let pruned = |bound: &Bound| !threshold.is_empty() && lists::left_out(plan, branch, bound, threshold);
+    match &run.opened[at] {
+        Some(bound) if pruned(bound) => run.place_on(at),
+        _ => at + 1,
+    }
+}
+
+/// The states that a turn's steps are made from, where the run makes `start` steps to the first, the one that it ends at, and how.
+fn walked(query: &Query, start: usize, call: &Turn) -> (Vec<usize>, usize, How) {
+    let Query { plan, run, .. } = query;
+    let (quantum, output) = (call.quantum as usize, call.output.len());
     let mut space = Space {
         plan,
         capacity: output / plan.width(),
         rows: 0,
         groups: BTreeSet::new(),
     };
-    let mut at = start;
+    let (mut way, mut at) = (Vec::new(), start);
     loop {
         if let Some(row) = &run.delivered[at] {
             space.take(row);
         }
-        at += 1;
+        way.push(at);
+        at = next(query, at, &call.threshold);
         if at == run.steps() {
-            return (at - start, How::Done);
+            return (way, at, How::Done);
         }
-        if at - start == quantum {
-            return (at - start, How::Spent);
+        if way.len() == quantum {
+            return (way, at, How::Spent);
         }
         if run.delivered[at].as_ref().is_some_and(|row| !space.has_space(row)) {
-            return (at - start, How::Full);
+            return (way, at, How::Full);
         }
     }
 }
@@ -213,20 +226,19 @@ pub fn turn(query: &Query, call: &Turn) -> (Result<Answer, u32>, Vec<u32>, Vec<u
         Ok(start) => start,
         Err(number) => return (Err(number), call.state.clone(), call.output.clone()),
     };
-    let (steps, how) = walked(query, start, call.quantum as usize, call.output.len());
-    let rows: Vec<&[u32]> = query.run.delivered[start..start + steps]
+    let (way, end, how) = walked(query, start, call);
+    let rows: Vec<&[u32]> = way
         .iter()
-        .flatten()
-        .map(|row| &row[..])
+        .filter_map(|&at| query.run.delivered[at].as_deref())
         .collect();
     let (list, saved) = match how {
         How::Done => (lists::last_list(&query.plan, &rows, &call.threshold), Vec::new()),
         _ => (
             lists::list(&query.plan, &rows, &call.threshold),
-            query.run.saved(call.survey, start + steps),
+            query.run.saved(call.survey, end),
         ),
     };
-    let answer = (steps as u32, how, saved.len(), list.len());
+    let answer = (way.len() as u32, how, saved.len(), list.len());
     (Ok(answer), written(&call.state, &saved), written(&call.output, &list))
 }
 

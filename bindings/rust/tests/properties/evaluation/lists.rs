@@ -2,18 +2,46 @@
 
 use std::collections::BTreeMap;
 
-use super::plan::{Ending, Plan};
+use super::plan::{Branch, Ending, Plan};
+use super::run::Bound;
 use super::words::*;
 
-/// What a key list compares: each key's rank, turned round where it falls.
+/// A word's rank by a key, turned round where it falls.
+fn rank_by(falls: bool, word: u32) -> (i64, i64) {
+    let (kind, value) = rank(word);
+    let sign = if falls { -1 } else { 1 };
+    (sign * i64::from(kind), sign * value)
+}
+
+/// The word that a row has for a key.
+fn key_word(rows: &[u32], key: u32, row: &[u32]) -> u32 {
+    row[rows.iter().position(|&v| v == key).expect("a key is a column")]
+}
+
+/// What a key list compares: each key's rank.
 fn sort_key(rows: &[u32], keys: &[(bool, u32)], row: &[u32]) -> Vec<(i64, i64)> {
-    let rank_of = |&(falls, key): &(bool, u32)| {
-        let column = rows.iter().position(|&v| v == key).expect("a key is a column");
-        let (kind, value) = rank(row[column]);
-        let sign = if falls { -1 } else { 1 };
-        (sign * i64::from(kind), sign * value)
+    keys.iter().map(|&(falls, key)| rank_by(falls, key_word(rows, key, row))).collect()
+}
+
+/// Whether a threshold leaves out whatever a match of some patterns of a branch may become: its known keys, from the first on, put it after the
+/// threshold, or all are known and equal. Known is what is bound, and what no pattern of the branch has.
+pub fn left_out(plan: &Plan, branch: &Branch, bound: &Bound, threshold: &[u32]) -> bool {
+    let Ending::Top(_, rows, keys) = &plan.ending else {
+        return false;
     };
-    keys.iter().map(rank_of).collect()
+    let named = |key: u32| branch.patterns.iter().flatten().any(|&word| word == variable(key));
+    for &(falls, key) in keys {
+        let value = bound[key as usize];
+        if value.is_none() && named(key) {
+            return false;
+        }
+        let own = rank_by(falls, value.unwrap_or(UNBOUND));
+        let limit = rank_by(falls, key_word(rows, key, threshold));
+        if own != limit {
+            return own > limit;
+        }
+    }
+    true
 }
 
 /// A group's totals: rows, numbers, sum, and the least and greatest number.
