@@ -179,6 +179,12 @@ static struct query groups = {
     "where a.y = 1073743850 and a.p = 10 and b.p = 12 group by a.o",
     {PAIR, W(3, 0), W(12, 1), V(1), V(2)}, 12};
 
+/* SQLite counts exactly; the list of the engines has 16 words */
+static struct query registers = {
+    "registers of the stems' names",
+    "select count(distinct a.s) from t a join t b on b.y = a.y and b.s = a.s where a.y = 1073743850 and a.p = 10 and b.p = 12",
+    {PAIR, W(3, 0), W(13, 0), V(0)}, 11};
+
 /* pairs of stems of one diameter, by the stand of the second: more than five million steps */
 static struct query pairs = {
     "1,000,000 steps",
@@ -605,6 +611,15 @@ static void measure_turn(const char *name, const struct query *q, uint32_t quant
         fail("SQLite finds other rows");
 }
 
+/* SQLite's count is exact, and is that of all stems */
+static void measure_registers(void)
+{
+    measure(registers.name, time_turn, &registers, 1000000);
+    same();
+    if (found != 1 || sum != STEMS)
+        fail("SQLite counts another number of stems");
+}
+
 /* without a threshold, and with one: the same list, that of SQLite too */
 static void measure_in_turns(const char *with, const char *without, const struct query *q)
 {
@@ -660,6 +675,7 @@ static void measure_wood(enum wood wood)
         measure_in_turns("greatest 10 of three patterns, pruned", "greatest 10 of three patterns, in turns of 5,000", &third);
     }
     measure_turn(groups.name, &groups, 1000000, 20);
+    measure_registers();
     measure_turn("turn of 1 step", &whole, 1, 1);
     measure_turn("turn of 1,000 steps", &whole, 1000, 333);
     measure_turn("turn of 1,000,000 steps", &pairs, 1000000, 20);

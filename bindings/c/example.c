@@ -1,5 +1,5 @@
 /* The three-stem wood from C: tables made from an upload and the report of what was dropped, a row query in turns of four steps, a best-of
- * list with a threshold, totals merged turn by turn, the total of nothing, two owners on the line, an adviser's view, a state after the next upload, two years, a wood grown
+ * list with a threshold, totals merged turn by turn, the total of nothing, registers and a report on them, two owners on the line, an adviser's view, a state after the next upload, two years, a wood grown
  * from a seed, and refused calls. Each buffer comes from malloc with exactly the words it needs, so that a memory checker sees every word beside it.
  * Compiles as C99 and as C++. Prints what it does; exits with 1 where something is not as the rules say. */
 #include "sotjarn.h"
@@ -28,6 +28,7 @@ static const uint32_t plan_rows[] = {PATTERNS, SOTJARN_COMPARISON(SOTJARN_AT_LEA
 static const uint32_t plan_top[] = {PATTERNS, SOTJARN_TRUE,
                                     SOTJARN_TOP(1), SOTJARN_ROWS(2), VARIABLE(0), VARIABLE(1), SOTJARN_FALLING(1)};
 static const uint32_t plan_group[] = {PATTERNS, SOTJARN_TRUE, SOTJARN_GROUP(0), VARIABLE(1)};
+static const uint32_t plan_registers[] = {PATTERNS, SOTJARN_TRUE, SOTJARN_IN_REGISTERS, VARIABLE(1)};
 static const uint32_t plan_felled[] = {PATTERNS, SOTJARN_COMPARISON(SOTJARN_GREATER), VARIABLE(1), NUMBER(310),
                                        SOTJARN_GROUP(0), VARIABLE(1)};
 
@@ -114,7 +115,7 @@ static struct query make_query_telling(const uint32_t *plan, size_t plan_len, st
 
 static struct query make_query(const uint32_t *plan, size_t plan_len)
 {
-    struct buffer report = make_buffer(DROPPED * SOTJARN_REPORT_WORDS);
+    struct buffer report = make_buffer(DROPPED * SOTJARN_DROPPED_WORDS);
     struct query made = make_query_telling(plan, plan_len, report);
     free(report.words);
     return made;
@@ -178,14 +179,14 @@ static size_t least_output(const struct query *query)
 /* Tables from the upload: they are the wood's, and the report tells the two rows that were dropped. Then refused uploads. */
 static void tables_from_upload(void)
 {
-    struct buffer report = make_buffer(DROPPED * SOTJARN_REPORT_WORDS), upload = copied(uploaded, UPLOADED * SOTJARN_ROW_WORDS);
+    struct buffer report = make_buffer(DROPPED * SOTJARN_DROPPED_WORDS), upload = copied(uploaded, UPLOADED * SOTJARN_ROW_WORDS);
     struct query made = make_query_telling(plan_rows, sizeof plan_rows / sizeof *plan_rows, report);
     struct buffer short_report = make_buffer(report.len - 1), short_upload = copied(uploaded, 5);
     struct sotjarn_made refused;
     expect(memcmp(made.rows.words, wood_rows, sizeof wood_rows) == 0, "the rows are the wood's, in ascending order");
     expect(memcmp(made.pos.words, wood_list, sizeof wood_list) == 0, "POS has its row numbers");
     expect(memcmp(made.osp.words, wood_list, sizeof wood_list) == 0, "OSP has its row numbers");
-    for (size_t at = 0; at < report.len; at += SOTJARN_REPORT_WORDS)
+    for (size_t at = 0; at < report.len; at += SOTJARN_DROPPED_WORDS)
         printf("dropped row %" PRIu32 ": %s\n", report.words[at], sotjarn_dropped_text(report.words[at + 1]));
     expect(report.words[0] == 3 && report.words[1] == SOTJARN_DROPPED_WRONG_KIND, "a text as subject is a wrong kind");
     expect(report.words[2] == 4 && report.words[3] == SOTJARN_DROPPED_REPEAT, "the second of two equal rows is a repeat");
@@ -298,6 +299,34 @@ static void felled(void)
     expect(kept.words[6] == SOTJARN_UNBOUND && kept.words[7] == SOTJARN_UNBOUND, "nothing has no least and no greatest");
     print_total(kept.words);
     free(kept.words);
+    free_query(&query);
+}
+
+/* Roughly how many diameters: registers of two distinct ones, and a report on them; before anything is merged all 16 have 0. */
+static void roughly(void)
+{
+    struct query query = make_query(plan_registers, sizeof plan_registers / sizeof *plan_registers);
+    struct buffer kept = make_buffer(least_output(&query)), report = make_buffer(SOTJARN_REPORT_WORDS);
+    struct sotjarn_written reported = sotjarn_report(kept.words, kept.len, 0, report.words, report.len);
+    uint32_t touched = 0;
+    expect(kept.len == SOTJARN_REGISTERS, "a list of registers has all 16");
+    expect(reported.words == SOTJARN_REPORT_WORDS && report.words[0] == SOTJARN_REGISTERS, "nothing is merged yet");
+    reported = sotjarn_report(kept.words, kept.len, merge_in_turns(&query, 3, kept, 0), report.words, report.len);
+    expect(reported.refused == 0, "the report is made");
+    for (size_t value = 1; value < report.len; value++)
+        touched += report.words[value];
+    printf("registers:");
+    for (size_t at = 0; at < kept.len; at++)
+        printf(" %" PRIu32, kept.words[at]);
+    printf(", %" PRIu32 " touched\n", touched);
+    expect(touched == 2 && report.words[0] + touched == SOTJARN_REGISTERS, "two diameters touch two registers");
+    reported = sotjarn_report(kept.words, kept.len, kept.len, report.words, report.len - 1);
+    expect(reported.refused == SOTJARN_REFUSED_BUFFER_LENGTHS && reported.words == 0, "the report has no room");
+    kept.words[0] = SOTJARN_REPORT_WORDS;
+    reported = sotjarn_report(kept.words, kept.len, kept.len, report.words, report.len);
+    expect(reported.refused == SOTJARN_REFUSED_MERGED_LISTS && reported.words == 0, "no register has 62");
+    free(kept.words);
+    free(report.words);
     free_query(&query);
 }
 
@@ -580,6 +609,7 @@ int main(void)
     best_of();
     totals();
     felled();
+    roughly();
     two_owners();
     adviser();
     next_upload();

@@ -1,6 +1,6 @@
 /* Sotjarn's calls for C and C++: making tables from an upload, those that an adviser may see from tables, and a wood grown from a seed; opening
- * a query, one turn of it, and merging a turn's list into a kept one; how long an output has to be for a plan; and queries of several owners
- * in a queue: joining, serving and topping up.
+ * a query, one turn of it, and merging a turn's list into a kept one; a report on kept registers; how long an output has to be for a plan; and
+ * queries of several owners in a queue: joining, serving and topping up.
  *
  * Link with libsotjarn.a, the proved library, which `rt staticlib sotjarn` writes to target/staticlib/; or with libsotjarn_portable.a,
  * the same source without its proofs, which cargo makes in portable/. `make install` installs either. No call allocates, keeps an
@@ -30,7 +30,7 @@ extern "C" {
 #endif
 
 /* The version of this header, which is that of the libraries made beside it. */
-#define SOTJARN_VERSION "0.14.0"
+#define SOTJARN_VERSION "0.15.0"
 
 /* How a turn ended. */
 enum {
@@ -43,9 +43,12 @@ enum {
 /* The words that a state buffer has at least, and the most steps that a turn may take; the numbers of surveys are below SOTJARN_SURVEYS. */
 enum { SOTJARN_STATE_WORDS = 11, SOTJARN_MOST_STEPS = 1000000, SOTJARN_SURVEYS = 268435456 };
 
-/* The most rows that tables and an upload may have, the words of a row, and those that a report has for each dropped row; the last year that
- * rows and plans may have, the first being 1. */
-enum { SOTJARN_MOST_ROWS = 65536, SOTJARN_ROW_WORDS = 4, SOTJARN_REPORT_WORDS = 2, SOTJARN_MOST_YEAR = 9999 };
+/* The most rows that tables and an upload may have, the words of a row, and those that the report on an upload has for each dropped row; the
+ * last year that rows and plans may have, the first being 1. */
+enum { SOTJARN_MOST_ROWS = 65536, SOTJARN_ROW_WORDS = 4, SOTJARN_DROPPED_WORDS = 2, SOTJARN_MOST_YEAR = 9999 };
+
+/* The words of a list of registers, and those of a report on one: a count for each value from 0 to 61 that a register may have. */
+enum { SOTJARN_REGISTERS = 16, SOTJARN_REPORT_WORDS = 62 };
 
 /* The most stems that a grown wood may have: each has two rows. */
 enum { SOTJARN_MOST_STEMS = 32768 };
@@ -90,7 +93,7 @@ struct sotjarn_service {
     size_t aside_entries; /* the entries set aside; 0 if refused */
 };
 
-/* What opening and merging answer, and what a plan asks of an output. */
+/* What opening, merging and a report on registers answer, and what a plan asks of an output. */
 struct sotjarn_written {
     uint32_t refused; /* the number of the first test that failed; 0: none */
     size_t words;     /* the words written to the buffer, from its front, or asked for; 0 if refused */
@@ -103,7 +106,7 @@ struct sotjarn_turned {
     uint32_t steps;     /* the steps taken */
     size_t state_words; /* the words of the new state, written over the front of `state`; 0 when done */
     size_t list_words;  /* the words of the turn's list, written over the front of `output`; in groups by no variable a turn that is
-                         * done has one record always, which is that of nothing where it had no rows */
+                         * done has one record always, which is that of nothing where it had no rows; registers are all there always */
 };
 
 /* What making tables answers: the words written to the front of each buffer; 0 of each if refused. */
@@ -183,13 +186,20 @@ struct sotjarn_turned sotjarn_turn(const uint32_t *rows, size_t rows_len,
                                    uint32_t *output, size_t output_len);
 
 /* Merges a turn's whole list into the kept one, which is the first `kept_words` words of `kept`; none at first. The merged list is
- * written over the front of `kept`. For best-of queries and groups; the lists of a row query are joined end to end instead.
+ * written over the front of `kept`. For best-of queries, groups and registers; the lists of a row query are joined end to end instead.
  * Refused by 5, 6, 23 and 12 to 14. */
 struct sotjarn_written sotjarn_merge(const uint32_t *plan, size_t plan_len,
                                      uint32_t *kept, size_t kept_len, size_t kept_words,
                                      const uint32_t *list, size_t list_len);
 
-/* The words that test 7 asks of `output` for a plan: one row, k rows or one record. More makes fewer turns where the query ends in rows
+/* Counts a kept list of registers, which is the first `kept_words` words of `kept`, as merges left it; none at first, and then all 16 registers
+ * have 0. Word v of the report, for v from 0 to 61, is how many registers have the value v; they make 16. From it roughly is told how many
+ * distinct values there were (docs/FORMATS.md, "Registers", also on what such an estimate is worth). Refused by 7 (the report is shorter than
+ * SOTJARN_REPORT_WORDS), then by 12 (the list is neither empty nor of 16 words, has one above 61, or is longer than its buffer). */
+struct sotjarn_written sotjarn_report(const uint32_t *kept, size_t kept_len, size_t kept_words,
+                                      uint32_t *report, size_t report_len);
+
+/* The words that test 7 asks of `output` for a plan: one row, k rows, one record or all registers. More makes fewer turns where the query ends in rows
  * or groups: a multiple of one row or record. Writes nothing. Refused by 5, 6 and 23. */
 struct sotjarn_written sotjarn_least_output(const uint32_t *plan, size_t plan_len);
 

@@ -57,13 +57,15 @@ enum {
     SOTJARN_AT_LEAST = 5
 };
 
-/* Endings: rows and their variables; top k, a rows part and its keys; a group, its variables and the measured one. A k of 0 means ten rows. */
+/* Endings: rows and their variables; top k, a rows part and its keys; a group, its variables and the measured one; registers and their
+ * variable. A k of 0 means ten rows. */
 enum { SOTJARN_DEFAULT_BEST = 10 };
 #define SOTJARN_ROWS(variables) SOTJARN_WORD(8, variables)
 #define SOTJARN_TOP(k) SOTJARN_WORD(9, k)
 #define SOTJARN_RISING(variable) SOTJARN_WORD(10, variable)
 #define SOTJARN_FALLING(variable) SOTJARN_WORD(11, variable)
 #define SOTJARN_GROUP(variables) SOTJARN_WORD(12, variables)
+#define SOTJARN_IN_REGISTERS SOTJARN_WORD(13, 0)
 
 /* A state: the number of its survey, the year that it reads (SOTJARN_YEAR), its branch (from 0) and depth, and a place for each level. */
 #define SOTJARN_SURVEY(number) SOTJARN_WORD(13, number)
@@ -150,8 +152,8 @@ static inline const char *sotjarn_refusal_text(uint32_t refused)
         "a variable of the plan is above ?15, is not bound, or is repeated; use ?0 to ?15; bind a condition's "
         "variables in its own branch and the ending's in some branch; take keys from the columns; name no column or "
         "group variable twice",
-        "the output or the state buffer is too short; lend a state buffer of 11 words, and an output for one row, k "
-        "rows or one group, as the plan ends",
+        "the output, the state buffer or a report on registers is too short; lend a state buffer of 11 words, an "
+        "output for one row, k rows, one group or 16 registers, as the plan ends, and 62 words for a report",
         "the quantum is outside its range; give 1 to 1,000,000 steps",
         "the state is empty, its kinds, branch, depth or length are wrong, or its year is not being read; give the "
         "words that opening or the last turn wrote, as many as it said; after done there are none",
@@ -160,7 +162,7 @@ static inline const char *sotjarn_refusal_text(uint32_t refused)
         "the threshold is not one row of a best-of query; send none, or the last row of a full list merged by the "
         "same plan",
         "a list is not one that this plan makes, or the plan delivers plain rows; merge whole lists of turns of the "
-        "same plan; join the lists of a row query end to end instead",
+        "same plan; join the lists of a row query end to end instead; ask for reports on merged registers alone",
         "a count would pass 2^64 - 1, or a sum leave -2^63 to 2^63 - 1; merge each list once; such totals no survey "
         "reaches",
         "the kept buffer is too short for the merged list; lend a longer buffer: the words of both lists are always "

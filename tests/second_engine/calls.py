@@ -6,12 +6,14 @@ from inputs import COLUMNS, state_words
 from plan_reader import Marked, read_plan, width
 from plans import Draft
 from running import TooLong
-from words import (FALLING, GROUP, MOST_VALUE, MOST_WORD, MOST_YEAR, NOT, NUMBERS, PLACE, RISING, ROWS, STATE, SURVEY, SURVEYS, TOP, UNBOUND, YEAR,
+from registers import MOST_RANK, REGISTERS_COUNT, REPORT_WORDS
+from words import (FALLING, GROUP, MOST_VALUE, MOST_WORD, MOST_YEAR, NOT, NUMBERS, PLACE, REGISTERS, RISING, ROWS, STATE, SURVEY, SURVEYS, TOP, UNBOUND, YEAR,
                    is_variable, kind, low, name, number, plan_word, term, two_words, variable)
 
 Open = namedtuple('Open', 'tables survey words state')
 Turn = namedtuple('Turn', 'tables survey words state given quantum threshold output')
 Merge = namedtuple('Merge', 'words kept given made')
+Report = namedtuple('Report', 'kept given report')
 
 
 def some_survey(rng):
@@ -123,17 +125,31 @@ class Script:
         return two_words(count) + two_words(numbers) + two_words(total) + bounds
 
     def wild_list(self, pool):
-        """A list in order, of rows or records that no run need have made."""
+        """A list in order, of rows or records that no run need have made, or registers of any values."""
+        if self.plan.kind == REGISTERS:
+            return self.wild_registers()
         if self.plan.kind == GROUP:
             keys = {key for key in pool if self.rng.random() < .7}
             return tuple(w for key in sorted(keys, key=self.right.group_key) for w in [*key, *self.some_totals(key)])
         rows = [self.rng.choice(pool) for _ in range(self.rng.randint(0, min(self.right.best_count(self.plan), 12)))]
         return tuple(w for row in sorted(rows, key=lambda row: self.right.sort_key(self.plan, row)) for w in row)
 
+    def wild_registers(self):
+        if self.rng.random() < .4:
+            return tuple(self.right.registers(self.some_term() for _ in range(self.rng.choice([0, 1, 3, 20]))))
+        most = self.rng.choice([1, 4, MOST_RANK])
+        return tuple(self.rng.randint(0, most) for _ in range(REGISTERS_COUNT))
+
+    def wild_report(self):
+        kept = self.wild_registers() if self.rng.random() < .8 else ()
+        return Report(kept + self.filler(self.spare()), len(kept), self.filler(REPORT_WORDS + self.spare()))
+
     def wild_merge(self):
         fields = len(self.plan.group) if self.plan.kind == GROUP else len(self.plan.columns)
         pool = [tuple(self.some_term() for _ in range(fields)) for _ in range(4)] if self.plan.kind != ROWS else []
         kept, made = (self.wild_list(pool) if pool else () for _ in range(2))
+        if self.plan.kind == REGISTERS and self.rng.random() < .3:
+            kept = ()                   # nothing is merged yet
         return Merge(self.words, kept + self.filler(self.rng.choice([0, 1, len(made), len(made) + 3])), len(kept), made)
 
     # Damage.
@@ -286,20 +302,33 @@ class Script:
         if way == 0:
             return call._replace(given=self.rng.choice([0, 1, max(0, call.given - 1), call.given + 1, len(call.kept) + 1]))
         if way == 1:
-            return call._replace(made=call.made * self.rng.choice([2, 2, 12]))
+            return call._replace(made=call.made * self.rng.choice([0, 2, 2, 12] if self.plan.kind == REGISTERS else [2, 2, 12]))
         if way == 2:
             return call._replace(kept=call.kept[:call.given])
         word = self.rng.choice([0, 1, UNBOUND, UNBOUND + 1, MOST_WORD, number(5), number(-1), number(-NUMBERS), self.some_term()])
+        if self.plan.kind == REGISTERS:
+            word = self.rng.choice([0, MOST_RANK, MOST_RANK + 1, MOST_RANK + 1, word])
         words = getattr(call, field)
-        if way == 3 and words and self.plan.kind == GROUP:
+        if way == 3 and words and self.plan.kind in (GROUP, REGISTERS):
             at = self.rng.randrange(len(words))
             return call._replace(**{field: words[:at] + (word,) + words[at + 1:]})
         return call._replace(**{field: self.nudged(words, word)})
 
+    def report_damage(self, call):
+        way = self.rng.randrange(4)
+        if way == 3:
+            call = call._replace(kept=call.kept[:1], given=self.rng.choice([1, 2]))    # two tests fail
+        if way in (0, 3):
+            return call._replace(report=call.report[:self.rng.choice([0, REPORT_WORDS - 1, REPORT_WORDS - 1])])
+        if way == 1:
+            return call._replace(given=self.rng.choice([0, 1, max(0, call.given - 1), call.given + 1, len(call.kept) + 1]))
+        return call._replace(kept=self.nudged(call.kept, self.rng.choice([0, MOST_RANK, MOST_RANK + 1])))
+
     def damaged(self, call):
         ways = {Open: [self.table_damage, self.plan_damage, self.state_damage, self.survey_damage],
                 Turn: [self.table_damage, self.plan_damage, self.turn_damage, self.state_damage, self.survey_damage],
-                Merge: [self.plan_damage, self.list_damage, self.list_damage, self.list_damage]}[type(call)]
+                Merge: [self.plan_damage, self.list_damage, self.list_damage, self.list_damage],
+                Report: [self.report_damage]}[type(call)]
         for _ in range(self.rng.choice([1, 1, 1, 2])):
             call = self.rng.choice(ways)(call)
         return call
@@ -310,6 +339,9 @@ class Script:
             self.make(self.turn())
         for _ in range(2):
             self.make(self.wild_merge())
+        if self.plan.kind == REGISTERS:
+            self.make(self.wild_report())
+            self.make(self.damaged(self.wild_report()))
         for _ in range(damages):
             opening = Open(self.tables, self.survey, self.words, self.filler(LEAST_STATE_WORDS))
             call = self.rng.choice([self.turn, self.turn, self.wild_merge, lambda: opening])()

@@ -7,6 +7,7 @@ from ctypes import CDLL, POINTER, Structure, addressof, c_size_t, c_uint32, c_ui
 from evaluation import Turned, Written
 from making import Made
 from queueing import PLAN_ROOM, STATE_ROOM, Entry, Queued, Service
+from registers import Reported
 from viewing import Viewed
 
 GUARD = 4
@@ -135,6 +136,8 @@ class Engine:
         turn_types = [WORDS, c_size_t] * 2 + [c_size_t, c_uint32] + [WORDS, c_size_t] * 2
         self.turning.restype, self.turning.argtypes = CTurned, survey_types + turn_types
         self.merging.restype, self.merging.argtypes = CWritten, [WORDS, c_size_t, WORDS, c_size_t, c_size_t, WORDS, c_size_t]
+        self.reporting = library.sotjarn_report
+        self.reporting.restype, self.reporting.argtypes = CWritten, [WORDS, c_size_t, c_size_t, WORDS, c_size_t]
         self.making = library.sotjarn_make
         self.making.restype, self.making.argtypes = CMade, [WORDS, c_size_t] * 5
         self.joining, self.serving, self.topping = library.sotjarn_join, library.sotjarn_serve, library.sotjarn_top_up
@@ -163,6 +166,12 @@ class Engine:
         answer = self.merging(*read[1].arguments(), *buffer.arguments(), given, *taken[1].arguments())
         check([read, taken])
         return Written(answer.refused, answer.words), buffer.words('kept')
+
+    def report(self, kept, given, report):
+        read, buffer = ('kept', Buffer(kept)), Buffer(report)
+        answer = self.reporting(*read[1].arguments(), given, *buffer.arguments())
+        check([read])
+        return Reported(answer.refused, answer.words), buffer.words('report')
 
     def make(self, upload, rows, pos, osp, report):
         read, buffers = ('upload', Buffer(upload)), [Buffer(rows), Buffer(pos), Buffer(osp), Buffer(report)]

@@ -11,7 +11,7 @@ from inputs import (ascend, delivered_term, kinds_right, lengths_right, order_ri
 from lists import Lists
 from plan_reader import named_right, read_plan, width
 from running import Running, remember
-from words import GROUP, MOST_YEAR, ROWS, SURVEYS, TOP, UNBOUND, variable as variable_word
+from words import GROUP, MOST_YEAR, REGISTERS, ROWS, SURVEYS, TOP, UNBOUND, variable as variable_word
 
 LEAST_STATE_WORDS = 11
 MOST_QUANTUM = 1000000
@@ -184,8 +184,8 @@ class Evaluation(Running, Lists):
         return DONE, len(delivered)
 
     def wanted(self, plan, at, row):
-        """What a step needs space for: its row, or its row's group; a best-of list is never full."""
-        if row is None or plan.kind == TOP:
+        """What a step needs space for: its row, or its row's group; a best-of list is never full, nor are registers."""
+        if row is None or plan.kind in (TOP, REGISTERS):
             return None
         return at if plan.kind == ROWS else row[:-1]
 
@@ -195,7 +195,7 @@ class Evaluation(Running, Lists):
     def merge(self, words, kept, given, made):
         plan = read_plan(words)
         refused = first_failing(self.plan_tests(words, plan) + [
-            (12, lambda: given <= len(kept) and self.list_right(plan, kept[:given]) and self.list_right(plan, made)),
+            (12, lambda: given <= len(kept) and self.kept_right(plan, kept[:given]) and self.list_right(plan, made)),
             (13, lambda: plan.kind != GROUP or self.totals_fit(plan, kept[:given], made)),
             (14, lambda: len(self.merged(plan, kept[:given], made)) <= len(kept))])
         if refused:

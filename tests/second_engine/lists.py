@@ -1,14 +1,15 @@
-"""Best-of lists and groups: of delivered rows, and merged."""
+"""Best-of lists, groups and registers: of delivered rows, and merged."""
 from inputs import NOTHING, Totals, ascend, delivered_term, in_parts, split_record, totals_right
 from plan_reader import width
-from words import GROUP, NUMBER, ROWS, TOP, UNBOUND, number_value, term_kind, term_value, two_words
+from registers import Registers
+from words import GROUP, NUMBER, REGISTERS, ROWS, TOP, UNBOUND, number_value, term_kind, term_value, two_words
 
 MOST_COUNT = (1 << 64) - 1
 SUMS = 1 << 63                       # sums lie from -SUMS to SUMS - 1
 DEFAULT_BEST = 10                   # rows of a best-of list whose plan gives no number, k = 0
 
 
-class Lists:
+class Lists(Registers):
     """Orders of rows and groups, their words, and merging."""
     nothing = NOTHING
 
@@ -85,6 +86,8 @@ class Lists:
         """The words of the list that a turn's rows make; done is whether it is the last turn."""
         if plan.kind == GROUP:
             return self.records(self.groups_of_turn(plan, rows, done, before))
+        if plan.kind == REGISTERS:
+            return self.registers(value for value, in rows)
         if plan.kind == TOP:
             rows = self.best(plan, [row for row in rows if self.passes_threshold(plan, row, threshold)])
         return [word for row in rows for word in row]
@@ -99,7 +102,9 @@ class Lists:
         return (totals.rows > 0 or self.may_be_nothing(keys)) and totals_right(totals, self.value)
 
     def list_right(self, plan, words):
-        """Test 12 on a list."""
+        """Test 12 on a list that a turn made."""
+        if plan.kind == REGISTERS:
+            return self.are_registers(words)
         if plan.kind == ROWS or len(words) % width(plan) != 0:
             return False
         parts = in_parts(plan, words)
@@ -110,6 +115,10 @@ class Lists:
         groups = [split_record(record) for record in parts]
         return (all(delivered_term(w) for keys, _ in groups for w in keys) and ascend([self.group_key(keys) for keys, _ in groups])
                 and all(self.record_right(*group) for group in groups))
+
+    def kept_right(self, plan, words):
+        """Test 12 on a kept list: before the first merge there are no registers."""
+        return self.kept_registers(words) if plan.kind == REGISTERS else self.list_right(plan, words)
 
     def added_groups(self, plan, kept, made):
         groups = {}
@@ -126,6 +135,8 @@ class Lists:
     def merged(self, plan, kept, made):
         if plan.kind == GROUP:
             return self.records(self.added_groups(plan, kept, made))
+        if plan.kind == REGISTERS:
+            return self.merged_registers(kept, made)
         return [word for row in self.best_of_both(plan, in_parts(plan, kept), in_parts(plan, made)) for word in row]
 
     def best_of_both(self, plan, kept, made):

@@ -1,13 +1,14 @@
 """Known misreadings of the rules, each as an evaluation with one other method, to see whether random plans expose it."""
 import struct
 
-from calls import Merge, Open, Turn
+from calls import Merge, Open, Report, Turn
 from evaluation import DONE, FULL, LEAST_STATE_WORDS, Evaluation, Written, written
 from inputs import NOTHING, in_parts, signed, split_record, survey_of
 from plan_reader import read_plan, variables_right
-from words import GROUP, MOST_WORD, NUMBER, ROWS, SURVEYS, TOP, UNBOUND, UNEQUAL, is_variable, number, term_kind, term_value
+from registers import MOST_RANK, PRIME
+from words import GROUP, MOST_WORD, NUMBER, REGISTERS, ROWS, SURVEYS, TOP, UNBOUND, UNEQUAL, is_variable, number, term_kind, term_value
 
-ALL = (ROWS, TOP, GROUP)
+ALL = (ROWS, TOP, GROUP, REGISTERS)
 
 
 class Misreading(Evaluation):
@@ -792,6 +793,92 @@ class RefusalWrites(Misreading):
         return answer, buffer
 
 
+# Registers.
+
+class Counted(Misreading):
+    """a misreading of registers"""
+    concerns, endings = 'calls', (REGISTERS,)
+    calls = Turn, Merge, Report
+
+
+class HighByteFirst(Counted):
+    """the high byte of a word is hashed first"""
+    def bytes_of(self, word):
+        return word.to_bytes(4, 'big')
+
+
+class MultipliedFirst(Counted):
+    """a byte is mixed in after the product, as FNV-1 does"""
+    def mixed(self, hashed, byte):
+        return hashed * PRIME % (1 << 64) ^ byte
+
+
+class RankWithoutOne(Counted):
+    """a register has the leading zeros, and not one more"""
+    def register_rank(self, bits):
+        return super().register_rank(bits) - 1
+
+
+class UnboundCounted(Counted):
+    """an unbound value is hashed"""
+    def is_counted(self, word):
+        return True
+
+
+class TouchedAlone(Counted):
+    """a turn's list ends with the last register that was touched"""
+    def registers(self, values):
+        made = super().registers(values)
+        while made and not made[-1]:
+            made.pop()
+        return made
+
+
+class SumForGreater(Counted):
+    """merging adds registers up"""
+    def greater(self, a, b):
+        return a + b
+
+
+class SixtyTwoPasses(Counted):
+    """a register of 62 passes test 12"""
+    def most_rank(self):
+        return MOST_RANK + 1
+
+
+class NoneKeptRefused(Counted):
+    """an empty kept list is refused by 12"""
+    def kept_registers(self, words):
+        return self.are_registers(words)
+
+
+class NoneMadeTaken(Counted):
+    """an empty list of a turn is merged"""
+    def list_right(self, plan, words):
+        return self.kept_registers(words)
+
+    def merged_registers(self, kept, made):
+        return super().merged_registers(kept, made) if made else list(kept)
+
+
+class NoneUncounted(Counted):
+    """a report on an empty kept list counts nothing"""
+    calls = (Report,)
+
+    def counted_registers(self, kept):
+        return kept
+
+
+class ListBeforeRoom(Counted):
+    """a report tests its list before its buffer"""
+    calls = (Report,)
+
+    def report(self, kept, given, report):
+        answer, buffer = super().report(kept, given, report)
+        wrong = given > len(kept) or not self.kept_registers(kept[:given])
+        return (answer._replace(refused=12) if answer.refused == 7 and wrong else answer), buffer
+
+
 def starts_wrong(words):
     """Whether a plan with a wrong variable stands at the beginning, with words left over."""
     return any(plan and not variables_right(plan) for plan in (read_plan(words[:length]) for length in range(len(words))))
@@ -807,4 +894,5 @@ ALL_MISREADINGS = [
     CarryDropped, SingleFloats, TextsCounted, NoNumberNoRow, UnboundLeftOut, NoTotal, TotalOfUnfinished, TotalOfWholeAlone,
     TotalFromStart, TotalWithKey, NothingIsZero, NothingIsARow, NothingRefused, NothingWithKeyPasses, NothingNotMerged, FullTakesStep,
     FullLosesRow, FullKnownGroup, FullAtOnce, DoneTakesStep, SavedEarly, BelowEnd, NumberNotCompared, NumberCut, NumberAfterPlaces,
-    NumberBeforeShape, SavedUnderZero, TenWords, NumberBeforeRoom, SixBeforeFive, EqualRowsPass, RefusalWrites]
+    NumberBeforeShape, SavedUnderZero, TenWords, NumberBeforeRoom, SixBeforeFive, EqualRowsPass, RefusalWrites, HighByteFirst, MultipliedFirst, RankWithoutOne, UnboundCounted, TouchedAlone,
+    SumForGreater, SixtyTwoPasses, NoneKeptRefused, NoneMadeTaken, NoneUncounted, ListBeforeRoom]

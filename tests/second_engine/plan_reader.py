@@ -2,7 +2,7 @@
 from collections import namedtuple
 from functools import lru_cache
 
-from words import (AND, AT_LEAST, BRANCH, COMPARISON, FALLING, GROUP, HEAD, NOT, OR, RISING, ROWS, TOP, TRUE, YEAR, is_variable,
+from words import (AND, AT_LEAST, BRANCH, COMPARISON, FALLING, GROUP, HEAD, NOT, OR, REGISTERS, RISING, ROWS, TOP, TRUE, YEAR, is_variable,
                    kind, low, term_value)
 
 MOST_PLAN_WORDS = 256
@@ -83,6 +83,9 @@ class Reader:
         if kind(word) == TOP:
             k = self.part(TOP, 0, 64)
             return Plan(branches, TOP, self.row(), k, self.sort_keys(), None, None, self.year)
+        if kind(word) == REGISTERS:
+            self.part(REGISTERS, 0, 0)
+            return Plan(branches, REGISTERS, self.variables(1), None, None, None, None, self.year)
         group = self.variables(self.part(GROUP, 0, 4))
         measured, = self.variables(1)
         return Plan(branches, GROUP, group + (measured,), None, None, group, measured, self.year)
@@ -181,5 +184,7 @@ def named_right(words):
 
 
 def width(plan):
-    """Words of a delivered row, or of a group's record."""
+    """Words of a delivered row, of a group's record, or of all registers."""
+    if plan.kind == REGISTERS:
+        return 16
     return len(plan.group) + 8 if plan.kind == GROUP else len(plan.columns)

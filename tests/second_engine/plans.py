@@ -7,7 +7,7 @@ row, as a stand has that was clear-felled.
 from inputs import Tables, osp_key, pos_key, rows_of
 from plan_reader import MOST_DEPTH, MOST_NODES, MOST_PLAN_WORDS
 from running import TooLong
-from words import (AND, AT_LEAST, BRANCH, COMPARISON, EQUAL, FALLING, GROUP, HEAD, MOST_VALUE, MOST_YEAR, NOT, NUMBERS, OR, RISING, ROWS, TOP,
+from words import (AND, AT_LEAST, BRANCH, COMPARISON, EQUAL, FALLING, GROUP, HEAD, MOST_VALUE, MOST_YEAR, NOT, NUMBERS, OR, REGISTERS, RISING, ROWS, TOP,
                    TRUE, UNEQUAL, YEAR, is_variable, name, number, plan_word, term, term_kind, term_value, text, variable)
 
 
@@ -101,7 +101,7 @@ def large_plan():
 # Patterns.
 
 class Draft:
-    """A plan in the making: the wood's rows and terms, and the numbers of the plan's variables. Short sides have draws of their own, or there are none."""
+    """A plan in the making: the wood's rows and terms, and the numbers of the plan's variables. Short sides and registers have draws of their own, or there are none."""
 
     def __init__(self, rng, rows, sides=None):
         self.rng, self.sides = rng, sides
@@ -236,6 +236,9 @@ class Draft:
         measured = self.rng.choice(objects if objects and self.rng.random() < .8 else variables)
         return [plan_word(GROUP, len(keys))] + keys + [measured]
 
+    def registers_ending(self, variables):
+        return [plan_word(REGISTERS, 0), self.sides.choice(variables)]
+
     def branch(self):
         count = self.rng.choice([1, 1, 2, 2, 2, 3, 3, 4, 5, 6, 7, 8])
         real = self.rows and self.rng.random() < .8
@@ -258,6 +261,8 @@ class Draft:
         if not variables:
             return None
         ending = self.rng.choice([self.rows_ending, self.top_ending, self.group_ending])(variables)
+        if self.sides is not None and self.sides.random() < .2:
+            ending = self.registers_ending(variables)
         words = self.year_word() + [plan_word(HEAD, len(branches))] + [w for branch, _ in branches for w in branch] + ending
         return tuple(words) if len(words) <= MOST_PLAN_WORDS else None
 

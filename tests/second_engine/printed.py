@@ -5,8 +5,8 @@
     tests/second_engine/printed.py --write FILES    write it beside each file: NAME.expected for NAME.words
     tests/second_engine/printed.py --check FILES    compare it with what stands there; the exit code is 1 if any differs
 
-The printer opens the query and runs turns until one is done or a call is refused. Rows are printed as they come; a best-of list
-or groups are merged turn by turn and printed at the end.
+The printer opens the query and runs turns until one is done or a call is refused. Rows are printed as they come; a best-of list,
+groups or registers are merged turn by turn and printed at the end.
 """
 import argparse
 import struct
@@ -17,8 +17,8 @@ from engine import Engine
 from evaluation import DONE, REFUSED, Evaluation, LEAST_STATE_WORDS
 from inputs import COLUMNS, Tables, in_parts, split_record
 from plan_reader import read_plan, width
-from stored import group_line, row_line
-from words import GROUP, ROWS
+from stored import group_line, list_line, row_line
+from words import GROUP, REGISTERS, ROWS
 
 MOST_BYTES = 65536
 OUTPUT_RECORDS = 64
@@ -39,7 +39,9 @@ def parts_of(data):
 
 
 def list_lines(plan, words):
-    """The lines of a list: its rows, or its groups."""
+    """The lines of a list: its rows, its groups, or its registers."""
+    if plan.kind == REGISTERS:
+        return [list_line(words)] if words else []
     if plan.kind == GROUP:
         return [group_line(*split_record(record)) for record in in_parts(plan, words)]
     return [row_line(row) for row in in_parts(plan, words)]

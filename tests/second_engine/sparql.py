@@ -13,7 +13,7 @@ import zipfile
 
 from inputs import Totals
 from lists import DEFAULT_BEST
-from words import (AND, COMPARISON, EQUAL, GROUP, NAME, NOT, NUMBER, NUMBERS, OPERATORS, ROWS, TEXT, TOP, TRUE, UNBOUND, UNEQUAL,
+from words import (AND, COMPARISON, EQUAL, GROUP, NAME, NOT, NUMBER, NUMBERS, OPERATORS, REGISTERS, ROWS, TEXT, TOP, TRUE, UNBOUND, UNEQUAL,
                    VARIABLE, name, number, number_value, term_kind, term_value, text)
 
 HERE = os.path.dirname(os.path.abspath(__file__))
@@ -132,9 +132,14 @@ def group_query(plan):
     return f"{PREFIX}SELECT {selected(plan.group)} {' '.join(f'({e} AS ?{n})' for e, n in totals)} {where(plan)}{by}"
 
 
+def distinct_query(plan):
+    """The set of values that registers are of."""
+    return f'{PREFIX}SELECT DISTINCT {selected(plan.columns)} {where(plan)}'
+
+
 def queries(plan):
-    """The queries whose answers a plan is compared with: for a best-of list also all its rows."""
-    return {ROWS: [rows_query], TOP: [rows_query, top_query], GROUP: [group_query]}[plan.kind]
+    """The queries whose answers a plan is compared with: for a best-of list and for registers also all its rows."""
+    return {ROWS: [rows_query], TOP: [rows_query, top_query], GROUP: [group_query], REGISTERS: [rows_query, distinct_query]}[plan.kind]
 
 
 # Answers.
@@ -189,9 +194,11 @@ class Jena:
         return [self.answer().split('\t') for _ in range(int(answer[5:]))]
 
     def asked(self, plan):
-        """All rows of a plan (none for groups), and its list: rows in order, or groups."""
+        """All rows of a plan (none for groups), and its list: rows in order, or groups; for registers the set of values."""
         if plan.kind == GROUP:
             return None, groups_of(plan, self.lines(group_query(plan)))
+        if plan.kind == REGISTERS:
+            return rows_of_answer(self.lines(rows_query(plan))), rows_of_answer(self.lines(distinct_query(plan)))
         rows = rows_of_answer(self.lines(rows_query(plan)))
         return rows, rows_of_answer(self.lines(top_query(plan))) if plan.kind == TOP else rows
 

@@ -30,6 +30,10 @@ def group_line(keys, totals):
     return ' '.join(['group', *map(shown, keys), *map(str, totals[:3]), *map(shown, totals[3:])])
 
 
+def list_line(words):
+    return ' '.join(['list', *map(str, words)])
+
+
 # What Jena answered, in the order of the rules.
 
 def as_delivered(found, delivered):

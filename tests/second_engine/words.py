@@ -8,7 +8,7 @@ MOST_WORD = (1 << 32) - 1
 
 YEAR = 0                     # before a plan's head, and in a state behind the survey
 MOST_YEAR = 9999
-HEAD, BRANCH, TRUE, AND, OR, NOT, COMPARISON, ROWS, TOP, RISING, FALLING, GROUP = range(1, 13)
+HEAD, BRANCH, TRUE, AND, OR, NOT, COMPARISON, ROWS, TOP, RISING, FALLING, GROUP, REGISTERS = range(1, 14)
 SURVEY, STATE, PLACE = 13, 14, 15
 SURVEYS = 1 << 28            # the numbers that a survey may have are below
 EQUAL, UNEQUAL, LESS, AT_MOST, MORE, AT_LEAST = range(6)

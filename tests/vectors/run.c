@@ -7,7 +7,7 @@
 #include <stdlib.h>
 #include <string.h>
 
-enum { SET = 1, FILL, STEMS, OPEN, TURN, MERGE, MAKE, SHUFFLED, MAKE_STEMS, ENTRIES, JOIN, SERVE, TOP_UP, VIEW, VIEW_ALL, GROW };
+enum { SET = 1, FILL, STEMS, OPEN, TURN, MERGE, MAKE, SHUFFLED, MAKE_STEMS, ENTRIES, JOIN, SERVE, TOP_UP, VIEW, VIEW_ALL, GROW, REPORT_ON };
 enum { ROWS, POS, OSP, PLAN, STATE, THRESHOLD, OUTPUT, KEPT, LIST, UPLOAD, REPORT, LINE, ASIDE, GRANT, SEEN_ROWS, SEEN_POS, SEEN_OSP, BUFFERS };
 enum { GUARDS = 8, NUMBERS = 26, ENTRY_WORDS = sizeof(struct sotjarn_entry) / sizeof(uint32_t) };
 
@@ -177,6 +177,12 @@ static void run_merge(void)
     uint32_t given = word();
     written(sotjarn_merge(words_of(PLAN), buffers[PLAN].len, words_of(KEPT), buffers[KEPT].len, given, words_of(LIST),
                           buffers[LIST].len), KEPT);
+}
+
+static void run_report(void)
+{
+    uint32_t given = word();
+    written(sotjarn_report(words_of(KEPT), buffers[KEPT].len, given, words_of(REPORT), buffers[REPORT].len), REPORT);
 }
 
 static struct sotjarn_made make(void)
@@ -406,6 +412,7 @@ static void run(void)
     case VIEW: run_view(); break;
     case VIEW_ALL: run_view_all(); break;
     case GROW: run_grow(); break;
+    case REPORT_ON: run_report(); break;
     default: fail("there is no such instruction");
     }
     compare();

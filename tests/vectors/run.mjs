@@ -5,7 +5,7 @@
 import { readFileSync } from 'node:fs';
 
 const [SET, FILL, STEMS, OPEN, TURN, MERGE, MAKE, SHUFFLED, MAKE_STEMS, ENTRIES, JOIN, SERVE, TOP_UP] = [1, 2, 3, 4, 5, 6, 7, 8, 9, 10, 11, 12, 13];
-const [VIEW, VIEW_ALL, GROW] = [14, 15, 16];
+const [VIEW, VIEW_ALL, GROW, REPORT_ON] = [14, 15, 16, 17];
 const [ROWS, POS, OSP, PLAN, STATE, THRESHOLD, OUTPUT, KEPT, LIST, UPLOAD, REPORT] = [0, 1, 2, 3, 4, 5, 6, 7, 8, 9, 10];
 const [LINE, ASIDE, GRANT, SEEN_ROWS, SEEN_POS, SEEN_OSP, BUFFERS] = [11, 12, 13, 14, 15, 16, 17];
 const [PLAN_ROOM, STATE_ROOM] = [256, 11];
@@ -31,7 +31,7 @@ if (vectorFile === undefined) {
 }
 const { instance } = await WebAssembly.instantiate(readFileSync(libraryFile));
 const { memory, sotjarn_open, sotjarn_turn, sotjarn_merge, sotjarn_make, sotjarn_join, sotjarn_serve, sotjarn_top_up } = instance.exports;
-const { sotjarn_view, sotjarn_grow } = instance.exports;
+const { sotjarn_view, sotjarn_grow, sotjarn_report } = instance.exports;
 const answerAt = memory.buffer.byteLength;
 const ROOM = 17 * PAGE;
 memory.grow(1 + (BUFFERS * ROOM) / PAGE);
@@ -126,6 +126,14 @@ function merge() {
   const [refused, written] = words(2);
   mustAnswer(answer(2), [refused, written], refused);
   mustWrite(KEPT, written);
+}
+
+function report() {
+  const given = word();
+  sotjarn_report(answerAt, ...buffer(KEPT), given, ...buffer(REPORT));
+  const [refused, written] = words(2);
+  mustAnswer(answer(2), [refused, written], refused);
+  mustWrite(REPORT, written);
 }
 
 const tables = [ROWS, POS, OSP, REPORT];
@@ -255,7 +263,7 @@ function compare() {
 const lending = { [SET]: set, [FILL]: fill, [STEMS]: stems, [SHUFFLED]: shuffled, [ENTRIES]: entries };
 const calling = {
   [OPEN]: open, [TURN]: turn, [MERGE]: merge, [MAKE]: make, [MAKE_STEMS]: makeStems, [JOIN]: join, [SERVE]: serve, [TOP_UP]: topUp,
-  [VIEW]: viewSome, [VIEW_ALL]: viewAll, [GROW]: growWood,
+  [VIEW]: viewSome, [VIEW_ALL]: viewAll, [GROW]: growWood, [REPORT_ON]: report,
 };
 
 for (let number = 0; number < BUFFERS; number += 1) lend(number, []);

@@ -186,6 +186,7 @@ fn print(owner: &str, finished: &Finished) {
                 println!("  {:5} {} stems, sum {}{sizes}", keys.join(" "), group.rows, group.sum);
             }
         }
+        List::Registers(registers) => println!("  registers {registers:?}"),
     }
 }
 

@@ -35,6 +35,12 @@ pub const GROW_STACK: usize = 196_608;
 /// The most entries of a queue, in the line and set aside together; each of its two lists has room for so many.
 pub const MOST_ENTRIES: usize = 32;
 
+/// The words of a list of registers.
+pub const REGISTERS: usize = 16;
+
+/// The words of a report on registers: a count for each value from 0 to 61.
+pub const REPORT_WORDS: usize = 62;
+
 /// How a turn ended.
 #[derive(Clone, Copy, Debug, PartialEq, Eq, Hash)]
 pub enum TurnEnding {
@@ -215,8 +221,8 @@ pub fn turn(
 }
 
 /// Merges a turn's whole list into the kept one, which is the first `kept_words` words of `kept`; none at first. The merged list is
-/// written over the front of `kept`, and its words are the answer. For best-of queries and groups; the lists of a row query are
-/// joined end to end instead. Refused by 5, 6, 23 and 12 to 14.
+/// written over the front of `kept`, and its words are the answer. For best-of queries, groups and registers; the lists of a row query
+/// are joined end to end instead. Refused by 5, 6, 23 and 12 to 14.
 ///
 /// ```
 /// use sotjarn::{merge, Refusal};
@@ -235,7 +241,28 @@ pub fn merge(plan: &[u32], kept: &mut [u32], kept_words: usize, list: &[u32]) ->
     written(engine::sotjarn_merge(plan, kept, kept_words, list))
 }
 
-/// The words that test 7 asks of an output for a plan: one row, k rows or one group. Refused by 5, 6 and 23.
+/// Counts a kept list of registers, which is the first `kept_words` words of `kept`; none at first, and then all 16 have 0. Word v of the
+/// report, from 0 to 61, is how many registers have the value v; they make 16. Its words, [`REPORT_WORDS`], are the answer;
+/// [`estimate`](crate::estimate) tells from them roughly how many distinct values there were. Refused by 7 and 12.
+///
+/// ```
+/// use sotjarn::{report, Refusal, REPORT_WORDS};
+///
+/// let kept = [0, 0, 3, 0, 1, 0, 0, 0, 0, 0, 0, 1, 0, 0, 0, 0];
+/// let mut counts = [0; REPORT_WORDS];
+/// assert_eq!(report(&kept, 16, &mut counts), Ok(62));
+/// assert_eq!(counts[..4], [13, 2, 0, 1]);
+/// assert_eq!(counts[4..].iter().sum::<u32>(), 0);
+/// assert_eq!(report(&kept, 0, &mut counts), Ok(62)); // nothing is merged yet
+/// assert_eq!(counts[..2], [16, 0]);
+/// assert_eq!(report(&kept, 15, &mut counts), Err(Refusal::MergedLists));
+/// assert_eq!(report(&kept, 16, &mut counts[1..]), Err(Refusal::BufferLengths));
+/// ```
+pub fn report(kept: &[u32], kept_words: usize, report: &mut [u32]) -> Result<usize, Refusal> {
+    written(engine::sotjarn_report(kept, kept_words, report))
+}
+
+/// The words that test 7 asks of an output for a plan: one row, k rows, one group or all registers. Refused by 5, 6 and 23.
 ///
 /// ```
 /// use sotjarn::{least_output, Refusal};

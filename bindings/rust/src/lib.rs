@@ -11,7 +11,7 @@
 //!
 //! | you have | use |
 //! |---|---|
-//! | words in buffers of your own | [`make`], [`open`], [`turn`], [`merge`], [`least_output`]; [`join`], [`serve`], [`top_up`]; [`view`]; [`grow`] |
+//! | words in buffers of your own | [`make`], [`open`], [`turn`], [`merge`], [`report`], [`least_output`]; [`join`], [`serve`], [`top_up`]; [`view`]; [`grow`] |
 //! | rows in any order | [`TableWords::make`], [`TableWords::from_rows`]; [`Dropped`] |
 //! | an adviser's grant | [`TableWords::view`] |
 //! | a seed, for trials | [`TableWords::grow`] |
@@ -20,7 +20,8 @@
 //! | a query to run | [`Query`] and its [`turns`](Query::turns), [`Kept`] |
 //! | queries of several owners | [`Queue`], [`Entry`] |
 //! | words that were stored | [`Plan::from_words`], [`Query::load`], [`Kept::from_words`] |
-//! | words to read | [`State::read`], [`Plan::read`], [`read_rows`], [`read_groups`], [`read_report`] |
+//! | words to read | [`State::read`], [`Plan::read`], [`read_rows`], [`read_groups`], [`read_registers`], [`read_report`] |
+//! | a kept list of registers | [`report`], [`estimate`]: roughly how many distinct values |
 //!
 //! The three-stem wood: stems of stand n100 with a diameter of at least 70, in turns of four steps.
 //!
@@ -69,6 +70,7 @@ mod plans;
 mod queries;
 mod queues;
 mod refusals;
+mod registers;
 mod states;
 mod stored;
 mod tables;
@@ -79,8 +81,9 @@ mod uploads;
 use sotjarn_portable as engine;
 
 pub use calls::{
-    grow, join, least_output, make, merge, open, serve, top_up, turn, view, Grown, Made, Queued, Served, TurnEnding, Turned,
-    Viewed, GROW_STACK, MAKE_STACK, MOST_ENTRIES, MOST_ROWS, MOST_STEMS, MOST_STEPS, MOST_YEAR, STATE_WORDS, SURVEYS, VIEW_STACK,
+    grow, join, least_output, make, merge, open, report, serve, top_up, turn, view, Grown, Made, Queued, Served, TurnEnding,
+    Turned, Viewed, GROW_STACK, MAKE_STACK, MOST_ENTRIES, MOST_ROWS, MOST_STEMS, MOST_STEPS, MOST_YEAR, REGISTERS, REPORT_WORDS,
+    STATE_WORDS, SURVEYS, VIEW_STACK,
 };
 pub use engine::Entry;
 pub use lists::{read_groups, read_rows, Group, Kept, List, Row, Unreadable};
@@ -88,6 +91,7 @@ pub use plans::{Branch, Comparison, Condition, Key, Plan, PlanBuilder, PlanEndin
 pub use queries::{Query, Turn, Turns};
 pub use queues::{plan_in, state_in, Queue, NO_ENTRY};
 pub use refusals::Refusal;
+pub use registers::{estimate, read_registers};
 pub use states::{Place, State};
 pub use tables::{RowFault, Survey, TableWords, Tables};
 pub use terms::{Term, TooLarge, Value, Variable, UNBOUND};

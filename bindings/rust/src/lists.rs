@@ -3,9 +3,10 @@
 use std::error::Error;
 use std::fmt;
 
-use crate::calls::merge;
+use crate::calls::{merge, report, REGISTERS, REPORT_WORDS};
 use crate::plans::{Plan, PlanEnding, TOTALS_WORDS};
 use crate::refusals::Refusal;
+use crate::registers::read_registers;
 use crate::terms::{Value, UNBOUND};
 
 /// Words that are no state, no list of a plan or no report, and why.
@@ -50,6 +51,8 @@ pub enum List {
     Rows(Vec<Row>),
     /// Groups, in ascending order of their keys. An unfinished query may have none; a finished one without group variables has one.
     Groups(Vec<Group>),
+    /// All registers; of an empty list each is 0.
+    Registers([u32; REGISTERS]),
 }
 
 /// Two words, the low one first.
@@ -132,6 +135,7 @@ impl Plan {
         match self.ending() {
             PlanEnding::Rows(rows) | PlanEnding::Top { rows, .. } => read_rows(list, rows.len()).map(List::Rows),
             PlanEnding::Group { by, .. } => read_groups(list, by.len()).map(List::Groups),
+            PlanEnding::Registers(_) => read_registers(list).map(List::Registers),
         }
     }
 }
@@ -180,6 +184,7 @@ impl<'p> Kept<'p> {
         let mut kept = Kept { plan, words };
         match plan.ending() {
             PlanEnding::Rows(_) => kept.list().map(drop).map_err(|_| Refusal::MergedLists)?,
+            PlanEnding::Registers(_) => report(kept.words(), kept.words().len(), &mut [0; REPORT_WORDS]).map(drop)?, // no turn's list is empty
             _ => kept.take(&[])?, // a list merged with none is itself
         }
         Ok(kept)

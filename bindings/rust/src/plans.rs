@@ -3,6 +3,7 @@
 //! It writes what it is told and leaves every limit of the rules (counts, depths, variables, repeats) to the engine, which tests
 //! each plan afresh. It refuses one thing alone, with [`TooLarge`]: what a word's bits cannot hold.
 
+use crate::calls::REGISTERS;
 use crate::terms::{Term, TooLarge, Variable};
 
 // The kinds of plan words, in their top four bits.
@@ -19,6 +20,7 @@ pub(crate) const TOP: u32 = 9;
 const RISING: u32 = 10;
 pub(crate) const FALLING: u32 = 11;
 pub(crate) const GROUP: u32 = 12;
+pub(crate) const IN_REGISTERS: u32 = 13;
 
 pub(crate) const COUNT_BITS: u32 = 28;
 
@@ -195,6 +197,8 @@ pub enum PlanEnding {
         /// The measured variable.
         measured: Variable,
     },
+    /// Sixteen registers of a variable's values, from which roughly is told how many distinct ones there are ([`estimate`](crate::estimate)).
+    Registers(Variable),
 }
 
 impl PlanEnding {
@@ -210,6 +214,7 @@ impl PlanEnding {
                 })
             }
             PlanEnding::Group { by, measured } => words.word(GROUP, by.len()).variables(by).variables(&[*measured]),
+            PlanEnding::Registers(variable) => words.word(IN_REGISTERS, 0).variables(&[*variable]),
         }
     }
 }
@@ -270,6 +275,11 @@ impl PlanBuilder {
     /// of nothing; by one or more, no rows are no groups.
     pub fn group(self, by: impl Into<Vec<Variable>>, measured: Variable) -> Result<Plan, TooLarge> {
         self.ending(PlanEnding::Group { by: by.into(), measured })
+    }
+
+    /// Ends the plan in registers of a variable's values: all 16 are in every turn's list, and they merge by the greater of each.
+    pub fn registers(self, variable: Variable) -> Result<Plan, TooLarge> {
+        self.ending(PlanEnding::Registers(variable))
     }
 
     /// Ends the plan.
@@ -344,15 +354,16 @@ impl Plan {
         &self.ending
     }
 
-    /// The words of a row or of a group's record.
+    /// The words of a row, of a group's record or of all registers.
     pub fn width(&self) -> usize {
         match &self.ending {
             PlanEnding::Rows(rows) | PlanEnding::Top { rows, .. } => rows.len(),
             PlanEnding::Group { by, .. } => by.len() + TOTALS_WORDS,
+            PlanEnding::Registers(_) => REGISTERS,
         }
     }
 
-    /// The least output that a turn takes: one row, k rows or one group.
+    /// The least output that a turn takes: one row, k rows, one group or all registers.
     pub fn least_output(&self) -> usize {
         match self.ending {
             PlanEnding::Top { k: 0, .. } => self.width() * DEFAULT_BEST as usize,

@@ -4,7 +4,7 @@
 //! for its items; so many of them may be read from it; a `&mut` slice may be written and overlaps no other; and nobody writes what is borrowed
 //! while the call runs. The library keeps no address and has no state of its own.
 
-/// What opening and merging answer, and what a plan asks of an output.
+/// What opening, merging and a report on registers answer, and what a plan asks of an output.
 #[repr(C)]
 pub struct WrittenNumbers {
     pub refused: u32,
@@ -133,6 +133,14 @@ mod foreign {
             kept_words: usize,
             list: *const u32,
             list_len: usize,
+        ) -> WrittenNumbers;
+
+        pub fn sotjarn_report(
+            kept: *const u32,
+            kept_len: usize,
+            kept_words: usize,
+            report: *mut u32,
+            report_len: usize,
         ) -> WrittenNumbers;
 
         pub fn sotjarn_least_output(plan: *const u32, plan_len: usize) -> WrittenNumbers;
@@ -306,6 +314,11 @@ pub fn sotjarn_merge(plan: &[u32], kept: &mut [u32], given: usize, list: &[u32])
             list.len(),
         )
     }
+}
+
+pub fn sotjarn_report(kept: &[u32], given: usize, report: &mut [u32]) -> WrittenNumbers {
+    // Sound: each address and length is a slice's, and `report`, the one that is written, is a `&mut` slice (see the module).
+    unsafe { foreign::sotjarn_report(kept.as_ptr(), kept.len(), given, report.as_mut_ptr(), report.len()) }
 }
 
 pub fn sotjarn_least_output(plan: &[u32]) -> WrittenNumbers {

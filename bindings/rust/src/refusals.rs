@@ -30,7 +30,8 @@ pub enum Refusal {
     PlanForm = 5,
     /// Plan: a variable above ?15, one that is not bound where it must be, a key that is no column, or a repeat.
     PlanVariables = 6,
-    /// Output holds less than one row, k rows or one group, by ending; or a state buffer under 11 words.
+    /// Output holds less than one row, k rows, one group or 16 registers, by ending; a state buffer under 11 words; or a report on registers
+    /// under 62.
     BufferLengths = 7,
     /// Quantum outside its range.
     Quantum = 8,
@@ -40,7 +41,7 @@ pub enum Refusal {
     StateNotPassed = 10,
     /// Threshold of wrong length, with another ending than top, or with a word of kind 3 other than unbound.
     Threshold = 11,
-    /// Merge: a list that no turn or merge by this plan can have made; or the plan ends in rows.
+    /// Merge: a list that no turn or merge by this plan can have made; or the plan ends in rows. Report: a list that is no registers.
     MergedLists = 12,
     /// Merge: a count would pass 2^64 − 1, or a sum leave −2^63 to 2^63 − 1.
     Totals = 13,
@@ -122,7 +123,7 @@ impl Refusal {
                 "the form of the plan is wrong: a kind, a count, its length or a condition's size, or words are left over"
             }
             Refusal::PlanVariables => "a variable of the plan is above ?15, is not bound, or is repeated",
-            Refusal::BufferLengths => "the output or the state buffer is too short",
+            Refusal::BufferLengths => "the output, the state buffer or a report on registers is too short",
             Refusal::Quantum => "the quantum is outside its range",
             Refusal::StateForm => "the state is empty, its kinds, branch, depth or length are wrong, or its year is not being read",
             Refusal::StateNotPassed => "the query never passes through this state",
@@ -168,7 +169,8 @@ impl Refusal {
                  take keys from the columns; name no column or group variable twice"
             }
             Refusal::BufferLengths => {
-                "lend a state buffer of 11 words, and an output for one row, k rows or one group, as the plan ends"
+                "lend a state buffer of 11 words, an output for one row, k rows, one group or 16 registers, as the plan ends, \
+                 and 62 words for a report"
             }
             Refusal::Quantum => "give 1 to 1,000,000 steps",
             Refusal::StateForm => {
@@ -176,7 +178,10 @@ impl Refusal {
             }
             Refusal::StateNotPassed => "send the state with the plan and the tables that it came from, or open the query anew",
             Refusal::Threshold => "send none, or the last row of a full list merged by the same plan",
-            Refusal::MergedLists => "merge whole lists of turns of the same plan; join the lists of a row query end to end instead",
+            Refusal::MergedLists => {
+                "merge whole lists of turns of the same plan; join the lists of a row query end to end instead; ask for reports \
+                 on merged registers alone"
+            }
             Refusal::Totals => "merge each list once; such totals no survey reaches",
             Refusal::KeptLength => "lend a longer buffer: the words of both lists are always enough",
             Refusal::UploadLength => "send four words a row, and at most 65,536 rows",

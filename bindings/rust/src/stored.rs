@@ -1,7 +1,7 @@
 //! A reader of plan words. The engine tests them first, so that what is read here is an accepted plan.
 
 use crate::calls::least_output;
-use crate::plans::{Key, Plan, PlanEnding, AND, COMPARISON, COUNT_BITS, FALLING, GROUP, NOT, OR, TOP, YEAR};
+use crate::plans::{Key, Plan, PlanEnding, AND, COMPARISON, COUNT_BITS, FALLING, GROUP, IN_REGISTERS, NOT, OR, TOP, YEAR};
 use crate::refusals::Refusal;
 use crate::terms::{Term, Variable};
 
@@ -105,6 +105,7 @@ impl Accepted<'_> {
                 let measured = self.variables(1)[0];
                 PlanEnding::Group { by, measured }
             }
+            (IN_REGISTERS, _) => PlanEnding::Registers(self.variables(1)[0]),
             (_, count) => PlanEnding::Rows(self.variables(count)),
         }
     }

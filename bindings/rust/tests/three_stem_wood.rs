@@ -388,7 +388,7 @@ fn errors_are_neither_true_nor_false() {
     .1
     {
         List::Rows(rows) => rows.len(),
-        List::Groups(_) => unreachable!("the plan ends in rows"),
+        List::Groups(_) | List::Registers(_) => unreachable!("the plan ends in rows"),
     };
     assert_eq!(rows(Condition::not(error())), 0);
     assert_eq!(rows(Condition::or(truth, error())), 3);

@@ -6,7 +6,7 @@ use mathlib.Core.List.{List, [], _∷_, _++_, append-assoc}
 use lib.ListN.{length}
 use Rattle.words.specs.declared.Written.{Written}
 use Rattle.words.specs.declared.Written.the-variants.{Words, Refused}
-use Rattle.plans.specs.Endings.{Ending, rows, top, group}
+use Rattle.plans.specs.Endings.{Ending, rows, top, group, registers}
 use Rattle.plans.specs.Plans.{planOf}
 use Rattle.turns.specs.Surveys.{Survey}
 use Rattle.turns.specs.Opening.{openOf, Opens}
@@ -43,6 +43,7 @@ module _ (v : Survey) (plan : List ℕ) (h : Phone) where
   joining x rest (rows vs) e = taking x rest _ e
   joining x rest (top k vs keys) e = same
   joining x rest (group vs m) e = same
+  joining x rest (registers y) e = same
 
   merged : (behind : List ℕ) (waiting : List ServedTurn) → h .waiting ≡ waiting → Same h (afterMerging plan h behind waiting)
   merged behind [] e = same

@@ -6,7 +6,7 @@ use mathlib.Core.Bool.{true}
 use mathlib.Core.List.{List, [], _∷_}
 use Rattle.words.specs.Sequences.{all, iterate}
 use Rattle.tables.specs.Tables.{Tables}
-use Rattle.plans.specs.Endings.{Ending, rows, top, group}
+use Rattle.plans.specs.Endings.{Ending, rows, top, group, registers}
 use Rattle.plans.specs.Plans.{Plan, planOf}
 use Rattle.steps.specs.Steps.{Run, after}
 use Rattle.lists.specs.Groups.{addAllBy}
@@ -31,6 +31,7 @@ unfolding all addAllBy
 nothing-fits (rows vs) r d = refl
 nothing-fits (top k vs keys) r d = refl
 nothing-fits (group vs m) r d = rw d
+nothing-fits (registers v) r d = refl
 
 module _ (v : Survey) (plan : List ℕ) (a : Accepted (v .tables) plan) where
   abbrev t : Tables

@@ -8,7 +8,7 @@ use lib.ListN.{take}
 use Rattle.words.specs.Bindings.{Bindings}
 use Rattle.words.specs.Sequences.{iterate}
 use Rattle.tables.specs.Tables.{Tables}
-use Rattle.plans.specs.Endings.{rows}
+use Rattle.plans.specs.Endings.{rows, registers}
 use Rattle.plans.specs.Plans.{Plan}
 use Rattle.plans.proofs.Bounds.{EndingForm}
 use Rattle.steps.specs.Steps.{after}
@@ -16,7 +16,7 @@ use Rattle.lists.specs.Gathering.{gathered, takenInto, rowsFit, thresholdRight}
 use Rattle.lists.specs.Closing.{listAt}
 use Rattle.lists.proofs.TopLists.{Fine}
 use Rattle.lists.proofs.FullLists.{listsOf, deliveredBy}
-use Rattle.lists.proofs.OneRow.{gathered-nil}
+use Rattle.lists.proofs.OneRow.{none-taken}
 use Rattle.lists.proofs.Closing.{at-adds}
 use Rattle.turns.specs.Surveys.{Survey}
 use Rattle.turns.specs.Turns.{isDone, isOver}
@@ -51,11 +51,12 @@ done-more (y ∷ xs) x e = go (isDone (y .ending)) e (done-more xs x)
 
 -- ---- what is kept of the uncut run
 module _ (t : Tables) (q : Plan) (form : EndingForm (q .ending)) where
-  -- up to where the run goes on it is the list of its rows there
-  pub kept-going : (from : ℕ) → isOver (after t q from .state) ≡ false → keptAfter t q from ≡ gathered (q .ending) [] (after t q from .delivered)
+  -- up to where the run goes on it is the list of its rows there, for whatever makes the same of no list yet as of the list of no rows
+  pub kept-going : {A : Type 0} (f : List ℕ → A) → f [] ≡ f (gathered (q .ending) [] []) → (from : ℕ) → isOver (after t q from .state) ≡ false
+      → f (keptAfter t q from) ≡ f (gathered (q .ending) [] (after t q from .delivered))
   unfolding after iterate
-  kept-going zero e = sym (gathered-nil (q .ending) [])
-  kept-going (suc n) e = ap (λ d. listAt (q .ending) [] d (after t q (suc n) .delivered)) e
+  kept-going f h zero e = h
+  kept-going f h (suc n) e = ap (λ d. f (listAt (q .ending) [] d (after t q (suc n) .delivered))) e
 
   -- after some steps
   pub kept-some : (n : ℕ) → 1 ≤ n → keptAfter t q n ≡ runList (q .ending) (after t q n)
@@ -79,11 +80,16 @@ abbrev pub Chain : Survey → Plan → ℕ → List ServedTurn → ℕ → Type 
 Chain v q from [] end = from ≡ end
 Chain v q from (x ∷ xs) end = (to : ℕ) × (Piece v q from to x × Chain v q to xs end)
 
--- to a row query no threshold is sent, by test 11
+-- to a query of rows or of registers no threshold is sent, by test 11
 no-threshold : (vs threshold : List ℕ) → thresholdRight (rows vs) threshold ≡ true → threshold ≡ []
 unfolding thresholdRight
 no-threshold vs [] e = refl
 no-threshold vs (w ∷ ws) e = absurd (let z : _≡_ {A = ℕ} 0 1 = cc in omega arith)
+
+no-registers-threshold : (x : ℕ) (threshold : List ℕ) → thresholdRight (registers x) threshold ≡ true → threshold ≡ []
+unfolding thresholdRight
+no-registers-threshold x [] e = refl
+no-registers-threshold x (w ∷ ws) e = absurd (let z : _≡_ {A = ℕ} 0 1 = cc in omega arith)
 
 module _ (v : Survey) (q : Plan) where
   pub chain-append : (a b c : ℕ) (xs ys : List ServedTurn) → Chain v q a xs b → Chain v q b ys c → Chain v q a (xs ++ ys) c
@@ -99,12 +105,16 @@ module _ (v : Survey) (q : Plan) where
   chain-placed a b [] c = c
   chain-placed a b (x ∷ xs) c = (c .0, (c .1 .0 .takes, chain-placed (c .0) b xs (c .1 .1)))
 
+  unsent : ((threshold : List ℕ) → thresholdRight (q .ending) threshold ≡ true → threshold ≡ []) → (a b : ℕ) (xs : List ServedTurn)
+      → Chain v q a xs b → Unsent xs
+  unsent f a b [] c = tt
+  unsent f a b (x ∷ xs) c = (f (x .sent) (c .1 .0 .right), unsent f (c .0) b xs (c .1 .1))
+
   pub rows-unsent : (vs : List ℕ) → q .ending ≡ rows vs → (a b : ℕ) (xs : List ServedTurn) → Chain v q a xs b → Unsent xs
-  rows-unsent vs e a b [] c = tt
-  rows-unsent vs e a b (x ∷ xs) c = (
-    no-threshold vs (x .sent) (subst (λ d. thresholdRight d (x .sent) ≡ true) e (c .1 .0 .right)),
-    rows-unsent vs e (c .0) b xs (c .1 .1),
-  )
+  rows-unsent vs e = unsent (λ threshold r. no-threshold vs threshold (subst (λ d. thresholdRight d threshold ≡ true) e r))
+
+  pub registers-unsent : (x : ℕ) → q .ending ≡ registers x → (a b : ℕ) (xs : List ServedTurn) → Chain v q a xs b → Unsent xs
+  registers-unsent x e = unsent (λ threshold r. no-registers-threshold x threshold (subst (λ d. thresholdRight d threshold ≡ true) e r))
 
   -- ---- the thresholds and the rows of the pieces, and their lists, where done adds nothing to them
   pub sentRows : (a b : ℕ) (xs : List ServedTurn) → Chain v q a xs b → List (List ℕ × List Bindings)
@@ -134,7 +144,8 @@ module _ (v : Survey) (q : Plan) where
         → takenInto (q .ending) (keptAfter (v .tables) q a) (x .list) ≡ keptAfter (v .tables) q b
     piece-adds a b x p =
         let d = isOver (after (v .tables) q b .state) in
-        ap₂ (takenInto (q .ending)) (kept-going (v .tables) q form a (p .going)) (p .list)
+        ap (takenInto (q .ending) (keptAfter (v .tables) q a)) (p .list)
+        ∙ kept-going (v .tables) q form (λ l. takenInto (q .ending) l (listAt (q .ending) (x .sent) d (p .rows))) (none-taken (q .ending) _) a (p .going)
         ∙ at-adds (q .ending) form (x .sent) d (after (v .tables) q a .delivered) (p .rows) (p .fine)
         ∙ ap (listAt (q .ending) [] d) (sym (p .more))
         ∙ sym (kept-some (v .tables) q form b (omega (arith, p .takes .least, p .takes .no-further)))

@@ -11,5 +11,6 @@ pub mod Unsent
 pub mod States
 pub mod AfterDone
 pub mod TurnRows
+pub mod Registers
 pub mod KeptFits
 pub mod Once

@@ -1,5 +1,5 @@
--- A merge of a best-of or group query, where what is kept is the uncut run's and its totals fit, is refused only for the uncut run's totals up to
--- the end of the turn or for its list's room, by 13 or 14.
+-- A merge of best-of lists, groups or registers, where what is kept is the uncut run's and its totals fit, is refused only for the uncut run's
+-- totals up to the end of the turn or for its list's room, by 13 or 14.
 use Prim.Native.Nat.{ℕ}
 use native.Mathlib.Omega.{arith}
 use mathlib.Core.Path.{_≡_, refl, sym, _∙_, ap, ap₂, subst}
@@ -19,14 +19,16 @@ use Rattle.words.specs.Tests.{firstFailing}
 use Rattle.words.proofs.Booleans.{absurd-true, and-both}
 use Rattle.words.proofs.Testing.{none-some, some-injective, fails-first}
 use Rattle.tables.specs.Tables.{Tables}
-use Rattle.plans.specs.Endings.{Ending, rows, top, group}
+use Rattle.plans.specs.Endings.{Ending, rows, top, group, registers}
 use Rattle.plans.specs.Years.{yearAllowed}
 use Rattle.plans.specs.Plans.{Plan, planOf, hasForm, readPlan, variablesRight}
 use Rattle.steps.specs.Steps.{after}
-use Rattle.lists.specs.Gathering.{gathered, merged, takenInto, listRight, totalsFit, rowsFit}
+use Rattle.lists.specs.Gathering.{gathered, merged, takenInto, keptRight, listRight, totalsFit, rowsFit}
 use Rattle.words.proofs.Each.{Each}
 use Rattle.lists.proofs.Values.{AllValues}
-use Rattle.lists.proofs.Gatherings.{Valid, Gathering}
+use Rattle.lists.specs.Closing.{listAt}
+use Rattle.lists.proofs.Gatherings.{Valid, Gathering, valid-kept}
+use Rattle.lists.proofs.OneRow.{none-right, none-totals}
 use Rattle.lists.proofs.Closing.{at-valid, at-fit}
 use Rattle.turns.specs.Surveys.{Survey}
 use Rattle.turns.specs.Turns.{isOver}
@@ -49,6 +51,14 @@ valid-right : (e : Ending) → MergesLists e → (list : List ℕ) → Valid e l
 valid-right (rows vs) m list v = absurd m
 valid-right (top k vs keys) m list v = v
 valid-right (group vs g) m list v = v
+valid-right (registers x) m list v = v
+
+-- and may be kept
+valid-kept-right : (e : Ending) → MergesLists e → (list : List ℕ) → Valid e list → keptRight e list ≡ true
+valid-kept-right (rows vs) m list v = absurd m
+valid-kept-right (top k vs keys) m list v = v
+valid-kept-right (group vs g) m list v = v
+valid-kept-right (registers x) m list v = valid-kept (registers x) list v
 
 -- where the other tests pass, 13 fails, or 14 and not 13
 last-two : (a b z c d e : Bool) (y : ℕ) → a ≡ true → b ≡ true → z ≡ true → c ≡ true
@@ -63,11 +73,12 @@ last-two true false z c d e y p q o r h = absurd-true q refl
 last-two false b z c d e y p q o r h = absurd-true p refl
 
 -- a list that test 12 passes is merged by taking it
-pub merged-taken : (e : Ending) (kept list : List ℕ) → listRight e kept ≡ true → merged e kept list ≡ takenInto e kept list
+pub merged-taken : (e : Ending) (kept list : List ℕ) → keptRight e kept ≡ true → merged e kept list ≡ takenInto e kept list
 unfolding listRight
 merged-taken (rows vs) kept list r = absurd-true refl (sym r)
 merged-taken (top k vs keys) kept list r = refl
 merged-taken (group vs m) kept list r = refl
+merged-taken (registers x) kept list r = refl
 
 module _ (v : Survey) (plan : List ℕ) (a : Accepted (v .tables) plan) (h : Phone) (k : Kept v (planOf plan) h) where
   abbrev t : Tables
@@ -90,14 +101,15 @@ module _ (v : Survey) (plan : List ℕ) (a : Accepted (v .tables) plan) (h : Pho
     piece : Piece v q n to x
     piece = next v q h k x rest waits .1 .0
 
-    -- the run goes on where the turn began: what is kept is the list of its rows up to there
-    kept-is : h .kept ≡ gathered (q .ending) [] (after t q n .delivered)
-    kept-is = k .list ∙ kept-going t q (accepted-form t plan a .ending) n (piece .going)
+    -- the run goes on where the turn began: what is kept is the list of its rows up to there, and no list yet is as the list of no rows
+    kept-is : {A : Type 0} (f : List ℕ → A) → f [] ≡ f (gathered (q .ending) [] [])
+        → f (h .kept) ≡ f (gathered (q .ending) [] (after t q n .delivered))
+    kept-is f e = ap f (k .list) ∙ kept-going t q (accepted-form t plan a .ending) f e n (piece .going)
 
-    kept-right : listRight (q .ending) (h .kept) ≡ true
+    kept-right : keptRight (q .ending) (h .kept) ≡ true
     kept-right =
-        ap (listRight (q .ending)) kept-is
-        ∙ valid-right (q .ending) m _ (accepted-gathering t plan a .valid [] (after t q n .delivered) (accepted-values t plan a n))
+        kept-is (keptRight (q .ending)) (none-right (q .ending))
+        ∙ valid-kept-right (q .ending) m _ (accepted-gathering t plan a .valid [] (after t q n .delivered) (accepted-values t plan a n))
 
     -- the turn is at the run's end, or not
     abbrev over : Bool
@@ -114,7 +126,8 @@ module _ (v : Survey) (plan : List ℕ) (a : Accepted (v .tables) plan) (h : Pho
     -- the totals and the words of the result are the uncut run's up to the end of that turn
     totals-are : totalsFit (q .ending) (h .kept) (x .list) ≡ runFits (q .ending) (after t q to)
     totals-are =
-        ap₂ (totalsFit (q .ending)) kept-is (piece .list)
+        ap (totalsFit (q .ending) (h .kept)) (piece .list)
+        ∙ kept-is (λ l. totalsFit (q .ending) l (listAt (q .ending) (x .sent) over (piece .rows))) (none-totals (q .ending) _)
         ∙ at-fit (q .ending) (x .sent) over (after t q n .delivered) (piece .rows) (k .fits) (piece .fits)
         ∙ ap (rowsFit (q .ending)) (sym (piece .more))
 
@@ -127,12 +140,12 @@ module _ (v : Survey) (plan : List ℕ) (a : Accepted (v .tables) plan) (h : Pho
     given-kept : take (i .given) (i .kept) ≡ h .kept
     given-kept = take-append-seam (h .kept) behind
 
-    lists-right : leb (i .given) (length (i .kept)) && (listRight (q .ending) (take (i .given) (i .kept)) && listRight (q .ending) (x .list)) ≡ true
+    lists-right : leb (i .given) (length (i .kept)) && (keptRight (q .ending) (take (i .given) (i .kept)) && listRight (q .ending) (x .list)) ≡ true
     lists-right =
         and-both (leb (i .given) (length (i .kept))) _
         (le-leb (length (h .kept)) (length (h .kept ++ behind)) (omega (arith, length-append (h .kept) behind)))
-        (and-both (listRight (q .ending) (take (i .given) (i .kept))) (listRight (q .ending) (x .list))
-        (ap (listRight (q .ending)) given-kept ∙ kept-right) list-right)
+        (and-both (keptRight (q .ending) (take (i .given) (i .kept))) (listRight (q .ending) (x .list))
+        (ap (keptRight (q .ending)) given-kept ∙ kept-right) list-right)
 
     pub merge-refused : (y : ℕ) → mergeOf i .answer ≡ Refused y → NotTaken t q to (length (h .kept ++ behind)) y
     unfolding firstFailing
@@ -141,7 +154,7 @@ module _ (v : Survey) (plan : List ℕ) (a : Accepted (v .tables) plan) (h : Pho
         ap (λ l. totalsFit (q .ending) l (x .list)) given-kept ∙ totals-are in
         let long = ap length (ap (λ l. merged (q .ending) l (x .list)) given-kept ∙ words-are) in
         elim (last-two (hasForm (readPlan plan)) (variablesRight q) (yearAllowed (q .years))
-        (leb (i .given) (length (i .kept)) && (listRight (q .ending) (take (i .given) (i .kept)) && listRight (q .ending) (x .list)))
+        (leb (i .given) (length (i .kept)) && (keptRight (q .ending) (take (i .given) (i .kept)) && listRight (q .ending) (x .list)))
         (totalsFit (q .ending) (take (i .given) (i .kept)) (x .list)) (leb (length (mergedWords i)) (length (i .kept))) y
         (ap hasForm (a .read)) (a .variables) (a .years) lists-right (fails-first y (mergeTests i) (merge-refusals i .refused y .0 e))) [
           | inl g ↦ subst (NotTaken t q to (length (h .kept ++ behind))) (sym (g .0)) (totals-pass (sym fits ∙ g .1))

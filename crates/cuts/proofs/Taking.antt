@@ -12,10 +12,10 @@ use Rattle.words.specs.declared.Written.the-variants.{Words, Refused}
 use Rattle.words.specs.Answers.{wordsIn}
 use Rattle.words.proofs.Booleans.{and-left, and-right}
 use Rattle.tables.specs.Tables.{Tables}
-use Rattle.plans.specs.Endings.{Ending, rows, top, group}
+use Rattle.plans.specs.Endings.{Ending, rows, top, group, registers}
 use Rattle.plans.specs.Plans.{Plan, planOf}
 use Rattle.steps.specs.Steps.{after}
-use Rattle.lists.specs.Gathering.{merged, takenInto, listRight}
+use Rattle.lists.specs.Gathering.{merged, takenInto, keptRight, listRight}
 use Rattle.turns.specs.Surveys.{Survey}
 use Rattle.merges.specs.Merging.{MergeInput, mergeOf}
 use Rattle.merges.specs.Refusals.{Merges}
@@ -53,16 +53,17 @@ module _ (v : Survey) (plan : List ℕ) (a : Accepted (v .tables) plan) (h : Pho
       served-merge serve =
           let p = merge-passed i 12 serve in
           let kept : take (i .given) (i .kept) ≡ h .kept = take-append-seam (h .kept) behind in
-          let right = and-left (listRight (q .ending) (take (i .given) (i .kept))) (listRight (q .ending) (x .list))
+          let right = and-left (keptRight (q .ending) (take (i .given) (i .kept))) (listRight (q .ending) (x .list))
           (and-right (leb (i .given) (length (i .kept))) _ p) in
           merge-writes i serve .kept .front
           ∙ ap (λ l. merged (q .ending) l (x .list)) kept
-          ∙ merged-taken (q .ending) (h .kept) (x .list) (ap (listRight (q .ending)) (sym kept) ∙ right)
+          ∙ merged-taken (q .ending) (h .kept) (x .list) (ap (keptRight (q .ending)) (sym kept) ∙ right)
 
       -- the lists of a row query have no totals; any other that is taken passed 13
       taken-fits : (words : ℕ) → mergeOf i .answer ≡ Words words → (e : Ending) → q .ending ≡ e → runFits (q .ending) (after t q to) ≡ true
       taken-fits words s (rows vs) p = rw p
       taken-fits words s (top n vs keys) p = rw p
+      taken-fits words s (registers y) p = rw p
       taken-fits words s (group vs m) p = merge-fits v plan a h k (rw p tt) x rest waits behind words s
 
       pub merge-keeps : (w : Written) → mergeOf i .answer ≡ w → Kept v q (afterMerge h x rest (mergeOf i) w)
@@ -77,6 +78,7 @@ module _ (v : Survey) (plan : List ℕ) (a : Accepted (v .tables) plan) (h : Pho
     join-keeps (rows vs) f = taken-keeps (h .kept ++ x .list) (sym (ap (λ e. takenInto e (h .kept) (x .list)) f)) (rw f)
     join-keeps (top n vs keys) f = k
     join-keeps (group vs m) f = k
+    join-keeps (registers y) f = k
 
   pub merging-keeps : (behind : List ℕ) (waiting : List ServedTurn) → h .waiting ≡ waiting → Kept v q (afterMerging plan h behind waiting)
   merging-keeps behind [] e = k

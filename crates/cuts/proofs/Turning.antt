@@ -12,7 +12,7 @@ use Rattle.words.specs.Bindings.{Bindings}
 use Rattle.words.specs.Sequences.{iterate}
 use Rattle.words.proofs.Booleans.{absurd-true, and-right}
 use Rattle.tables.specs.Tables.{Tables}
-use Rattle.plans.specs.Endings.{Ending, rows, top, group}
+use Rattle.plans.specs.Endings.{Ending, rows, top, group, registers}
 use Rattle.plans.specs.Plans.{Plan, planOf}
 use Rattle.steps.specs.Steps.{State, Run, after}
 use Rattle.steps.specs.Saved.{savedWords, shapeRight, stateIn}
@@ -82,6 +82,7 @@ module _ (v : Survey) (plan : List ℕ) (a : Accepted (v .tables) plan) (h : Pho
       go : (e : Ending) → q .ending ≡ e → Fine (q .ending) (after t q n .delivered) threshold
       go (rows vs) e = subst⁻¹ (λ x. Fine x (after t q n .delivered) threshold) e tt
       go (group vs m) e = subst⁻¹ (λ x. Fine x (after t q n .delivered) threshold) e tt
+      go (registers y) e = subst⁻¹ (λ x. Fine x (after t q n .delivered) threshold) e tt
       go (top j vs keys) e =
           subst (λ bs. Fine (q .ending) bs threshold) (sym all-rows)
           (sent-fine (q .ending) (some-width (q .ending) (accepted-form t plan a .ending)) turns threshold
@@ -127,6 +128,7 @@ module _ (v : Survey) (plan : List ℕ) (a : Accepted (v .tables) plan) (h : Pho
       totals-fit : (e : Ending) → thresholdRight e threshold ≡ true → rowsFit e (on .rows) ≡ true
       totals-fit (rows vs) r = refl
       totals-fit (top j vs keys) r = refl
+      totals-fit (registers y) r = refl
       totals-fit (group vs m) r =
           let own = ap (λ (u : Run). length (u .delivered)) (served-run i serve) in
           let few = progress-rows t q threshold (roomFor i) (stateIn (givenState i)) quantum in

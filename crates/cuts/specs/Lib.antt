@@ -3,6 +3,7 @@ pub mod Premises
 pub mod Uncut
 pub mod Unsent
 pub mod TurnRows
+pub mod Registers
 pub mod Accepting
 pub mod AfterDone
 pub mod Computing

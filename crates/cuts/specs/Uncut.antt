@@ -8,7 +8,7 @@ use mathlib.Core.Bool.{Bool, true, false}
 use mathlib.Core.Option.{none}
 use lib.ListN.{length, take}
 use Rattle.tables.specs.Tables.{Tables}
-use Rattle.plans.specs.Endings.{Ending, rows, top, group}
+use Rattle.plans.specs.Endings.{Ending, rows, top, group, registers}
 use Rattle.plans.specs.Plans.{Plan}
 use Rattle.steps.specs.Steps.{Run, after}
 use Rattle.steps.specs.Saved.{savedWords}
@@ -19,7 +19,7 @@ use Rattle.turns.specs.Turns.{isOver}
 use Rattle.cuts.specs.Histories.{ServedTurn, Phone, servedIn, stepsIn, doneIn}
 use Rattle.cuts.specs.Premises.{listsIn}
 
--- the rows, best-of list or groups of a run, as words: closed where the run is over
+-- the rows, best-of list, groups or registers of a run, as words: closed where the run is over
 abbrev pub runList : Ending → Run → List ℕ
 runList e r = listAt e [] (isOver (r .state)) (r .delivered)
 
@@ -44,11 +44,12 @@ pub data NotTaken (t : Tables) (q : Plan) (steps room : ℕ) : ℕ → Type 0 wh
   totals-pass : runFits (q .ending) (after t q steps) ≡ false → NotTaken t q steps room 13
   no-room : runFits (q .ending) (after t q steps) ≡ true → room < length (keptAfter t q steps) → NotTaken t q steps room 14
 
--- a best-of or group query
+-- a query whose lists are merged: best-of, groups or registers
 abbrev pub MergesLists : Ending → Type 0
 MergesLists (rows vs) = ⊥
 MergesLists (top k vs keys) = Unit {0}
 MergesLists (group vs m) = Unit {0}
+MergesLists (registers v) = Unit {0}
 
 -- some served turns' lists, joined end to end
 abbrev pub joinedLists : List ServedTurn → List ℕ
@@ -87,7 +88,7 @@ pub record AsUncut (v : Survey) (q : Plan) (h : Phone) : Type 0 where
   pub end : (h .saved ≡ []) ↔ EndsAt (v .tables) q reached
   -- done was answered exactly then
   pub done : (doneIn (servedIn h) ≡ true) ↔ EndsAt (v .tables) q reached
-  -- the lists taken so far make its rows, its best-of list or its groups up to where the last of them ended
+  -- the lists taken so far make its rows, its best-of list, its groups or its registers up to where the last of them ended
   pub list : h .kept ≡ keptAfter (v .tables) q upto
   -- whose totals are in their range
   pub fits : runFits (q .ending) (after (v .tables) q upto) ≡ true

@@ -33,7 +33,7 @@ pub record StepForStep (v : Survey) (q : Plan) (h : Phone) : Type 0 where
   pub done : (doneIn (servedIn h) ≡ true) ↔ EndsAt (v .tables) q (stepsIn (servedIn h))
   -- no turn's steps are above its quantum
   pub quantum : WithinQuantum (servedIn h)
-  -- the lists taken so far make its rows, its best-of list or its groups up to where the last of them ended
+  -- the lists taken so far make its rows, its best-of list, its groups or its registers up to where the last of them ended
   pub list : h .kept ≡ keptAfter (v .tables) q (stepsIn (h .taken))
   -- for a row query, the first lists of any number make its rows up to where the last of them ended
   pub prefixes : (vs : List ℕ) → q .ending ≡ rows vs → (k : ℕ)

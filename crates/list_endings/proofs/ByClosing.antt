@@ -4,15 +4,15 @@ use native.Mathlib.Omega.{arith}
 use mathlib.Core.Path.{_≡_, sym, _∙_, ap, subst, subst⁻¹}
 use mathlib.Core.List.{List}
 use lib.ListN.{length, take}
-use Rattle.plans.specs.declared.Last.the-variants.{Rows, Top, Group}
+use Rattle.plans.specs.declared.Last.the-variants.{Rows, Top, Group, Registers}
 use Rattle.plans.specs.Endings.{Ending, group}
 use Rattle.plans.specs.Reading.{lastIn, variablesIn, keysIn, bestIn, measuredIn}
-use Rattle.plans.proofs.EndingRead.{is-rows, is-top, is-group}
+use Rattle.plans.proofs.EndingRead.{is-rows, is-top, is-group, is-registers}
 use Rattle.lists.specs.Groups.{totalsWidth}
 use Rattle.lists.specs.Gathering.{leastOutput}
 use Rattle.lists.specs.Closing.{closed}
 use Rattle.lists.specs.Putting.{Listed}
-use Rattle.lists.proofs.Closing.{rows-closed, top-closed}
+use Rattle.lists.proofs.Closing.{rows-closed, top-closed, registers-closed}
 use Rattle.list_endings.proofs.ClosedGroups.{listed-own}
 
 module _ (e : Ending) (out : List ℕ) (used : ℕ) (h : used ≤ length out) where
@@ -26,6 +26,12 @@ module _ (e : Ending) (out : List ℕ) (used : ℕ) (h : used ≤ length out) wh
   close-top k =
       subst⁻¹ (λ l. Listed l out out used)
       (ap (λ (x : Ending). closed x (take used out)) (is-top e k) ∙ top-closed (bestIn e) (variablesIn e) (keysIn e) (take used out))
+      (listed-own out used h)
+
+  pub close-registers : lastIn e ≡ Registers → Listed (closed e (take used out)) out out used
+  close-registers k =
+      subst⁻¹ (λ l. Listed l out out used)
+      (ap (λ (x : Ending). closed x (take used out)) (is-registers e k) ∙ registers-closed (measuredIn e) (take used out))
       (listed-own out used h)
 
   -- groups, by their variables

@@ -3,11 +3,11 @@ use Prim.Native.Nat.{ℕ}
 use mathlib.Core.Path.{_≡_, sym, _∙_, ap}
 use mathlib.Core.Bool.{Bool}
 use mathlib.Core.List.{List}
-use Rattle.plans.specs.declared.Last.the-variants.{Rows, Top, Group}
-use Rattle.plans.specs.Endings.{Ending, rows, top, group}
+use Rattle.plans.specs.declared.Last.the-variants.{Rows, Top, Group, Registers}
+use Rattle.plans.specs.Endings.{Ending, rows, top, group, registers}
 use Rattle.plans.specs.Reading.{lastIn, variablesIn, keysIn, bestIn, measuredIn}
 use Rattle.lists.specs.Gathering.{thresholdRight}
-use Rattle.plans.proofs.EndingRead.{is-rows, is-top, is-group}
+use Rattle.plans.proofs.EndingRead.{is-rows, is-top, is-group, is-registers}
 
 module _ (e : Ending) (threshold : List ℕ) (r : Bool) where
   pub threshold-rows : lastIn e ≡ Rows → ((vs : List ℕ) → r ≡ thresholdRight (rows vs) threshold) → r ≡ thresholdRight e threshold
@@ -22,3 +22,6 @@ module _ (e : Ending) (threshold : List ℕ) (r : Bool) where
       → r ≡ thresholdRight e threshold
   threshold-group h f =
       f (variablesIn e) (measuredIn e) ∙ ap (λ (x : Ending). thresholdRight x threshold) (sym (is-group e h))
+
+  pub threshold-registers : lastIn e ≡ Registers → ((v : ℕ) → r ≡ thresholdRight (registers v) threshold) → r ≡ thresholdRight e threshold
+  threshold-registers h f = f (measuredIn e) ∙ ap (λ (x : Ending). thresholdRight x threshold) (sym (is-registers e h))

@@ -13,14 +13,15 @@ use Rattle.words.specs.declared.Written.the-variants.{Words, Refused}
 use Rattle.words.specs.Words.{lowNumbers, kind, low, rowsKind}
 use Rattle.words.specs.Tests.{firstFailing, numberOf}
 use Rattle.plans.specs.declared.Last.{Last}
-use Rattle.plans.specs.declared.Last.the-variants.{Rows, Top, Group, Neither}
+use Rattle.plans.specs.declared.Last.the-variants.{Rows, Top, Group, Registers, Neither}
 use Rattle.plans.specs.Endings.{Ending, mostRowVariables, defaultBest, bestCount, rowWidth, lastOf, endingAs, endingAt}
 use Rattle.plans.specs.Plans.{planOf, planTests}
 use Rattle.plans.specs.Reading.{lastIn, variablesIn, bestIn}
+use Rattle.registers.specs.Registers.{registerCount}
 use Rattle.lists.specs.Groups.{totalsWidth}
 use Rattle.lists.specs.Gathering.{leastOutput}
 use Rattle.list_endings.specs.PlanOutputs.{outputAs, planOutput}
-use Rattle.plans.proofs.EndingRead.{is-rows, is-top, is-group}
+use Rattle.plans.proofs.EndingRead.{is-rows, is-top, is-group, is-registers}
 use Rattle.plan_tests.proofs.Checked.{check-passes, check-refuses}
 
 -- ---- the words that an output has at least
@@ -33,6 +34,9 @@ module _ (e : Ending) (vs : List ℕ) (ev : vs ≡ variablesIn e) where
 
   pub least-group : lastIn e ≡ Group → length vs + totalsWidth ≡ leastOutput e
   least-group h = rw (is-group e h, ev)
+
+pub least-registers : (e : Ending) → lastIn e ≡ Registers → registerCount ≡ leastOutput e
+least-registers e h = sym (ap leastOutput (is-registers e h))
 
 -- at most 16 variables, and a k that a word holds, so the product is small
 row-few : (w : ℕ) → rowWidth w ≤ mostRowVariables
@@ -58,6 +62,7 @@ top-small Top ws h =
     let l = length-take (rowWidth (getD (drop 1 ws) 0 0)) (drop 1 (drop 1 ws)) in
     (best-few (getD ws 0 0), omega (arith, row-few (getD (drop 1 ws) 0 0)))
 top-small Group ws h = absurd (let z : _≡_ {A = ℕ} 0 1 = cc in omega arith)
+top-small Registers ws h = absurd (let z : _≡_ {A = ℕ} 0 1 = cc in omega arith)
 top-small Neither ws h = absurd (let z : _≡_ {A = ℕ} 0 1 = cc in omega arith)
 
 pub top-fits : (ws vs : List ℕ) (k : ℕ) → vs ≡ variablesIn (endingAt ws) → k ≡ bestIn (endingAt ws) → lastIn (endingAt ws) ≡ Top

@@ -4,3 +4,4 @@ pub mod ByClosing
 pub mod Least
 pub mod ByKind
 pub mod OutputRefusals
+pub mod NoRows

@@ -5,10 +5,11 @@ use mathlib.Core.Path.{_≡_, refl, sym, subst, subst⁻¹}
 use mathlib.Core.List.{List, []}
 use lib.ListN.{length, take}
 use Rattle.words.specs.Bindings.{Bindings}
-use Rattle.plans.specs.declared.Last.the-variants.{Rows, Top, Group}
-use Rattle.plans.specs.Endings.{Ending, rows, top, group, mostGroupVariables}
+use Rattle.plans.specs.declared.Last.the-variants.{Rows, Top, Group, Registers}
+use Rattle.plans.specs.Endings.{Ending, rows, top, group, registers, mostGroupVariables}
 use Rattle.plans.specs.Reading.{lastIn, variablesIn, keysIn, bestIn, measuredIn}
-use Rattle.plans.proofs.EndingRead.{is-rows, is-top, is-group}
+use Rattle.plans.proofs.EndingRead.{is-rows, is-top, is-group, is-registers}
+use Rattle.registers.specs.Registers.{registerCount}
 use Rattle.lists.specs.declared.Put.{Put}
 use Rattle.lists.specs.declared.Put.the-variants.{Words}
 use Rattle.lists.specs.Delivering.{withRow}
@@ -23,6 +24,24 @@ use Rattle.list_endings.specs.Receiving.{Receives}
 rows-any : (vs threshold list : List ℕ) (b : Bindings) → withRow (rows vs) threshold list b ≡ withRow (rows vs) [] list b
 unfolding withRow
 rows-any vs threshold list b = refl
+
+-- nor in registers
+registers-any : (v : ℕ) (threshold list : List ℕ) (b : Bindings) → withRow (registers v) threshold list b ≡ withRow (registers v) [] list b
+unfolding withRow
+registers-any v threshold list b = refl
+
+-- ---- registers
+module _ (e : Ending) (threshold out : List ℕ) (used : ℕ) (b : Bindings) (r : Receives e threshold out used) (h : lastIn e ≡ Registers) (v : ℕ)
+    (ev : v ≡ measuredIn e) where
+  registers-of : e ≡ registers v
+  registers-of = rw ev (is-registers e h)
+
+  pub registers-ready : (used ≡ registerCount) × (registerCount ≤ length out)
+  registers-ready = subst (λ (x : Ending). Receives x threshold out used) registers-of r
+
+  pub registers-taken : (after : List ℕ) (p : Put) → Taken (withRow (registers v) [] (take used out) b) out after p
+      → Taken (withRow e threshold (take used out) b) out after p
+  registers-taken after p t = rw (registers-of, registers-any v threshold (take used out) b) t
 
 module _ (e : Ending) (threshold out : List ℕ) (used : ℕ) (b : Bindings) (r : Receives e threshold out used) (vs : List ℕ)
     (ev : vs ≡ variablesIn e) where

@@ -55,6 +55,7 @@ pub fn close(ending: &[u32], out: &mut [u32], used: usize) -> usize
         Last::Rows => used,
         Last::Top => used,
         Last::Group => close_groups(vars, out, used),
+        Last::Registers => used,
         Last::Neither => used,
     }
 }

@@ -10,7 +10,7 @@ ghost use Rattle.list_endings.specs.PlanOutputs.{planOutput};
 // That a plan passes its tests.
 pub const ACCEPTED: u32 = 0;
 
-// The words that an output has at least: one row, k rows, one record.
+// The words that an output has at least: one row, k rows, one record, all registers.
 pub fn least_output(ending: &[u32]) -> usize
     requires { ⌜ endingForm (now ending) ≡ true ⌝ }
     ensures { λ r. ⌜ r ≡ leastOutput (endingAt (now (ending .entry))) ⌝ }
@@ -20,6 +20,7 @@ pub fn least_output(ending: &[u32]) -> usize
         Last::Rows => width,
         Last::Top => plans::best_count(ending) * width,
         Last::Group => width + list_group_totals::TOTALS,
+        Last::Registers => list_registers::REGISTERS,
         Last::Neither => 0,
     }
 }

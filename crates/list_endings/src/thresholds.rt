@@ -14,6 +14,7 @@ pub fn threshold_right(ending: &[u32], threshold: &[u32]) -> bool
         Last::Top => list_best_tests::best_threshold(plans::variables(ending), threshold),
         Last::Rows => lists::no_threshold(threshold),
         Last::Group => lists::no_threshold(threshold),
+        Last::Registers => lists::no_threshold(threshold),
         Last::Neither => false,
     }
 }

@@ -8,7 +8,7 @@ use mathlib.Core.List.{List, [], _∷_, _++_}
 use lib.ListN.{length}
 use Rattle.words.specs.Bindings.{Bindings}
 use Rattle.words.specs.Sequences.{all}
-use Rattle.plans.specs.Endings.{Ending, rows, top, group}
+use Rattle.plans.specs.Endings.{Ending, rows, top, group, registers}
 use Rattle.plans.proofs.Bounds.{EndingForm}
 use Rattle.lists.specs.Groups.{addGroups}
 use Rattle.lists.specs.Gathering.{gathered, leastOutput, takenInto, groupFits, totalsFit, rowsFit}
@@ -21,7 +21,7 @@ use Rattle.lists.proofs.ClosedGroups.{merge-closed, fits-closed, closed
 use Rattle.lists.proofs.OneRow.{gathered-nil}
 use Rattle.lists.proofs.Gatherings.{Valid, Gathering, gathering}
 
--- ---- what done does not change: rows and best-of lists
+-- ---- what done does not change: rows, best-of lists and registers
 pub rows-closed : (vs list : List ℕ) → closed (rows vs) list ≡ list
 unfolding closed
 rows-closed vs list = refl
@@ -30,12 +30,16 @@ pub top-closed : (k : ℕ) (vs keys list : List ℕ) → closed (top k vs keys) 
 unfolding closed
 top-closed k vs keys list = refl
 
+pub registers-closed : (v : ℕ) (list : List ℕ) → closed (registers v) list ≡ list
+unfolding closed
+registers-closed v list = refl
+
 -- and groups by one variable or more
 pub groups-closed : (v : ℕ) (vs : List ℕ) (m : ℕ) (list : List ℕ) → closed (group (v ∷ vs) m) list ≡ list
 unfolding closed
 groups-closed v vs m list = refl
 
--- so a list of rows or a best-of list is the same at done and before
+-- so a list of rows, a best-of list or one of registers is the same at done and before
 at-same : (e : Ending) (threshold : List ℕ) (done : Bool) (bs : List Bindings)
     → closed e (gathered e threshold bs) ≡ gathered e threshold bs → listAt e threshold done bs ≡ gathered e threshold bs
 at-same e threshold true bs p = p
@@ -48,6 +52,10 @@ pub top-at : (k : ℕ) (vs keys threshold : List ℕ) (done : Bool) (bs : List B
     → listAt (top k vs keys) threshold done bs ≡ gathered (top k vs keys) threshold bs
 top-at k vs keys threshold done bs = at-same (top k vs keys) threshold done bs (top-closed k vs keys _)
 
+pub registers-at : (v : ℕ) (threshold : List ℕ) (done : Bool) (bs : List Bindings)
+    → listAt (registers v) threshold done bs ≡ gathered (registers v) threshold bs
+registers-at v threshold done bs = at-same (registers v) threshold done bs (registers-closed v _)
+
 -- ---- room: a closed list is no shorter, and an output that test 7 passes has room for it
 pub closed-room : (e : Ending) (threshold : List ℕ) (bs : List Bindings) (room : ℕ) → leastOutput e ≤ room
     → length (gathered e threshold bs) ≤ room → length (closed e (gathered e threshold bs)) ≤ room
@@ -56,6 +64,7 @@ closed-room (top k vs keys) threshold bs room l f = omega (arith, ap length (top
 closed-room (group [] m) threshold bs room l f = omega (arith, length-closed m threshold bs)
 closed-room (group (v ∷ vs) m) threshold bs room l f =
     omega (arith, ap length (groups-closed v vs m (gathered (group (v ∷ vs) m) threshold bs)))
+closed-room (registers v) threshold bs room l f = omega (arith, ap length (registers-closed v (gathered (registers v) threshold bs)))
 
 pub closed-longer : (e : Ending) (list : List ℕ) → length list ≤ length (closed e list)
 unfolding closed
@@ -64,6 +73,7 @@ closed-longer (top k vs keys) list = omega arith
 closed-longer (group [] m) [] = omega arith
 closed-longer (group [] m) (w ∷ ws) = omega arith
 closed-longer (group (v ∷ vs) m) list = omega arith
+closed-longer (registers v) list = omega arith
 
 pub at-room : (e : Ending) (threshold : List ℕ) (done : Bool) (bs : List Bindings) (room : ℕ) → leastOutput e ≤ room
     → length (gathered e threshold bs) ≤ room → length (listAt e threshold done bs) ≤ room
@@ -83,6 +93,7 @@ closed-adds (rows vs) f threshold xs ys h = gathering (rows vs) f .adds threshol
 closed-adds (top k vs keys) f threshold xs ys h = gathering (top k vs keys) f .adds threshold xs ys h
 closed-adds (group [] m) f threshold xs ys h = merge-closed m threshold xs ys
 closed-adds (group (v ∷ vs) m) f threshold xs ys h = gathering (group (v ∷ vs) m) f .adds threshold xs ys h
+closed-adds (registers v) f threshold xs ys h = gathering (registers v) f .adds threshold xs ys h
 
 -- the list of some rows, and then that of further ones, at done or before, make the list of all there
 pub at-adds : (e : Ending) → EndingForm e → (threshold : List ℕ) (done : Bool) (xs ys : List Bindings) → Fine e xs threshold
@@ -97,6 +108,7 @@ closed-valid (rows vs) f threshold bs h = tt
 closed-valid (top k vs keys) f threshold bs h = gathering (top k vs keys) f .valid threshold bs h
 closed-valid (group [] m) f threshold bs h = closed-right m threshold bs h
 closed-valid (group (v ∷ vs) m) f threshold bs h = gathering (group (v ∷ vs) m) f .valid threshold bs h
+closed-valid (registers v) f threshold bs h = gathering (registers v) f .valid threshold bs h
 
 pub at-valid : (e : Ending) → EndingForm e → (threshold : List ℕ) (done : Bool) (bs : List Bindings) → AllValues bs
     → Valid e (listAt e threshold done bs)
@@ -112,6 +124,7 @@ both-fit (top k vs keys) threshold xs ys f g = refl
 both-fit (group vs m) threshold xs ys f g =
     ap (all groupFits)
     (ap₂ addGroups (groups-in-gathered vs m [] xs f) (groups-in-gathered vs m threshold ys g) ∙ sym (groups-append vs m xs ys))
+both-fit (registers v) threshold xs ys f g = refl
 
 closed-fit : (e : Ending) (threshold : List ℕ) (xs ys : List Bindings) → rowsFit e xs ≡ true → rowsFit e ys ≡ true
     → totalsFit e (gathered e [] xs) (closed e (gathered e threshold ys)) ≡ rowsFit e (xs ++ ys)
@@ -120,6 +133,7 @@ closed-fit (rows vs) threshold xs ys f g = both-fit (rows vs) threshold xs ys f 
 closed-fit (top k vs keys) threshold xs ys f g = both-fit (top k vs keys) threshold xs ys f g
 closed-fit (group [] m) threshold xs ys f g = fits-closed m threshold xs ys f g
 closed-fit (group (v ∷ vs) m) threshold xs ys f g = both-fit (group (v ∷ vs) m) threshold xs ys f g
+closed-fit (registers v) threshold xs ys f g = both-fit (registers v) threshold xs ys f g
 
 pub at-fit : (e : Ending) (threshold : List ℕ) (done : Bool) (xs ys : List Bindings) → rowsFit e xs ≡ true → rowsFit e ys ≡ true
     → totalsFit e (gathered e [] xs) (listAt e threshold done ys) ≡ rowsFit e (xs ++ ys)
@@ -131,7 +145,8 @@ pub few-fit : (e : Ending) (bs : List Bindings) → length bs ≤ mostRows → r
 few-fit (rows vs) bs h = refl
 few-fit (top k vs keys) bs h = refl
 few-fit (group vs m) bs h = groups-fit vs m bs h
+few-fit (registers v) bs h = refl
 
--- ---- of no rows, before done
-pub none-at : (e : Ending) (threshold : List ℕ) → listAt e threshold false [] ≡ []
-none-at e threshold = gathered-nil e threshold
+-- ---- of no rows, before done: nothing, but for registers
+pub none-at : (e : Ending) → ((v : ℕ) → ¬ (e ≡ registers v)) → (threshold : List ℕ) → listAt e threshold false [] ≡ []
+none-at e h threshold = gathered-nil e h threshold

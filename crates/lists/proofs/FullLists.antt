@@ -10,7 +10,7 @@ use lib.ListN.{length, getD, List·getD-map}
 use Rattle.words.specs.Bindings.{Bindings}
 use Rattle.words.specs.Words.{variable, word, risingKind}
 use Rattle.words.specs.Computing as words
-use Rattle.plans.specs.Endings.{Ending, rows, top, group}
+use Rattle.plans.specs.Endings.{Ending, rows, top, group, registers}
 use Rattle.words.specs.Sorting.{bestBy}
 use Rattle.lists.specs.Rows.{project, rowBefore, ahead}
 use Rattle.lists.specs.Gathering.{width, recordsIn, gathered, merged}
@@ -157,6 +157,7 @@ sent-fine e h turns threshold absent = fine-none e (deliveredBy turns)
 sent-fine (rows vs) h turns threshold (row x) = tt
 sent-fine (top k vs keys) h turns threshold (row x) = last-fine k vs keys h turns threshold x
 sent-fine (group vs m) h turns threshold (row x) = tt
+sent-fine (registers v) h turns threshold (row x) = tt
 
 -- such a threshold is there: of a full list of one row
 pub sent-met : Sent (top 1 (variable 0 ∷ []) (word risingKind 0 ∷ [])) ((5 ∷ []) ∷ []) (5 ∷ [])

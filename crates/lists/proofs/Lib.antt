@@ -6,6 +6,8 @@ pub mod Counts
 pub mod Thresholds
 pub mod RowOrder
 pub mod TopLists
+pub mod RegisterLists
+pub mod RegisterMerging
 pub mod Adding
 pub mod Sums
 pub mod GroupWords

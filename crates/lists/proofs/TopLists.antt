@@ -5,7 +5,7 @@ use mathlib.Core.Path.{_≡_, refl, sym, _∙_, ap, ap₂}
 use mathlib.Core.List.{List, [], _∷_, _++_, map, flatten, map-append}
 use lib.ListN.{length}
 use Rattle.words.specs.Bindings.{Bindings}
-use Rattle.plans.specs.Endings.{Ending, rows, top, group}
+use Rattle.plans.specs.Endings.{Ending, rows, top, group, registers}
 use Rattle.words.specs.Sorting.{bestBy}
 use Rattle.lists.specs.Rows.{project, rowBefore, ahead}
 use Rattle.lists.specs.Gathering.{recordsIn, gathered, merged}
@@ -22,11 +22,13 @@ Fine (rows vs) bs threshold = Unit {0}
 Fine (top k vs keys) bs [] = Unit {0}
 Fine (top k vs keys) bs (w ∷ ws) = k ≤ count (upTo (rowBefore vs keys) (w ∷ ws)) (map (project vs) bs)
 Fine (group vs m) bs threshold = Unit {0}
+Fine (registers v) bs threshold = Unit {0}
 
 pub fine-none : (e : Ending) (bs : List Bindings) → Fine e bs []
 fine-none (rows vs) bs = tt
 fine-none (top k vs keys) bs = tt
 fine-none (group vs m) bs = tt
+fine-none (registers v) bs = tt
 
 -- ---- rows, joined end to end
 pub rows-join : (vs : List ℕ) (xs ys : List Bindings) (threshold : List ℕ)

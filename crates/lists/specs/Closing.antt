@@ -3,7 +3,7 @@ use Prim.Native.Nat.{ℕ}
 use mathlib.Core.List.{List, [], _∷_}
 use mathlib.Core.Bool.{Bool, cond}
 use Rattle.words.specs.Bindings.{Bindings}
-use Rattle.plans.specs.Endings.{Ending, rows, top, group}
+use Rattle.plans.specs.Endings.{Ending, rows, top, group, registers}
 use Rattle.lists.specs.Groups.{ofNothing, groupWords}
 use Rattle.lists.specs.Gathering.{gathered}
 
@@ -18,6 +18,7 @@ closed (rows vs) list = list
 closed (top k vs keys) list = list
 closed (group [] m) list = orNothing list
 closed (group (v ∷ vs) m) list = list
+closed (registers v) list = list
 
 -- the list of some delivered rows, closed where done, and before that as it was gathered
 abbrev pub listAt : Ending → List ℕ → Bool → List Bindings → List ℕ

@@ -8,9 +8,10 @@ use lib.Dec.{eqb, ltb, leb}
 use Rattle.words.specs.Words.{isNumber, isValue, valueRank, unbound}
 use Rattle.words.specs.Bindings.{Bindings}
 use Rattle.words.specs.Sequences.{all, neighbours, parts}
-use Rattle.plans.specs.Endings.{Ending, rows, top, group}
+use Rattle.plans.specs.Endings.{Ending, rows, top, group, registers}
 use Rattle.words.specs.Sorting.{bestBy}
-use Rattle.lists.specs.Rows.{project, rowBefore, ahead}
+use Rattle.registers.specs.Registers.{registerCount, registersOf, registersIn, greaterOf, areRegisters, keptRegisters}
+use Rattle.lists.specs.Rows.{project, boundValues, rowBefore, ahead}
 use Rattle.lists.specs.Sums.{longValues, sumFits, isZero}
 use Rattle.lists.specs.Groups.{Group, totalsWidth, groupsOf, addGroups, keysBefore, groupWords, groupIn}
 
@@ -20,12 +21,14 @@ abbrev pub isRows : Ending → Bool
 isRows (rows vs) = true
 isRows (top k vs keys) = false
 isRows (group vs m) = false
+isRows (registers v) = false
 
--- the words of one row or one record
+-- the words of one row or one record, or of all registers
 abbrev pub width : Ending → ℕ
 width (rows vs) = length vs
 width (top k vs keys) = length vs
 width (group vs m) = length vs + totalsWidth
+width (registers v) = registerCount
 
 -- a list cut into rows or records
 unfoldable pub recordsIn : ℕ → List ℕ → List (List ℕ)
@@ -40,12 +43,14 @@ gathered (rows vs) threshold bs = flatten (map (project vs) bs)
 gathered (top k vs keys) threshold bs =
     flatten (bestBy (rowBefore vs keys) k (ahead (rowBefore vs keys) threshold (map (project vs) bs)))
 gathered (group vs m) threshold bs = flatten (map groupWords (groupsOf vs m bs))
+gathered (registers v) threshold bs = registersOf (boundValues v bs)
 
--- test 7: the words that an output has at least: one row, k rows, one record
+-- test 7: the words that an output has at least: one row, k rows, one record, all registers
 abbrev pub leastOutput : Ending → ℕ
 leastOutput (rows vs) = length vs
 leastOutput (top k vs keys) = k * length vs
 leastOutput (group vs m) = length vs + totalsWidth
+leastOutput (registers v) = registerCount
 
 -- test 11: a threshold is empty, or one row for a best-of ending
 unfoldable pub thresholdRight : Ending → List ℕ → Bool
@@ -53,22 +58,25 @@ thresholdRight e [] = true
 thresholdRight (rows vs) (w ∷ ws) = false
 thresholdRight (top k vs keys) (w ∷ ws) = eqb (length (w ∷ ws)) (length vs) && all isValue (w ∷ ws)
 thresholdRight (group vs m) (w ∷ ws) = false
+thresholdRight (registers v) (w ∷ ws) = false
 
 -- ---- merging
--- the best of both, kept rows first among equals; or groups added up
+-- the best of both, kept rows first among equals; groups added up; the greater of each register
 unfoldable pub merged : Ending → List ℕ → List ℕ → List ℕ
 merged (rows vs) kept list = []
 merged (top k vs keys) kept list =
     flatten (bestBy (rowBefore vs keys) k (recordsIn (length vs) kept ++ recordsIn (length vs) list))
 merged (group vs m) kept list = flatten (map groupWords (addGroups (groupsIn vs kept) (groupsIn vs list)))
+merged (registers v) kept list = greaterOf (registersIn kept) list
 
 -- how a turn's list is taken: joined end to end for rows, merged for any other ending
 abbrev pub takenInto : Ending → List ℕ → List ℕ → List ℕ
 takenInto (rows vs) kept list = kept ++ list
 takenInto (top k vs keys) kept list = merged (top k vs keys) kept list
 takenInto (group vs m) kept list = merged (group vs m) kept list
+takenInto (registers v) kept list = merged (registers v) kept list
 
--- test 12, of one list
+-- test 12, of a turn's list
 -- with numbers 0 the sum is 0 and least and greatest are unbound; otherwise these are numbers, least not above greatest
 abbrev pub extremesRight : Group → Bool
 extremesRight g =
@@ -94,6 +102,14 @@ listRight (top k vs keys) ws =
     && neighbours (λ x y. not (rowBefore vs keys y x)) (recordsIn (length vs) ws)))
 listRight (group vs m) ws =
     eqb (length ws % (length vs + totalsWidth)) 0 && (all groupRight (groupsIn vs ws) && neighbours keysBefore (groupsIn vs ws))
+listRight (registers v) ws = areRegisters ws
+
+-- test 12, of a kept list: as a turn's, but that registers may be none
+abbrev pub keptRight : Ending → List ℕ → Bool
+keptRight (rows vs) ws = listRight (rows vs) ws
+keptRight (top k vs keys) ws = listRight (top k vs keys) ws
+keptRight (group vs m) ws = listRight (group vs m) ws
+keptRight (registers v) ws = keptRegisters ws
 
 -- test 13: the rows and the numbers of a merged group do not pass 2^64 - 1, and its sum is from -2^63 to 2^63 - 1
 abbrev pub groupFits : Group → Bool
@@ -103,9 +119,11 @@ unfoldable pub totalsFit : Ending → List ℕ → List ℕ → Bool
 totalsFit (rows vs) kept list = true
 totalsFit (top k vs keys) kept list = true
 totalsFit (group vs m) kept list = all groupFits (addGroups (groupsIn vs kept) (groupsIn vs list))
+totalsFit (registers v) kept list = true
 
 -- the same of the groups of some delivered rows
 abbrev pub rowsFit : Ending → List Bindings → Bool
 rowsFit (rows vs) bs = true
 rowsFit (top k vs keys) bs = true
 rowsFit (group vs m) bs = all groupFits (groupsOf vs m bs)
+rowsFit (registers v) bs = true

@@ -1,7 +1,7 @@
--- Delivered rows, their order by keys, and what a threshold leaves of them. Assumes nothing: these are definitions.
+-- Delivered rows, their order by keys, what a threshold leaves of them, and the values that a variable has in them. Assumes nothing: these are definitions.
 use Prim.Native.Nat.{ℕ, suc, _-_}
 use mathlib.Core.List.{List, [], _∷_, map}
-use mathlib.Core.Bool.{Bool, cond}
+use mathlib.Core.Bool.{Bool, cond, not}
 use lib.ListN.{getD}
 use lib.Dec.{eqb}
 use Rattle.words.specs.Words.{variable, low, kind, fallingKind, unbound, keyRank, lastRank}
@@ -11,6 +11,13 @@ use Rattle.words.specs.Sequences.{keep, lexBefore}
 -- the row of some variables: their values, in their sequence
 abbrev pub project : List ℕ → Bindings → List ℕ
 project vs b = map (valueOf b) vs
+
+-- the values of one variable, without those where it has none
+abbrev pub isBound : ℕ → Bool
+isBound x = not (eqb x unbound)
+
+abbrev pub boundValues : ℕ → List Bindings → List ℕ
+boundValues v bs = keep isBound (map (λ b. valueOf b v) bs)
 
 -- ---- the order of rows by the keys of an ending with the variables vs
 -- where a word stands among others

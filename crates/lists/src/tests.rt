@@ -5,7 +5,7 @@ ghost use mathlib.Core.List.{List};
 ghost use Prim.Native.Nat.{ℕ};
 ghost use Rattle.words.specs.Sequences.{all};
 ghost use Rattle.words.specs.Words.{isValue};
-ghost use Rattle.plans.specs.Endings.{rows, group};
+ghost use Rattle.plans.specs.Endings.{rows, group, registers};
 ghost use Rattle.lists.specs.Gathering.{thresholdRight};
 
 // Whether each word is one that a delivered row may have.
@@ -22,10 +22,11 @@ pub fn is_values(list: &[u32]) -> bool
     true
 }
 
-// Whether a threshold is right for an ending that has none: rows, or groups.
+// Whether a threshold is right for an ending that has none: rows, groups, or registers.
 pub fn no_threshold(threshold: &[u32]) -> bool
     ensures rows { λ r. ⌜ ((vs : List ℕ) → r ≡ thresholdRight (rows vs) (now (threshold .entry))) ⌝ }
     ensures groups { λ r. ⌜ ((vs : List ℕ) (m : ℕ) → r ≡ thresholdRight (group vs m) (now (threshold .entry))) ⌝ }
+    ensures registers { λ r. ⌜ ((v : ℕ) → r ≡ thresholdRight (registers v) (now (threshold .entry))) ⌝ }
 {
     threshold.len() == 0
 }

@@ -8,14 +8,14 @@ use Rattle.words.specs.Sequences.{all}
 use Rattle.words.specs.Tests.{firstFailing}
 use Rattle.words.proofs.Booleans.{and-right}
 use Rattle.plans.specs.declared.Last.{Last}
-use Rattle.plans.specs.declared.Last.the-variants.{Rows, Top, Group}
+use Rattle.plans.specs.declared.Last.the-variants.{Rows, Top, Group, Registers}
 use Rattle.plans.specs.Branches.{branchRight, binds}
-use Rattle.plans.specs.Endings.{Ending, rows, top, group, endingRight}
+use Rattle.plans.specs.Endings.{Ending, rows, top, group, registers, endingRight}
 use Rattle.plans.specs.Plans.{readPlan, planOf, planTests}
 use Rattle.plans.specs.Reading.{lastIn, variablesIn, keysIn, bestIn, measuredIn}
 use Rattle.plans.proofs.Bounds.{EndingForm, plan-form, was-read}
 use Rattle.plan_tests.proofs.Checked.{accepted}
-use Rattle.plans.proofs.EndingRead.{is-rows, is-top, is-group}
+use Rattle.plans.proofs.EndingRead.{is-rows, is-top, is-group, is-registers}
 use Rattle.list_best.proofs.DeliveredBest.{top-parts}
 use Rattle.merge_lists.specs.Answering.{PiecesRight}
 
@@ -23,6 +23,7 @@ pieces : (bound : ℕ → Bool) (e : Ending) → EndingForm e → endingRight bo
 pieces bound (rows vs) f h = tt
 pieces bound (top k vs keys) f h = top-parts bound k vs keys f h
 pieces bound (group vs m) f h = f .most
+pieces bound (registers v) f h = tt
 
 pub pieces-right : (plan : List ℕ) → firstFailing (planTests plan) ≡ none → PiecesRight (planOf plan .ending)
 pieces-right plan h =
@@ -41,3 +42,6 @@ module _ (e : Ending) {t : Last} (et : t ≡ lastIn e) where
 
   pub group-of : t ≡ Group → {vs : List ℕ} → vs ≡ variablesIn e → e ≡ group vs (measuredIn e)
   group-of h ev = rw ev (is-group e (sym et ∙ h))
+
+  pub registers-of : t ≡ Registers → e ≡ registers (measuredIn e)
+  registers-of h = is-registers e (sym et ∙ h)

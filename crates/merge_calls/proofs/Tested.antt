@@ -1,21 +1,24 @@
 -- A merge by its tests as the code makes them: those of the plan, both lists, the totals, the room.
 use Prim.Native.Nat.{ℕ, _≤_, _<_}
+use native.Mathlib.Omega.{arith}
 use mathlib.Core.Path.{_≡_, refl, sym, _∙_, ap}
 use mathlib.Core.Bool.{Bool, true, false, cond, _&&_, not}
 use mathlib.Core.Option.{Option, none, some}
 use mathlib.Core.List.{List, [], _∷_}
-use lib.Dec.{leb}
+use lib.Dec.{eqb, leb}
 use lib.ListN.{length}
-use borrow.Author.Tests.{le-leb, lt-leb, not-true, not-false}
+use borrow.Author.Tests.{eqb-true, le-leb, lt-leb, not-true, not-false}
 use Rattle.words.specs.declared.Written.the-variants.{Words, Refused}
-use Rattle.words.specs.Sequences.{over}
+use Rattle.words.specs.Sequences.{all, over}
 use Rattle.words.specs.Tests.{firstFailing}
 use Rattle.words.proofs.Testing.{orElse, first-append}
 use Rattle.words.proofs.Booleans.{and-left, and-right}
-use Rattle.plans.specs.Endings.{Ending, rows, top, group}
+use Rattle.plans.specs.Endings.{Ending, rows, top, group, registers}
 use Rattle.plans.specs.Plans.{planTests}
+use Rattle.registers.specs.Registers.{registerCount, registersIn, greaterOf, inRange, areRegisters, keptRegisters}
+use Rattle.list_registers.proofs.Merged.{merged-sixteen}
 use Rattle.list_group_merges.specs.declared.Merged.{Merged}
-use Rattle.lists.specs.Gathering.{listRight, totalsFit, merged}
+use Rattle.lists.specs.Gathering.{keptRight, listRight, totalsFit, merged}
 use Rattle.list_group_merges.specs.MergingGroups as groups
 use Rattle.lists.specs.Putting.{Listed}
 use Rattle.merges.specs.Merging.{MergeInput, MergeResult, givenKept, givenEnding, listTests, mergeTests, mergedWith, mergedAs, mergeOf}
@@ -68,8 +71,23 @@ unfolding mergeOf
 by-tests i h = ap (mergedAs i) (plan-first i h) ∙ in-order i _ _ _
 
 -- 12, of each list
-pub each-right : (e : Ending) (kept list : List ℕ) → bothRight e kept list ≡ true → (listRight e kept ≡ true) × (listRight e list ≡ true)
-each-right e kept list h = (and-left (listRight e kept) (listRight e list) h, and-right (listRight e kept) (listRight e list) h)
+pub each-right : (e : Ending) (kept list : List ℕ) → bothRight e kept list ≡ true → (keptRight e kept ≡ true) × (listRight e list ≡ true)
+each-right e kept list h = (and-left (keptRight e kept) (listRight e list) h, and-right (keptRight e kept) (listRight e list) h)
+
+-- two lists of registers, the kept one perhaps empty, have 16 merged
+module _ (v : ℕ) (kept list : List ℕ) (h : bothRight (registers v) kept list ≡ true) where
+  pub kept-right : keptRegisters kept ≡ true
+  kept-right = each-right (registers v) kept list h .0
+
+  list-right : areRegisters list ≡ true
+  unfolding listRight
+  list-right = each-right (registers v) kept list h .1
+
+  pub list-sixteen : length list ≡ registerCount
+  list-sixteen = eqb-true (length list) registerCount (and-left (eqb (length list) registerCount) (all inRange list) list-right)
+
+  registers-both : length (greaterOf (registersIn kept) list) ≡ registerCount
+  registers-both = merged-sixteen kept list kept-right list-sixteen
 
 -- what a merge of groups answers and leaves, by the totals and the room
 groups-answer : (fit room : Bool) (n : ℕ) (after kept : List ℕ)
@@ -121,6 +139,28 @@ module _ (i : MergeInput) where
     pub top-merged : leb (length best) (length (i .kept)) ≡ true → {after : List ℕ} {n : ℕ} → Listed best (i .kept) after n
         → record { answer = Words n; kept = after } ≡ mergeOf i
     top-merged h l = rw (l .0, l .1) (sym (by-room ∙ rw h))
+
+  -- registers have no totals either: 14, and then they are merged
+  module _ {v : ℕ} (a : AcceptedPlan (i .plan) (registers v)) (fit : i .given ≤ length (i .kept))
+      (right : bothRight (registers v) (givenKept i) (i .list) ≡ true) where
+    abbrev greatest : List ℕ
+    greatest = greaterOf (registersIn (givenKept i)) (i .list)
+
+    greatest-length : length greatest ≡ registerCount
+    greatest-length = registers-both v (givenKept i) (i .list) right
+
+    registers-room : mergeOf i ≡ cond (leb (length greatest) (length (i .kept))) (mergedWith greatest (i .kept)) (refused i 14)
+    unfolding totalsFit merged
+    registers-room = by-totals a fit right
+
+    pub registers-no-room : length (i .kept) < registerCount → refused i 14 ≡ mergeOf i
+    registers-no-room h =
+        sym (registers-room ∙ rw (lt-leb (length greatest) (length (i .kept)) (omega (arith, greatest-length))))
+
+    pub registers-merged : registerCount ≤ length (i .kept) → {after : List ℕ} {n : ℕ} → Listed greatest (i .kept) after n
+        → record { answer = Words n; kept = after } ≡ mergeOf i
+    registers-merged h l =
+        rw (l .0, l .1) (sym (registers-room ∙ rw (le-leb (length greatest) (length (i .kept)) (omega (arith, greatest-length)))))
 
   -- groups: 13, 14, and then they are merged
   module _ {vs : List ℕ} {m : ℕ} (a : AcceptedPlan (i .plan) (group vs m)) (fit : i .given ≤ length (i .kept))

@@ -1,6 +1,7 @@
 // Merging by the ending of a plan: test 12 of both lists, then 13 and 14, and only then the first write.
 use merge_lists::are_best;
 use merge_lists::are_groups;
+use merge_lists::are_registers;
 use merge_lists::written;
 use merges::LISTS;
 use merges::ROOM;
@@ -11,7 +12,7 @@ ghost use mathlib.Core.Bool.{true};
 ghost use mathlib.Core.List.{List};
 ghost use Prim.Native.Nat.{ℕ, _≤_};
 ghost use lib.ListN.{length};
-ghost use Rattle.plans.specs.Endings.{top, group, mostGroupVariables, endingForm, endingAt};
+ghost use Rattle.plans.specs.Endings.{top, group, registers, mostGroupVariables, endingForm, endingAt};
 ghost use Rattle.list_best.specs.BestLists.{TopParts};
 ghost use Rattle.merge_lists.specs.Answering.{PiecesRight, MergedFor};
 
@@ -49,6 +50,21 @@ fn merge_groups(g: usize, kept: &mut [u32], given: usize, list: &[u32]) -> Writt
     written(list_group_merges::merge_groups(g, kept, given, list))
 }
 
+// The greater of each register: no total is added up, so 13 refuses none.
+fn merge_registers(kept: &mut [u32], given: usize, list: &[u32]) -> Written
+    requires { ⌜ given ≤ length (now kept) ⌝ }
+    ensures { λ r. ⌜ ((v : ℕ)
+        → MergedFor (registers v) (now (kept .entry)) given (now (list .entry)) (record { answer = r; kept = now (kept .exit) })) ⌝ }
+{
+    if !are_registers(&kept[..given], list) {
+        return Written::Refused(LISTS);
+    }
+    if kept.len() < list_registers::REGISTERS {
+        return Written::Refused(ROOM);
+    }
+    Written::Words(list_registers::merge_registers(kept, given, list))
+}
+
 // Merges by an ending, the words from it on: no list of rows is merged.
 pub fn merge_ending(e: &[u32], kept: &mut [u32], given: usize, list: &[u32]) -> Written
     requires { ⌜ (endingForm (now e) ≡ true) × PiecesRight (endingAt (now e)) × (given ≤ length (now kept)) ⌝ }
@@ -63,6 +79,7 @@ pub fn merge_ending(e: &[u32], kept: &mut [u32], given: usize, list: &[u32]) -> 
             merge_top(vars, keys, plans::best_count(e), kept, given, list)
         }
         Last::Group => merge_groups(plans::variables(e).len(), kept, given, list),
+        Last::Registers => merge_registers(kept, given, list),
         Last::Neither => Written::Refused(LISTS),
     }
 }

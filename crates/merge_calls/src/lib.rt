@@ -8,7 +8,7 @@ ghost use mathlib.Core.Path.{_≡_};
 ghost use Rattle.merges.specs.Merging.{mergeInput, mergeOf};
 ghost use Rattle.merges.specs.Refusals.{MergeAnswers};
 
-// Merges a list into the kept one, in place: the best rows of both, or their groups added up. It is refused by the number of the
+// Merges a list into the kept one, in place: the best rows of both, their groups added up, or the greater of each register. It is refused by the number of the
 // first test that fails, and then nothing is written.
 pub fn merge(plan: &[u32], kept: &mut [u32], given: usize, list: &[u32]) -> Written
     ensures { λ r. ⌜ record { answer = r; kept = now (kept .exit) }

@@ -8,11 +8,11 @@ use lib.ListN.{length}
 use Rattle.words.specs.declared.Written.{Written}
 use Rattle.words.specs.declared.Written.the-variants.{Words, Refused}
 use Rattle.words.specs.Tests.{firstFailing}
-use Rattle.plans.specs.Endings.{Ending, rows, top, group, mostGroupVariables}
+use Rattle.plans.specs.Endings.{Ending, rows, top, group, registers, mostGroupVariables}
 use Rattle.plans.specs.Plans.{planOf, planTests}
 use Rattle.list_group_merges.specs.declared.Merged.{Merged}
 use Rattle.list_group_merges.specs.declared.Merged.the-variants as groups
-use Rattle.lists.specs.Gathering.{listRight}
+use Rattle.lists.specs.Gathering.{keptRight, listRight}
 use Rattle.list_best.specs.BestLists.{TopParts}
 use Rattle.merges.specs.Merging.{MergeResult, mergeOf}
 
@@ -26,10 +26,11 @@ abbrev pub PiecesRight : Ending → Type 0
 PiecesRight (rows vs) = Unit {0}
 PiecesRight (top k vs keys) = TopParts k vs keys
 PiecesRight (group vs m) = length vs ≤ mostGroupVariables
+PiecesRight (registers v) = Unit {0}
 
 -- test 12, of both lists
 abbrev pub bothRight : Ending → List ℕ → List ℕ → Bool
-bothRight e kept list = listRight e kept && listRight e list
+bothRight e kept list = keptRight e kept && listRight e list
 
 -- a result is the one defined, whatever accepted plan has the ending
 abbrev pub MergedFor : Ending → List ℕ → ℕ → List ℕ → MergeResult → Type 0

@@ -7,7 +7,7 @@ ghost use mathlib.Core.Path.{_≡_};
 ghost use mathlib.Core.List.{List};
 ghost use Prim.Native.Nat.{ℕ, _≤_};
 ghost use lib.ListN.{length};
-ghost use Rattle.plans.specs.Endings.{top, group, mostGroupVariables};
+ghost use Rattle.plans.specs.Endings.{top, group, registers, mostGroupVariables};
 ghost use Rattle.list_best.specs.BestLists.{TopParts};
 ghost use Rattle.merge_lists.specs.Answering.{bothRight, writtenOf};
 
@@ -29,6 +29,16 @@ pub fn are_groups(g: usize, kept: &[u32], list: &[u32]) -> bool
 {
     if list_groups::is_groups(g, kept) {
         return list_groups::is_groups(g, list);
+    }
+    false
+}
+
+// Whether both lists are of registers; the kept one may have none.
+pub fn are_registers(kept: &[u32], list: &[u32]) -> bool
+    ensures { λ r. ⌜ ((v : ℕ) → r ≡ bothRight (registers v) (now (kept .entry)) (now (list .entry))) ⌝ }
+{
+    if list_registers::kept_registers(kept) {
+        return list_registers::are_registers(list);
     }
     false
 }

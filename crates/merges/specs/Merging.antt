@@ -11,7 +11,7 @@ use Rattle.words.specs.Sequences.{over}
 use Rattle.words.specs.Tests.{Test, firstFailing}
 use Rattle.plans.specs.Endings.{Ending}
 use Rattle.plans.specs.Plans.{planOf, planTests}
-use Rattle.lists.specs.Gathering.{listRight, totalsFit, merged}
+use Rattle.lists.specs.Gathering.{keptRight, listRight, totalsFit, merged}
 
 pub record MergeInput : Type 0 where
   pub plan : List ℕ
@@ -37,7 +37,7 @@ mergedWords i = merged (givenEnding i) (givenKept i) (i .list)
 -- 5, 6, 23; 12: both lists; 13: the totals; 14: room for the result
 abbrev pub listTests : MergeInput → List Test
 listTests i =
-    (12, leb (i .given) (length (i .kept)) && (listRight (givenEnding i) (givenKept i) && listRight (givenEnding i) (i .list)))
+    (12, leb (i .given) (length (i .kept)) && (keptRight (givenEnding i) (givenKept i) && listRight (givenEnding i) (i .list)))
     ∷ (13, totalsFit (givenEnding i) (givenKept i) (i .list))
     ∷ (14, leb (length (mergedWords i)) (length (i .kept)))
     ∷ []

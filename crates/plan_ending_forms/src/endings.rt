@@ -11,6 +11,9 @@ ghost use Rattle.plans.specs.Endings.{rowsForm, keysForm, endingForm};
 
 pub const MOST_KEYS: usize = 4;
 
+// The words of an ending of registers: its kind, and the variable.
+pub const REGISTERS_WORDS: usize = 2;
+
 // Whether p starts with a kind 8 part.
 pub fn rows_form(p: &[u32]) -> bool
     ensures { λ r. ⌜ r ≡ rowsForm (now (p .entry)) ⌝ }
@@ -60,6 +63,12 @@ pub fn ending_form(p: &[u32]) -> bool
         }
         Last::Group => {
             if p.len() == 2 + words::wide(PlanWord(first(p)).low()) {
+                return all_wanted(&p[1..], Wanted::Variable);
+            }
+            false
+        }
+        Last::Registers => {
+            if p.len() == REGISTERS_WORDS {
                 return all_wanted(&p[1..], Wanted::Variable);
             }
             false

@@ -99,6 +99,7 @@ pub fn ending_right(p: &[u32], count: u32, e: &[u32]) -> bool
         Last::Rows => true,
         Last::Top => keys_among(keys(e), list),
         Last::Group => some_binds(p, count, measured(e)),
+        Last::Registers => true,
         Last::Neither => false,
     }
 }

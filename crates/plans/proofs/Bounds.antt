@@ -9,19 +9,19 @@ use lib.Dec.{eqb, leb, ltb}
 use lib.ListN.{length, take, drop, getD, length-take, length-drop}
 use lib.Seq.{getD-drop}
 use borrow.Author.Tests.{leb-true, ltb-false, eqb-true, eqb-false, not-true}
-use Rattle.words.specs.Words.{kind, low, isVariable, headKind, branchKind, rowsKind, topKind, groupKind}
+use Rattle.words.specs.Words.{kind, low, isVariable, headKind, branchKind, rowsKind, topKind, groupKind, registersKind}
 use Rattle.words.specs.Sequences.{all}
 use Rattle.words.proofs.Booleans.{and-left, and-right, absurd-true}
 use Rattle.words.proofs.Testing.{none-some, some-injective}
 use Rattle.words.proofs.Elements.{all-take, all-at}
 use Rattle.plans.specs.declared.Last.{Last}
-use Rattle.plans.specs.declared.Last.the-variants.{Rows, Top, Group, Neither}
+use Rattle.plans.specs.declared.Last.the-variants.{Rows, Top, Group, Registers, Neither}
 use Rattle.plans.specs.declared.Years.{Years}
 use Rattle.plans.specs.Years.{yearsIn, headOf, bodyOf}
 use Rattle.plans.specs.Conditions.{Condition, Read, next, readCondition, nodes, mostDepth, mostNodes}
 use Rattle.plans.specs.Branches.{Branch, patternWidth, mostPatterns, patternCount, withCondition, readBranch, readBranches, nthBranch}
-use Rattle.plans.specs.Endings.{Ending, rows, top, group, mostRowVariables, mostBest, defaultBest, mostKeys, mostGroupVariables, bestCount, rowWidth}
-use Rattle.plans.specs.Endings.{rowVariables, afterRows, rowsForm, isKey, keysForm, lastOf, formAs, endingForm, endingAs, endingAt}
+use Rattle.plans.specs.Endings.{Ending, rows, top, group, registers, mostRowVariables, mostBest, defaultBest, mostKeys, mostGroupVariables}
+use Rattle.plans.specs.Endings.{bestCount, rowWidth, rowVariables, afterRows, rowsForm, isKey, keysForm, lastOf, formAs, endingForm, endingAs, endingAt}
 use Rattle.plans.specs.Plans.{Plan, mostBranches, mostPlanWords, branchCount, withEnding, readPlan, hasForm, planOr, branchAt}
 
 -- ---- what was read where a reader's answer is there
@@ -121,6 +121,7 @@ abbrev pub EndingForm : Ending → Type 0
 EndingForm (rows vs) = RowForm vs
 EndingForm (top k vs keys) = TopForm k vs keys
 EndingForm (group vs m) = GroupForm vs m
+EndingForm (registers v) = isVariable v ≡ true
 
 row-form : (ws : List ℕ) → rowsForm ws ≡ true → RowForm (rowVariables ws)
 unfolding rowsForm
@@ -135,15 +136,17 @@ row-form ws e =
     record { least = omega arith; most = omega arith; variables = and-right (leb (1 + n) (length ws)) _ f }
 
 -- the k of a best-of ending, and the group variables' count, are at most their bounds
-last-bound : (a b c d e : Bool) (l : Last)
-    → cond a Rows (cond b (cond c Top Neither) (cond d (cond e Group Neither) Neither)) ≡ l
+last-bound : (a b c d e f g : Bool) (l : Last)
+    → cond a Rows (cond b (cond c Top Neither) (cond d (cond e Group Neither) (cond f (cond g Registers Neither) Neither))) ≡ l
     → (l ≡ Top → c ≡ true) × (l ≡ Group → e ≡ true)
-last-bound true b c d e l p = (λ q. cc, λ q. cc)
-last-bound false true true d e l p = (λ q. refl, λ q. cc)
-last-bound false true false d e l p = (λ q. cc, λ q. cc)
-last-bound false false c true true l p = (λ q. cc, λ q. refl)
-last-bound false false c true false l p = (λ q. cc, λ q. cc)
-last-bound false false c false e l p = (λ q. cc, λ q. cc)
+last-bound true b c d e f g l p = (λ q. cc, λ q. cc)
+last-bound false true true d e f g l p = (λ q. refl, λ q. cc)
+last-bound false true false d e f g l p = (λ q. cc, λ q. cc)
+last-bound false false c true true f g l p = (λ q. cc, λ q. refl)
+last-bound false false c true false f g l p = (λ q. cc, λ q. cc)
+last-bound false false c false e true true l p = (λ q. cc, λ q. cc)
+last-bound false false c false e true false l p = (λ q. cc, λ q. cc)
+last-bound false false c false e false g l p = (λ q. cc, λ q. cc)
 
 best-count : (k : ℕ) → k ≤ mostBest → (1 ≤ bestCount k) × (bestCount k ≤ mostBest)
 best-count k h = go (eqb k 0) refl
@@ -181,6 +184,11 @@ form-as Group ws t g e =
       variables = all-take isVariable n (drop 1 ws) v;
       measure = subst (λ w. isVariable w ≡ true) (getD-drop 1 ws n 0) (all-at isVariable (drop 1 ws) n 0 v (omega arith));
     }
+form-as Registers ws t g e =
+    let l = eqb-true (length ws) 2 (and-left (eqb (length ws) 2) _ e) in
+    let v = and-right (eqb (length ws) 2) _ e in
+    let d = length-drop 1 ws in
+    subst (λ w. isVariable w ≡ true) (getD-drop 1 ws 0 0) (all-at isVariable (drop 1 ws) 0 0 v (omega arith))
 form-as Neither ws t g e = absurd-true refl (sym e)
 
 ending-form : (ws : List ℕ) → endingForm ws ≡ true → EndingForm (endingAt ws)
@@ -188,7 +196,7 @@ unfolding lastOf
 ending-form ws e =
     let w = getD ws 0 0 in
     let b = last-bound (eqb (kind w) rowsKind) (eqb (kind w) topKind) (leb (low w) mostBest) (eqb (kind w) groupKind) (leb (low w) mostGroupVariables)
-    (lastOf w) refl in
+    (eqb (kind w) registersKind) (eqb (low w) 0) (lastOf w) refl in
     form-as (lastOf w) ws (λ p. leb-true (low w) mostBest (b .0 p)) (λ p. leb-true (low w) mostGroupVariables (b .1 p)) e
 
 -- ---- the plan

@@ -12,7 +12,7 @@ use Rattle.words.specs.Sequences.{all}
 use Rattle.words.proofs.Booleans.{absurd-true, and-left, and-right}
 use Rattle.words.proofs.Walking.{rest-of, first-none}
 use Rattle.plans.specs.declared.Last.{Last}
-use Rattle.plans.specs.declared.Last.the-variants.{Rows, Top, Group, Neither}
+use Rattle.plans.specs.declared.Last.the-variants.{Rows, Top, Group, Registers, Neither}
 use Rattle.plans.specs.Endings.{mostKeys, rowWidth, rowVariables, afterRows, rowsForm, isKey, keysForm, lastOf, formAs, endingForm}
 
 and-false : (a : Bool) → (a && false) ≡ false
@@ -87,6 +87,10 @@ module _ (ws : List ℕ) (t : Last) (et : t ≡ lastOf (getD ws 0 0)) where
   unfolding formAs
   form-group e = rw (← et, e, rest-of)
 
+  pub form-registers : t ≡ Registers → endingForm ws ≡ (eqb (length ws) 2 && all isVariable (take (length ws - 1) (drop 1 ws)))
+  unfolding formAs
+  form-registers e = rw (← et, e, rest-of)
+
   -- of an ending that has the form
   module _ (h : endingForm ws ≡ true) where
     pub rows-here : t ≡ Rows → rowsForm ws ≡ true
@@ -98,6 +102,10 @@ module _ (ws : List ℕ) (t : Last) (et : t ≡ lastOf (getD ws 0 0)) where
     pub group-room : t ≡ Group → (n : ℕ) → n ≡ low (getD ws 0 0) → length ws ≡ 2 + n
     group-room e n en =
         rw en (eqb-true (length ws) (2 + low (getD ws 0 0)) (and-left _ (all isVariable (take (length ws - 1) (drop 1 ws))) (sym (form-group e) ∙ h)))
+
+    pub registers-room : t ≡ Registers → length ws ≡ 2
+    registers-room e =
+        eqb-true (length ws) 2 (and-left (eqb (length ws) 2) (all isVariable (take (length ws - 1) (drop 1 ws))) (sym (form-registers e) ∙ h))
 
     pub not-neither : t ≡ Neither → ⊥
     not-neither e = absurd-true h (form-neither e)

@@ -12,7 +12,7 @@ use Rattle.words.proofs.Booleans.{and-left, and-right, and-both, absurd-true}
 use Rattle.words.proofs.Elements.{member-all}
 use Rattle.plans.specs.Conditions.{allBound}
 use Rattle.plans.specs.Branches.{Branch, termRight, branchRight, binds, nthBranch}
-use Rattle.plans.specs.Endings.{Ending, rows, top, group, keyAmong, endingRight}
+use Rattle.plans.specs.Endings.{Ending, rows, top, group, registers, keyAmong, endingRight}
 use Rattle.plans.specs.Plans.{Plan, readPlan, variablesRight, branchAt}
 use Rattle.plans.proofs.Bounds.{EndingForm, plan-form}
 
@@ -28,6 +28,7 @@ abbrev pub EndingVariables : List Branch → Ending → Type 0
 EndingVariables bs (rows vs) = VariablesRight bs vs
 EndingVariables bs (top k vs keys) = VariablesRight bs vs × (all (keyAmong vs) keys ≡ true)
 EndingVariables bs (group vs m) = VariablesRight bs vs × (boundVariable bs m ≡ true)
+EndingVariables bs (registers v) = boundVariable bs v ≡ true
 
 -- what test 6 says of a plan: no term of a branch is a variable above ?15, and each variable is bound where it must be
 pub record PlanVariables (q : Plan) : Type 0 where
@@ -78,6 +79,7 @@ ending-variables bs (group vs m) r f e =
       (all-bound bs vs r (f .variables) (and-left (all (binds bs) vs) _ a), and-right (all (binds bs) vs) _ a),
       bound-variable bs m r (f .measure) (and-right (all (binds bs) vs && distinct vs) _ e),
     )
+ending-variables bs (registers v) r f e = bound-variable bs v r f e
 
 branch-right : (bs : List Branch) (i : ℕ) → all branchRight bs ≡ true → branchRight (nthBranch bs i) ≡ true
 unfolding all allBound

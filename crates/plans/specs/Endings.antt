@@ -4,16 +4,18 @@ use mathlib.Core.Bool.{Bool, false, cond, _&&_, _||_, not}
 use mathlib.Core.List.{List, []}
 use lib.Dec.{eqb, leb}
 use lib.ListN.{length, take, drop, getD}
-use Rattle.words.specs.Words.{kind, low, isVariable, variable, rowsKind, topKind, risingKind, fallingKind, groupKind}
+use Rattle.words.specs.Words.{kind, low, isVariable, variable, rowsKind, topKind, risingKind, fallingKind, groupKind, registersKind}
 use Rattle.words.specs.Sequences.{all, member, distinct}
 use Rattle.plans.specs.declared.Last.{Last}
-use Rattle.plans.specs.declared.Last.the-variants.{Rows, Top, Group, Neither}
+use Rattle.plans.specs.declared.Last.the-variants.{Rows, Top, Group, Registers, Neither}
 
--- rows: their variables. top: how many, the rows' variables, the keys. group: the group variables, the measured one
+-- rows: their variables. top: how many, the rows' variables, the keys. group: the group variables, the measured one. registers: the variable whose
+-- distinct values are counted, roughly
 pub data Ending : Type 0 where
   rows : List ℕ → Ending
   top : ℕ → List ℕ → List ℕ → Ending
   group : List ℕ → ℕ → Ending
+  registers : ℕ → Ending
 
 abbrev pub mostRowVariables : ℕ
 mostRowVariables = 16
@@ -64,13 +66,15 @@ unfoldable pub lastOf : ℕ → Last
 lastOf w =
     cond (eqb (kind w) rowsKind) Rows
     (cond (eqb (kind w) topKind) (cond (leb (low w) mostBest) Top Neither)
-    (cond (eqb (kind w) groupKind) (cond (leb (low w) mostGroupVariables) Group Neither) Neither))
+    (cond (eqb (kind w) groupKind) (cond (leb (low w) mostGroupVariables) Group Neither)
+    (cond (eqb (kind w) registersKind) (cond (eqb (low w) 0) Registers Neither) Neither)))
 
 -- the words are one ending and nothing more
 unfoldable pub formAs : Last → List ℕ → Bool
 formAs Rows ws = rowsForm ws && eqb (length ws) (1 + rowWidth (getD ws 0 0))
 formAs Top ws = rowsForm (drop 1 ws) && keysForm (afterRows (drop 1 ws))
 formAs Group ws = eqb (length ws) (2 + low (getD ws 0 0)) && all isVariable (drop 1 ws)
+formAs Registers ws = eqb (length ws) 2 && all isVariable (drop 1 ws)
 formAs Neither ws = false
 
 abbrev pub endingForm : List ℕ → Bool
@@ -81,6 +85,7 @@ unfoldable pub endingAs : Last → List ℕ → Ending
 endingAs Rows ws = rows (rowVariables ws)
 endingAs Top ws = top (bestCount (low (getD ws 0 0))) (rowVariables (drop 1 ws)) (afterRows (drop 1 ws))
 endingAs Group ws = group (take (low (getD ws 0 0)) (drop 1 ws)) (getD ws (1 + low (getD ws 0 0)) 0)
+endingAs Registers ws = registers (getD ws 1 0)
 endingAs Neither ws = rows []
 
 abbrev pub endingAt : List ℕ → Ending
@@ -96,3 +101,4 @@ unfoldable pub endingRight : (ℕ → Bool) → Ending → Bool
 endingRight bound (rows vs) = all bound vs && distinct vs
 endingRight bound (top k vs keys) = (all bound vs && distinct vs) && all (keyAmong vs) keys
 endingRight bound (group vs m) = (all bound vs && distinct vs) && bound m
+endingRight bound (registers v) = bound v

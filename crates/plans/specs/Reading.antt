@@ -3,16 +3,16 @@ use Prim.Native.Nat.{ℕ, _+_, _<_}
 use mathlib.Core.Path.{_≡_}
 use mathlib.Core.Bool.{Bool, true, false, cond, _&&_}
 use mathlib.Core.Option.{none, some}
-use mathlib.Core.List.{List, []}
+use mathlib.Core.List.{List, [], _∷_}
 use lib.Dec.{eqb, leb, ltb}
 use lib.ListN.{length, getD}
 use Rattle.words.specs.Words.{kind, low}
 use Rattle.plans.specs.Conditions.{Condition, Read, comparisonWords, nodes, boundIn, allBound}
 use Rattle.plans.specs.Branches.{Branch, noBranch, readBranch, readBranches}
-use Rattle.plans.specs.Endings.{Ending, rows, top, group}
+use Rattle.plans.specs.Endings.{Ending, rows, top, group, registers}
 use Rattle.plans.specs.Years.{yearWords, bodyOf}
 use Rattle.plans.specs.declared.Last.{Last}
-use Rattle.plans.specs.declared.Last.the-variants.{Rows, Top, Group}
+use Rattle.plans.specs.declared.Last.the-variants.{Rows, Top, Group, Registers}
 use Rattle.plans.specs.declared.Tree.{Tree}
 use Rattle.plans.specs.declared.Tree.the-variants.{Reads, Bad}
 
@@ -83,27 +83,32 @@ abbrev pub lastIn : Ending → Last
 lastIn (rows vs) = Rows
 lastIn (top k vs keys) = Top
 lastIn (group vs m) = Group
+lastIn (registers v) = Registers
 
--- the rows' variables, or the group variables
+-- the rows' variables, the group variables, or the one that registers count
 abbrev pub variablesIn : Ending → List ℕ
 variablesIn (rows vs) = vs
 variablesIn (top k vs keys) = vs
 variablesIn (group vs m) = vs
+variablesIn (registers v) = v ∷ []
 
 -- the keys of a best-of ending; no other ending has any
 abbrev pub keysIn : Ending → List ℕ
 keysIn (rows vs) = []
 keysIn (top k vs keys) = keys
 keysIn (group vs m) = []
+keysIn (registers v) = []
 
 -- how many rows a best-of ending keeps; 0 stands for other endings
 abbrev pub bestIn : Ending → ℕ
 bestIn (rows vs) = 0
 bestIn (top k vs keys) = k
 bestIn (group vs m) = 0
+bestIn (registers v) = 0
 
--- the variable that a group ending measures; 0 stands for other endings
+-- the variable that a group ending measures, or that registers count; 0 stands for other endings
 abbrev pub measuredIn : Ending → ℕ
 measuredIn (rows vs) = 0
 measuredIn (top k vs keys) = 0
 measuredIn (group vs m) = m
+measuredIn (registers v) = v

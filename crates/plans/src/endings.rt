@@ -40,6 +40,12 @@ pub fn last_of(word: u32) -> Last
             }
             Last::Neither
         }
+        PlanWord::REGISTERS => {
+            if low == 0 {
+                return Last::Registers;
+            }
+            Last::Neither
+        }
         _ => Last::Neither,
     }
 }
@@ -77,7 +83,7 @@ pub fn ending_kind(e: &[u32]) -> Last
     last_of(first(e))
 }
 
-// The rows' variables, or the group variables, of an ending.
+// The rows' variables, the group variables, or the one that registers count, of an ending.
 pub fn variables(e: &[u32]) -> &[u32]
     requires { ⌜ endingForm (now e) ≡ true ⌝ }
     ensures { λ r. ⌜ now r ≡ variablesIn (endingAt (now (e .entry))) ⌝ }
@@ -89,6 +95,7 @@ pub fn variables(e: &[u32]) -> &[u32]
             let end = 1 + words::wide(PlanWord(first(e)).low());
             &e[1..end]
         }
+        Last::Registers => &e[1..],
         Last::Neither => e,
     }
 }
@@ -102,6 +109,7 @@ pub fn keys(e: &[u32]) -> &[u32]
         Last::Top => after_rows(&e[1..]),
         Last::Rows => &e[..0],
         Last::Group => &e[..0],
+        Last::Registers => &e[..0],
         Last::Neither => &e[..0],
     }
 }
@@ -125,4 +133,12 @@ pub fn measured(e: &[u32]) -> u32
 {
     let at = 1 + words::wide(PlanWord(first(e)).low());
     e[at]
+}
+
+// The variable that registers count.
+pub fn counted(e: &[u32]) -> u32
+    requires { ⌜ (endingForm (now e) ≡ true) × (lastIn (endingAt (now e)) ≡ Last.Registers) ⌝ }
+    ensures { λ r. ⌜ r ≡ measuredIn (endingAt (now (e .entry))) ⌝ }
+{
+    e[1]
 }

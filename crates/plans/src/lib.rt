@@ -15,6 +15,7 @@ pub use branches::condition_part;
 pub use branches::pattern_count;
 pub use branches::terms;
 pub use endings::best_count;
+pub use endings::counted;
 pub use endings::ending_kind;
 pub use endings::keys;
 pub use endings::last_of;
@@ -77,6 +78,7 @@ pub enum Last {
     Rows,
     Top,
     Group,
+    Registers,
     Neither,
 }
 

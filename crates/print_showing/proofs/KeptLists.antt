@@ -2,18 +2,21 @@
 use Prim.Native.Nat.{ℕ, _+_, _%_}
 use native.Mathlib.Omega.{arith}
 use native.Mathlib.Nat.{zero-mod}
-use mathlib.Core.Path.{_≡_, _∙_, ap}
+use mathlib.Core.Path.{_≡_, refl, _∙_, ap}
+use mathlib.Core.Bool.{Bool, true, false, _||_}
 use mathlib.Core.List.{List}
 use lib.Dec.{eqb}
 use lib.ListN.{length}
 use borrow.Author.Tests.{eqb-true}
+use Rattle.words.specs.Sequences.{all}
 use Rattle.words.proofs.Booleans.{and-left}
 use Rattle.words.proofs.Buffers.{length-over}
-use Rattle.plans.specs.Endings.{Ending, rows, top, group}
+use Rattle.plans.specs.Endings.{Ending, rows, top, group, registers}
 use Rattle.plans.specs.Plans.{planOf}
+use Rattle.registers.specs.Registers.{registerCount, inRange, areRegisters, keptRegisters}
 use Rattle.lists.specs.Groups.{totalsWidth}
 use Rattle.lists.specs.Gathering.{width, listRight}
-use Rattle.lists.proofs.Gatherings.{Valid}
+use Rattle.lists.proofs.Gatherings.{ValidKept}
 use Rattle.turns.specs.Surveys.{Survey}
 use Rattle.cuts.specs.Accepting.{Accepted}
 use Rattle.cuts.proofs.Accepting.{opening-accepts}
@@ -27,13 +30,23 @@ use Rattle.queries.proofs.Showing.{kept-at-end}
 use Rattle.print_writing.specs.FileQueries.{fileTables, fileSurvey, filePlan, fileQuantum, IsAccepted, outputRoom, keptRoom}
 use Rattle.print_writing.specs.Shown.{mostTurns, CanOpen, by-turns, LeftToShow}
 
--- nothing is kept of a row query; any other list that test 12 passes is whole rows or records
-valid-whole : (e : Ending) (ws : List ℕ) → Valid e ws → length (keptOf Merged e ws) % width e ≡ 0
+-- no registers, or all of them
+registers-whole : (ws : List ℕ) → keptRegisters ws ≡ true → length ws % registerCount ≡ 0
+registers-whole ws h = go (eqb (length ws) 0) refl h
+  where
+    go : (b : Bool) → eqb (length ws) 0 ≡ b → b || areRegisters ws ≡ true → length ws % registerCount ≡ 0
+    go true p e = ap (λ n. n % registerCount) (eqb-true (length ws) 0 p)
+    go false p e =
+        ap (λ n. n % registerCount) (eqb-true (length ws) registerCount (and-left (eqb (length ws) registerCount) (all inRange ws) e))
+
+-- nothing is kept of a row query; any other list that test 12 passes is whole rows or records, or registers
+valid-whole : (e : Ending) (ws : List ℕ) → ValidKept e ws → length (keptOf Merged e ws) % width e ≡ 0
 unfolding listRight
 valid-whole (rows vs) ws h = zero-mod (length vs)
 valid-whole (top k vs keys) ws h = eqb-true (length ws % length vs) 0 (and-left (eqb (length ws % length vs) 0) _ h)
 valid-whole (group vs m) ws h =
     eqb-true (length ws % (length vs + totalsWidth)) 0 (and-left (eqb (length ws % (length vs + totalsWidth)) 0) _ h)
+valid-whole (registers v) ws h = registers-whole ws h
 
 pub kept-whole : (v : Survey) (plan list : List ℕ) → CanOpen v plan → IsWhole Merged (v .tables) plan list
     → length list % width (planOf plan .ending) ≡ 0

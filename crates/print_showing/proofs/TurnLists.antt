@@ -10,7 +10,7 @@ use Rattle.words.specs.Bindings.{Bindings}
 use Rattle.words.proofs.Booleans.{absurd-true}
 use Rattle.tables.specs.Tables.{Tables}
 use Rattle.plans.specs.declared.Last.the-variants.{Rows}
-use Rattle.plans.specs.Endings.{Ending, rows, top, group}
+use Rattle.plans.specs.Endings.{Ending, rows, top, group, registers}
 use Rattle.plans.specs.Plans.{planOf}
 use Rattle.plans.specs.Reading.{lastIn}
 use Rattle.steps.specs.Steps.{after}
@@ -58,6 +58,7 @@ rows-whole : (e : Ending) → lastIn e ≡ Rows → (threshold : List ℕ) (done
 rows-whole (rows vs) h threshold done bs = ap (λ l. length l % length vs) (rows-at vs threshold done bs) ∙ gathered-whole vs threshold bs
 rows-whole (top k vs keys) h threshold done bs = let z : _≡_ {A = ℕ} 0 1 = cc in absurd (omega arith)
 rows-whole (group vs m) h threshold done bs = let z : _≡_ {A = ℕ} 0 1 = cc in absurd (omega arith)
+rows-whole (registers v) h threshold done bs = let z : _≡_ {A = ℕ} 0 1 = cc in absurd (omega arith)
 
 pub shown-whole : (t : Tables) (plan : List ℕ) (quantum room number : ℕ) (turned : Turned) (list : List ℕ)
     → Shows t plan quantum room number turned list → lastIn (planOf plan .ending) ≡ Rows → length list % width (planOf plan .ending) ≡ 0

@@ -27,6 +27,7 @@ fn print_delivered(lists: Listing, list: &[u32])
         Last::Rows => print_list(lists, list),
         Last::Top => {}
         Last::Group => {}
+        Last::Registers => {}
         Last::Neither => {}
     }
 }

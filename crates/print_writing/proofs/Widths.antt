@@ -9,8 +9,8 @@ use lib.Dec.{leb}
 use lib.ListN.{length}
 use borrow.Author.Tests.{leb-true, leb-false}
 use Rattle.plans.specs.declared.Last.{Last}
-use Rattle.plans.specs.declared.Last.the-variants.{Rows, Top, Group, Neither}
-use Rattle.plans.specs.Endings.{Ending, rows, top, group, mostRowVariables}
+use Rattle.plans.specs.declared.Last.the-variants.{Rows, Top, Group, Registers, Neither}
+use Rattle.plans.specs.Endings.{Ending, rows, top, group, registers, mostRowVariables}
 use Rattle.plans.specs.Plans.{readPlan, hasForm, planOf}
 use Rattle.plans.specs.Reading.{lastIn, variablesIn}
 use Rattle.plans.proofs.Bounds.{EndingForm, plan-form, was-read}
@@ -26,16 +26,19 @@ pub few-variables : (e : Ending) → EndingForm e → length (variablesIn e) ≤
 few-variables (rows vs) f = f .most
 few-variables (top k vs keys) f = f .row .most
 few-variables (group vs m) f = omega (arith, f .most)
+few-variables (registers v) f = omega arith
 
 pub width-of : (e : Ending) → widthOf (lastIn e) (length (variablesIn e)) ≡ width e
 width-of (rows vs) = refl
 width-of (top k vs keys) = refl
 width-of (group vs m) = refl
+width-of (registers v) = refl
 
 has-width : (e : Ending) → EndingForm e → HasWidth (lastIn e) (width e)
 has-width (rows vs) f = (f .least, f .most)
 has-width (top k vs keys) f = (f .row .least, f .row .most)
 has-width (group vs m) f = let l = f .most in (omega arith, omega arith)
+has-width (registers v) f = refl
 
 pub lists-width : (plan : List ℕ) (lists : Listing) → ListsOf plan lists → HasWidth (lists .kind) (lists .width)
 lists-width plan lists h =
@@ -46,6 +49,7 @@ pub some-words : (k : Last) (n : ℕ) → HasWidth k n → (1 ≤ n) × (n ≤ m
 some-words Rows n h = h
 some-words Top n h = h
 some-words Group n h = (omega (arith, h .0), omega (arith, h .1))
+some-words Registers n h = (omega (arith, h), omega (arith, h))
 some-words Neither n h = absurd h
 
 -- what is left of whole rows or records has one more

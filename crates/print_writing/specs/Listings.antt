@@ -5,10 +5,11 @@ use mathlib.Core.Path.{_≡_}
 use mathlib.Core.Bool.{true}
 use mathlib.Core.List.{List}
 use Rattle.plans.specs.declared.Last.{Last}
-use Rattle.plans.specs.declared.Last.the-variants.{Rows, Top, Group, Neither}
+use Rattle.plans.specs.declared.Last.the-variants.{Rows, Top, Group, Registers, Neither}
 use Rattle.plans.specs.Endings.{Ending, mostRowVariables, mostGroupVariables}
 use Rattle.plans.specs.Plans.{readPlan, hasForm, planOf}
 use Rattle.plans.specs.Reading.{lastIn}
+use Rattle.registers.specs.Registers.{registerCount}
 use Rattle.lists.specs.Groups.{totalsWidth}
 use Rattle.lists.specs.Gathering.{width}
 use Rattle.print_writing.specs.declared.Listing.{Listing}
@@ -21,11 +22,12 @@ listingOf e = record { kind = lastIn e; width = width e }
 abbrev pub ListsOf : List ℕ → Listing → Type 0
 ListsOf plan lists = (hasForm (readPlan plan) ≡ true) × (lists ≡ listingOf (planOf plan .ending))
 
--- the words of a row or record with so many variables
+-- the words of a row or record with so many variables, or of all registers
 abbrev pub widthOf : Last → ℕ → ℕ
 widthOf Rows n = n
 widthOf Top n = n
 widthOf Group n = n + totalsWidth
+widthOf Registers n = registerCount
 widthOf Neither n = 0
 
 -- ---- how wide a row or record is
@@ -42,4 +44,5 @@ abbrev pub HasWidth : Last → ℕ → Type 0
 HasWidth Rows n = IsRow n
 HasWidth Top n = IsRow n
 HasWidth Group n = IsRecord n
+HasWidth Registers n = n ≡ registerCount
 HasWidth Neither n = ⊥

@@ -1,4 +1,4 @@
-// Lines of a file's query handed to the writer: a refusal, a turn, each row or record of a list. Each is of the file's uncut run.
+// Lines of a file's query handed to the writer: a refusal, a turn, each row or record of a list, or its registers. Each is of the file's uncut run.
 mod lines;
 mod plan_lists;
 mod writing;
@@ -9,7 +9,7 @@ pub use lines::print_turn;
 pub use plan_lists::lists_of;
 use plans::Last;
 
-// What the lists of a plan hold, and the words of each row or record.
+// What the lists of a plan hold, and the words of each row or record, or of all registers.
 pub struct Listing {
     pub kind: Last,
     pub width: usize,

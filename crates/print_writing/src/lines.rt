@@ -1,6 +1,7 @@
-// The printer's lines: one for a refusal, for a turn, and for each row or group of a list.
+// The printer's lines: one for a refusal, for a turn, for each row or group of a list, and for all registers.
 use crate::Listing;
 use crate::writing::write_group;
+use crate::writing::write_list;
 use crate::writing::write_refused;
 use crate::writing::write_row;
 use crate::writing::write_turn;
@@ -10,8 +11,12 @@ ghost use mathlib.Core.Path.{_≡_};
 ghost use Prim.Native.Nat.{_≤_, _%_};
 ghost use lib.ListN.{length};
 ghost use Rattle.plans.specs.Endings.{mostRowVariables};
+ghost use Rattle.registers.specs.Registers.{registerCount};
 ghost use Rattle.print_writing.specs.Listings.{HasWidth, IsRecord};
 ghost use Rattle.print_writing.specs.Shown.{TurnShown, RefusedBy};
+
+// All registers.
+pub const REGISTERS: usize = 16;
 
 // The words of a group's record after its keys.
 pub const TOTALS_WIDTH: usize = 8;
@@ -53,7 +58,16 @@ fn print_group(group: &[u32])
     write_group(keys, group, &line, n);
 }
 
-// A row or a record. No list holds neither.
+// All registers, in decimal.
+fn print_registers(list: &[u32])
+    requires { ⌜ length (now list) ≡ registerCount ⌝ }
+{
+    let mut line = [0u8; 256];
+    let n = print_lines::list_line(&mut line, list);
+    write_list(list, &line, n);
+}
+
+// A row or a record, or all registers. No list holds neither.
 fn print_record(kind: Last, words: &[u32])
     requires { ⌜ HasWidth kind (length (now words)) ⌝ }
 {
@@ -61,11 +75,12 @@ fn print_record(kind: Last, words: &[u32])
         Last::Rows => print_row(words),
         Last::Top => print_row(words),
         Last::Group => print_group(words),
+        Last::Registers => print_registers(words),
         Last::Neither => {}
     }
 }
 
-// The rows or records of a list, each on its line.
+// The rows or records of a list, each on its line, or its registers on one.
 pub fn print_list(lists: Listing, list: &[u32])
     requires { ⌜ HasWidth (lists .kind) (lists .width) ⌝ }
     requires { ⌜ length (now list) % lists .width ≡ 0 ⌝ }

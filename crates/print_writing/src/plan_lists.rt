@@ -1,5 +1,6 @@
 // What the lists of a plan hold: rows or records, and of how many words.
 use crate::Listing;
+use crate::lines::REGISTERS;
 use crate::lines::TOTALS_WIDTH;
 use plans::Last;
 ghost use mathlib.Core.Path.{_≡_};
@@ -9,7 +10,7 @@ ghost use Rattle.plans.specs.Endings.{mostRowVariables};
 ghost use Rattle.plans.specs.Plans.{readPlan, hasForm, planOf};
 ghost use Rattle.print_writing.specs.Listings.{listingOf, widthOf};
 
-// The words of a row or record whose plan names so many variables.
+// The words of a row or record whose plan names so many variables, or of all registers.
 fn record_width(kind: Last, variables: usize) -> usize
     requires { ⌜ variables ≤ mostRowVariables ⌝ }
     ensures { λ r. ⌜ r ≡ widthOf kind variables ⌝ }
@@ -18,6 +19,7 @@ fn record_width(kind: Last, variables: usize) -> usize
         Last::Rows => variables,
         Last::Top => variables,
         Last::Group => variables + TOTALS_WIDTH,
+        Last::Registers => REGISTERS,
         Last::Neither => 0,
     }
 }

@@ -5,7 +5,7 @@ use turns::Turned;
 ghost use Prim.Native.Nat.{_≤_};
 ghost use lib.ListN.{length};
 ghost use Rattle.lists.specs.Groups.{groupIn};
-ghost use Rattle.print_lines.specs.Lines.{turnLine, refusedLine, rowLine, groupLine};
+ghost use Rattle.print_lines.specs.Lines.{turnLine, refusedLine, rowLine, groupLine, listLine};
 ghost use Rattle.print_writing.specs.Shown.{TurnShown, RefusedBy, IsLine};
 
 // Writes the first bytes of a line, so many; that they could not be written is said on standard error.
@@ -44,6 +44,13 @@ pub fn write_row(row: &[u32], line: &[u8], n: usize)
 // The line of a group's record of so many keys.
 pub fn write_group(keys: usize, group: &[u32], line: &[u8], n: usize)
     requires { ⌜ IsLine (groupLine (groupIn keys (now group))) (now line) n ⌝ }
+{
+    write_first(line, n);
+}
+
+// The line of any other list.
+pub fn write_list(list: &[u32], line: &[u8], n: usize)
+    requires { ⌜ IsLine (listLine (now list)) (now line) n ⌝ }
 {
     write_first(line, n);
 }

@@ -12,7 +12,7 @@ use Rattle.words.specs.declared.Written.the-variants as written
 use Rattle.words.specs.Answers.{wordsIn}
 use Rattle.words.specs.Sequences.{over}
 use Rattle.tables.specs.Tables.{Tables}
-use Rattle.plans.specs.Endings.{Ending, rows, top, group}
+use Rattle.plans.specs.Endings.{Ending, rows, top, group, registers}
 use Rattle.plans.specs.Plans.{Plan, planOf}
 use Rattle.steps.specs.Steps.{after}
 use Rattle.turns.specs.Surveys.{Survey}
@@ -241,6 +241,7 @@ module _ (keep : Keeping) (v : Survey) (plan : List ℕ) (a : Accepted (v .table
       by-plan (rows vs) e = by-rows vs e
       by-plan (top n vs keys) e = by-others (subst⁻¹ MergesLists e tt) (ap isRows e)
       by-plan (group vs n) e = by-others (subst⁻¹ MergesLists e tt) (ap isRows e)
+      by-plan (registers y) e = by-others (subst⁻¹ MergesLists e tt) (ap isRows e)
 
       pub list-taken : TakenAs (m .kept) (m .answer)
       list-taken = by-plan (q .ending) refl

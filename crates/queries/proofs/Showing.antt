@@ -16,8 +16,10 @@ use Rattle.steps.specs.Saved.{savedWords}
 use Rattle.lists.specs.Gathering.{takenInto}
 use Rattle.lists.specs.Closing.{listAt}
 use Rattle.lists.proofs.TopLists.{fine-none}
+use Rattle.lists.proofs.OneRow.{none-taken}
 use Rattle.lists.proofs.Closing.{at-adds}
 use Rattle.turns.specs.Turns.{isOver, TurnInput, givenPlan, turnOf}
+use Rattle.cuts.specs.Uncut.{keptAfter}
 use Rattle.cuts.specs.Accepting.{Accepted}
 use Rattle.cuts.proofs.Accepting.{accepted-form}
 use Rattle.cuts.proofs.Chains.{kept-going, kept-some}
@@ -67,7 +69,8 @@ shown-adds t plan a quantum room from to x =
     let more = rows-later t plan a from (to - from) in
     let all : after t q to .delivered ≡ rows ++ more .0 = ap (λ n. after t q n .delivered) (sym d) ∙ more .1 in
     let new = ap (drop (length rows)) all ∙ drop-append-seam rows (more .0) in
-    ap₂ (λ l bs. takenInto e l (listAt e [] over bs)) (kept-going t q form from (turn-going t plan a quantum room from to x)) new
+    ap (λ bs. takenInto e (keptAfter t q from) (listAt e [] over bs)) new
+    ∙ kept-going t q form (λ l. takenInto e l (listAt e [] over (more .0))) (none-taken e _) from (turn-going t plan a quantum room from to x)
     ∙ at-adds e form [] over rows (more .0) (fine-none e rows)
     ∙ ap (listAt e [] over) (sym all)
     ∙ sym (kept-some t q form to (omega (arith, x .further)))

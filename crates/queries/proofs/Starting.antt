@@ -12,7 +12,7 @@ use Rattle.words.specs.Words.{lowNumbers}
 use Rattle.words.specs.Answers.{wordsIn}
 use Rattle.words.specs.Sequences.{all, over}
 use Rattle.words.proofs.Buffers.{length-over}
-use Rattle.plans.specs.Endings.{Ending, rows, top, group}
+use Rattle.plans.specs.Endings.{Ending, rows, top, group, registers}
 use Rattle.plans.specs.Plans.{planOf}
 use Rattle.steps.specs.Steps.{Run, after}
 use Rattle.steps.specs.Saved.{savedWords, leastStateWords}
@@ -41,6 +41,7 @@ unfolding addAllBy all
 no-rows-fit (rows vs) r e = refl
 no-rows-fit (top k vs keys) r e = refl
 no-rows-fit (group vs m) r e = ap (λ l. all groupFits (groupsOf vs m l)) e
+no-rows-fit (registers v) r e = refl
 
 none-of : (b : Bool) → cond {A = List ℕ} b [] [] ≡ []
 none-of true = refl

@@ -12,7 +12,7 @@ use Rattle.words.specs.declared.Written.the-variants as written
 use Rattle.words.proofs.Booleans.{absurd-true}
 use Rattle.plans.specs.declared.Last.{Last}
 use Rattle.plans.specs.declared.Last.the-variants as last
-use Rattle.plans.specs.Endings.{Ending, rows, top, group, endingAt}
+use Rattle.plans.specs.Endings.{Ending, rows, top, group, registers, endingAt}
 use Rattle.plans.specs.Plans.{readPlan, hasForm}
 use Rattle.plans.specs.Reading.{lastIn}
 use Rattle.turns.specs.declared.TurnEnding.{TurnEnding}
@@ -34,12 +34,14 @@ abbrev pub rowsKind : Last → Bool
 rowsKind last.Rows = true
 rowsKind last.Top = false
 rowsKind last.Group = false
+rowsKind last.Registers = false
 rowsKind last.Neither = false
 
 pub by-kind : (e : Ending) → rowsKind (lastIn e) ≡ isRows e
 by-kind (rows vs) = refl
 by-kind (top k vs keys) = refl
 by-kind (group vs m) = refl
+by-kind (registers v) = refl
 
 -- ending words of some kind, which end a plan
 pub rows-by-kind : (ws : List ℕ) (e : Ending) → endingAt ws ≡ e → (k k₁ : Last) → k ≡ lastIn (endingAt ws) → k ≡ k₁

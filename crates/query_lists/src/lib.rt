@@ -20,6 +20,7 @@ fn is_rows(plan: &[u32]) -> bool
         Last::Rows => true,
         Last::Top => false,
         Last::Group => false,
+        Last::Registers => false,
         Last::Neither => false,
     }
 }

@@ -12,7 +12,7 @@ use Rattle.words.specs.declared.Written.{Written}
 use Rattle.words.specs.declared.Written.the-variants as written
 use Rattle.words.specs.Sequences.{keep}
 use Rattle.words.specs.Tests.{firstFailing}
-use Rattle.plans.specs.Endings.{Ending, rows, top, group}
+use Rattle.plans.specs.Endings.{Ending, rows, top, group, registers}
 use Rattle.plans.specs.Plans.{planOf}
 use Rattle.turns.specs.Surveys.{Survey}
 use Rattle.turns.specs.declared.TurnEnding.{TurnEnding}
@@ -373,6 +373,7 @@ module _ (v : Survey) (owner : ℕ) (plan : List ℕ) where
       by-kind x rest e (rows vs) = taking h x rest (h .kept ++ x .list) e
       by-kind x rest e (top k vs keys) = record { saved = refl; served = refl }
       by-kind x rest e (group vs m) = record { saved = refl; served = refl }
+      by-kind x rest e (registers y) = record { saved = refl; served = refl }
 
       by-waiting : (xs : List ServedTurn) → h .waiting ≡ xs → Unmoved h (afterJoining plan h xs)
       by-waiting [] e = record { saved = refl; served = refl }

@@ -23,6 +23,7 @@ ghost use Rattle.turns.specs.Surveys.{surveyOf};
 ghost use Rattle.turns.specs.Opening.{openOf};
 ghost use Rattle.turns.specs.Turns.{turnOf, turnInput};
 ghost use Rattle.merges.specs.Merging.{mergeInput, mergeOf};
+ghost use Rattle.registers.specs.Reporting.{reportInput, reportOf};
 ghost use Rattle.list_endings.specs.PlanOutputs.{planOutput};
 ghost use Rattle.uploads.specs.Making.{makeInput, makeOf};
 ghost use Rattle.views.specs.Viewing.{viewInput, viewCallOf};
@@ -101,6 +102,15 @@ pub extern "C" fn sotjarn_merge(
     ensures kept { λ _. ⌜ now (kept .exit) ≡ mergeOf (mergeInput (now (plan .entry)) (now (kept .entry)) given (now (list .entry))) .kept ⌝ }
 {
     written_numbers(merge_calls::merge(plan, kept, given, list))
+}
+
+// Writes how many registers of a kept list have each value, or refuses.
+#[no_mangle]
+pub extern "C" fn sotjarn_report(kept: &[u32], given: usize, report: &mut [u32]) -> WrittenNumbers
+    ensures answer { λ r. ⌜ r ≡ writtenNumbers (reportOf (reportInput (now (kept .entry)) given (now (report .entry))) .answer) ⌝ }
+    ensures report { λ _. ⌜ now (report .exit) ≡ reportOf (reportInput (now (kept .entry)) given (now (report .entry))) .report ⌝ }
+{
+    written_numbers(register_reports::report(kept, given, report))
 }
 
 // The words that a turn's output has at least by a plan, which test 7 asks for, or the number of the test that refuses the plan.

@@ -13,7 +13,7 @@ use Rattle.steps.specs.Steps.{Run, after}
 use Rattle.steps.specs.Saved.{positionWords, upperWords, leastStateWords, savedWords}
 use Rattle.lists.specs.Gathering.{gathered}
 use Rattle.lists.specs.Closing.{listAt}
-use Rattle.lists.proofs.OneRow.{gathered-nil}
+use Rattle.lists.proofs.OneRow.{none-fits}
 use Rattle.lists.proofs.Closing.{at-room}
 use Rattle.turns.specs.Surveys.{Survey}
 use Rattle.turns.specs.Opening.{Opened, startWords, openOf, Opens}
@@ -62,7 +62,7 @@ module _ (i : TurnInput) (serve : Served i) where
   pub rows-fit : length (gathered (givenPlan i .ending) (i .threshold) (turnRun i .delivered)) ≤ length (i .output)
   rows-fit =
       let h : length (gathered (givenPlan i .ending) (i .threshold) []) ≤ length (i .output) =
-      let e = ap length (gathered-nil (givenPlan i .ending) (i .threshold)) in omega arith in
+      omega (arith, none-fits (givenPlan i .ending) (i .threshold), turn-limits i serve .output-room) in
       subst⁻¹ (λ (u : Run). length (gathered (givenPlan i .ending) (i .threshold) (u .delivered)) ≤ length (i .output)) served-run
       (has-room i (rowsOf (served i)) .0 (served-attempts i .fitted (has-room i [] .1 h)))
 

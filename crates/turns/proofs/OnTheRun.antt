@@ -15,7 +15,7 @@ use Rattle.words.proofs.Buffers.{length-over}
 use Rattle.tables.specs.Tables.{section, tableTests}
 use Rattle.tables.specs.Right.{Right}
 use Rattle.tables.proofs.RightTables.{right}
-use Rattle.plans.specs.Endings.{Ending, rows, top, group}
+use Rattle.plans.specs.Endings.{Ending, rows, top, group, registers}
 use Rattle.plans.specs.Branches.{Branch}
 use Rattle.plans.specs.Plans.{readPlan, planTests}
 use Rattle.plans.proofs.Bounds.{PlanForm, plan-form, was-read}
@@ -45,6 +45,7 @@ keys-among : (bs : List Branch) (e : Ending) → EndingVariables bs e → KeysAm
 keys-among bs (rows vs) v = tt
 keys-among bs (top k vs keys) v = v .1
 keys-among bs (group vs m) v = tt
+keys-among bs (registers x) v = tt
 
 module _ (i : TurnInput) (serve : Served i) where
   pub given-form : PlanForm (givenPlan i)

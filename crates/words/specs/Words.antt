@@ -135,6 +135,9 @@ fallingKind = 11
 abbrev pub groupKind : ℕ
 groupKind = 12
 
+abbrev pub registersKind : ℕ
+registersKind = 13
+
 abbrev pub surveyKind : ℕ
 surveyKind = 13
 

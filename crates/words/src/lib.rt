@@ -6,8 +6,8 @@ ghost use lib.Seq.{paste};
 ghost use Rattle.words.specs.Bindings.{valueOf};
 ghost use Rattle.words.specs.Words.{termValues, termKind, termValue, name, number, text, variable, unbound, isVariable, isNumber, isValue};
 ghost use Rattle.words.specs.Words.{valueRank, keyRank, lastRank, lowNumbers, kind, low, word, headKind, branchKind, trueKind, andKind};
-ghost use Rattle.words.specs.Words.{orKind, notKind, comparisonKind, rowsKind, topKind, risingKind, fallingKind, groupKind, depths, surveyWord};
-ghost use Rattle.words.specs.Words.{positionWord, placeWord, yearWord, branchOf, depthOf};
+ghost use Rattle.words.specs.Words.{orKind, notKind, comparisonKind, rowsKind, topKind, risingKind, fallingKind, groupKind, registersKind, depths};
+ghost use Rattle.words.specs.Words.{surveyWord, positionWord, placeWord, yearWord, branchOf, depthOf};
 
 // A term: two bits of kind and a value of 30.
 pub struct Term(pub u32);
@@ -163,6 +163,8 @@ impl PlanWord {
 
     pub const GROUP: u32 = 12;
 
+    pub const REGISTERS: u32 = 13;
+
     // The comparisons, by their numbers.
     pub const EQUAL: u32 = 0;
 
@@ -253,6 +255,12 @@ impl PlanWord {
         ensures { λ r. ⌜ r .0 ≡ word groupKind (variables % lowNumbers) ⌝ }
     {
         PlanWord(PlanWord::GROUP * NUMBERS + variables % NUMBERS)
+    }
+
+    pub fn registers() -> Self
+        ensures { λ r. ⌜ r .0 ≡ word registersKind 0 ⌝ }
+    {
+        PlanWord(PlanWord::REGISTERS * NUMBERS)
     }
 
     pub fn kind(self) -> u32

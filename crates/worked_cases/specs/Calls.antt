@@ -15,6 +15,7 @@ use Rattle.turns.specs.declared.TurnEnding.the-variants as ending
 use Rattle.turns.specs.Surveys.{Survey, underNumber}
 use Rattle.turns.specs.Opening.{Opened, openOf}
 use Rattle.turns.specs.Turns.{TurnInput, TurnResult, turnTests, turnOf, resultOf}
+use Rattle.registers.specs.Reporting.{ReportInput, ReportResult, reportOf}
 use Rattle.merges.specs.Merging.{MergeInput, MergeResult, mergeOf}
 use Rattle.cuts.specs.Uncut.{runList}
 use Rattle.uploads.specs.declared.Made.the-variants as answer
@@ -22,11 +23,12 @@ use Rattle.uploads.specs.Making.{MakeInput, MakeResult, makeOf}
 use Rattle.views.specs.declared.Viewed.the-variants as view
 use Rattle.views.specs.Viewing.{ViewInput, ViewResult, viewCallOf}
 
--- the five calls; the uncut run after n steps, with its list; and the tests of a turn alone, for a turn too long to compute
+-- the six calls; the uncut run after n steps, with its list; and the tests of a turn alone, for a turn too long to compute
 pub data Call : Type 0 where
   opening : Survey → List ℕ → List ℕ → Call
   turning : TurnInput → Call
   merging : MergeInput → Call
+  reporting : ReportInput → Call
   making : MakeInput → Call
   viewing : ViewInput → Call
   running : Tables → List ℕ → ℕ → Call
@@ -36,6 +38,7 @@ pub data Result : Type 0 where
   opened : Opened → Result
   turned : TurnResult → Result
   merged : MergeResult → Result
+  reported : ReportResult → Result
   made : MakeResult → Result
   viewed : ViewResult → Result
   ran : Option State → List ℕ → Result
@@ -46,6 +49,7 @@ abbrev pub resultFor : Call → Result
 resultFor (opening v plan state) = opened (openOf v plan state)
 resultFor (turning i) = turned (turnOf i)
 resultFor (merging i) = merged (mergeOf i)
+resultFor (reporting i) = reported (reportOf i)
 resultFor (making i) = made (makeOf i)
 resultFor (viewing i) = viewed (viewCallOf i)
 resultFor (running t plan n) =
@@ -103,6 +107,9 @@ notTurned i x = turnCase i (ending.Refused x) 0 [] []
 
 abbrev pub notMerged : MergeInput → ℕ → Case
 notMerged i x = (merging i, merged (record { answer = Refused x; kept = i .kept }))
+
+abbrev pub notReported : ReportInput → ℕ → Case
+notReported i x = (reporting i, reported (record { answer = Refused x; report = i .report }))
 
 abbrev pub notMade : MakeInput → ℕ → Case
 notMade i x = (making i, made (record { answer = answer.Refused x; buffers = i .buffers }))

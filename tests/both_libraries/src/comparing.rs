@@ -7,6 +7,7 @@ use std::process::exit;
 use crate::evaluation::calls::{Merge, Open, Query, Turn};
 use crate::evaluation::growing::Grow;
 use crate::evaluation::queues::{Join, Serve, TopUp, MOST};
+use crate::evaluation::registers::Report;
 use crate::evaluation::tables::Tables;
 use crate::evaluation::uploads::Make;
 use crate::evaluation::views::View;
@@ -76,6 +77,12 @@ impl Calls for Both {
         (made.answer, made.at_exit(0).to_vec())
     }
 
+    fn report(&mut self, call: &Report) -> Written {
+        let made = self.made(call, lending::report);
+        self.note(named(made.answer.refused, "reported"));
+        made.answer
+    }
+
     fn make(&mut self, call: &Make) -> libraries::Made {
         let made = self.made(call, lending::make);
         self.note(named(made.answer.refused, "made"));
@@ -130,6 +137,15 @@ pub fn damaged(to: &mut impl Calls, random: &mut Random, query: &Query, each: us
         let mut call = calls::merge(random, query);
         (0..random.below(4)).for_each(|_| damage::merge(random, query, &mut call));
         to.merge(&call);
+    }
+}
+
+/// Reports on registers, with up to three things changed in each; some of them are still right.
+pub fn reported(to: &mut impl Calls, random: &mut Random, each: usize) {
+    for _ in 0..each {
+        let mut call = calls::report(random);
+        (0..random.below(4)).for_each(|_| damage::report(random, &mut call));
+        to.report(&call);
     }
 }
 
@@ -377,6 +393,7 @@ pub fn compare(file: &str, seeds: Range<u64>) {
         let query = plans::short_query(random);
         damaged(&mut both, random, &query, 4);
         made_up(&mut both, random, &query);
+        reported(&mut both, &mut Random::new(seed ^ 0x0D15_0000), 2);
         uploaded(&mut both, &mut Random::new(seed ^ 0x0AD5_0000), 25);
         queued(&mut both, &mut Random::new(seed ^ 0x0E0E_0000), MOST);
         viewed(&mut both, &mut Random::new(seed ^ 0x0ADE_0000), 40);
@@ -401,6 +418,7 @@ pub fn compare(file: &str, seeds: Range<u64>) {
         "spent",
         "full",
         "merged",
+        "reported",
         "made",
         "joined",
         "served, done",

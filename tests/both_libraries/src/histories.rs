@@ -4,6 +4,7 @@ use crate::evaluation::calls::{Merge, Open, Query, Turn};
 use crate::evaluation::growing::Grow;
 use crate::evaluation::plan::Ending;
 use crate::evaluation::queues::{Join, Serve, TopUp};
+use crate::evaluation::registers::Report;
 use crate::evaluation::uploads::Make;
 use crate::evaluation::views::View;
 use crate::inputs::random::Random;
@@ -15,6 +16,7 @@ pub trait Calls {
     fn open(&mut self, call: &Open) -> (Written, Vec<u32>);
     fn turn(&mut self, call: &Turn) -> (Turned, Vec<u32>, Vec<u32>);
     fn merge(&mut self, call: &Merge) -> (Written, Vec<u32>);
+    fn report(&mut self, call: &Report) -> Written;
     fn make(&mut self, call: &Make) -> Made;
     fn view(&mut self, call: &View) -> (Viewed, [Vec<u32>; 3]);
     fn grow(&mut self, call: &Grow) -> (Viewed, [Vec<u32>; 3]);

@@ -3,6 +3,7 @@
 use crate::evaluation::calls::{Merge, Open, Turn};
 use crate::evaluation::growing::Grow;
 use crate::evaluation::queues::{Join, Lists, Serve, TopUp, Waiting};
+use crate::evaluation::registers::Report;
 use crate::evaluation::uploads::Make;
 use crate::evaluation::views::View;
 use crate::libraries::{self, Entry, Lent, LentLists, Library, Queued, Service, Turned, Viewed, Written};
@@ -95,6 +96,12 @@ pub fn merge(library: &Library, call: &Merge) -> Made<Written> {
     let (plan, list, mut kept) = (Copied::new(&call.plan), Copied::new(&call.list), Copied::new(&call.kept));
     let answer = library.merge(plan.words(), kept.words_mut(), call.given, list.words());
     Made::new(answer, vec![kept, plan, list])
+}
+
+pub fn report(library: &Library, call: &Report) -> Made<Written> {
+    let (kept, mut report) = (Copied::new(&call.kept), Copied::new(&call.report));
+    let answer = library.report(kept.words(), call.given, report.words_mut());
+    Made::new(answer, vec![report, kept])
 }
 
 pub fn least_output(library: &Library, plan: &Vec<u32>) -> Made<Written> {

@@ -99,6 +99,7 @@ type TurnCall = unsafe extern "C" fn(
     usize,
 ) -> Turned;
 type MergeCall = unsafe extern "C" fn(Read, usize, Write, usize, usize, Read, usize) -> Written;
+type ReportCall = unsafe extern "C" fn(Read, usize, usize, Write, usize) -> Written;
 type LeastCall = unsafe extern "C" fn(Read, usize) -> Written;
 type MakeCall = unsafe extern "C" fn(Read, usize, Write, usize, Write, usize, Write, usize, Write, usize) -> Made;
 type ViewCall = unsafe extern "C" fn(
@@ -197,6 +198,7 @@ extern "C" {
         _: usize,
     ) -> Turned;
     fn sotjarn_merge(_: Read, _: usize, _: Write, _: usize, _: usize, _: Read, _: usize) -> Written;
+    fn sotjarn_report(_: Read, _: usize, _: usize, _: Write, _: usize) -> Written;
     fn sotjarn_least_output(_: Read, _: usize) -> Written;
     fn sotjarn_make(_: Read, _: usize, _: Write, _: usize, _: Write, _: usize, _: Write, _: usize, _: Write, _: usize) -> Made;
     fn sotjarn_view(
@@ -275,6 +277,7 @@ pub struct Library {
     open: OpenCall,
     turn: TurnCall,
     merge: MergeCall,
+    report: ReportCall,
     least: LeastCall,
     make: MakeCall,
     view: ViewCall,
@@ -307,6 +310,7 @@ impl Library {
             open: sotjarn_open,
             turn: sotjarn_turn,
             merge: sotjarn_merge,
+            report: sotjarn_report,
             least: sotjarn_least_output,
             make: sotjarn_make,
             view: sotjarn_view,
@@ -336,6 +340,7 @@ impl Library {
                 open: transmute_copy(&symbol(c"sotjarn_open")),
                 turn: transmute_copy(&symbol(c"sotjarn_turn")),
                 merge: transmute_copy(&symbol(c"sotjarn_merge")),
+                report: transmute_copy(&symbol(c"sotjarn_report")),
                 least: transmute_copy(&symbol(c"sotjarn_least_output")),
                 make: transmute_copy(&symbol(c"sotjarn_make")),
                 view: transmute_copy(&symbol(c"sotjarn_view")),
@@ -418,6 +423,11 @@ impl Library {
                 list.len(),
             )
         }
+    }
+
+    pub fn report(&self, kept: &[u32], given: usize, report: &mut [u32]) -> Written {
+        // Sound: each address and length is a slice's, and the written buffer is a `&mut` slice.
+        unsafe { (self.report)(kept.as_ptr(), kept.len(), given, report.as_mut_ptr(), report.len()) }
     }
 
     pub fn least_output(&self, plan: &[u32]) -> Written {

@@ -2,11 +2,12 @@
 
 use std::fs;
 
-use crate::comparing::{damaged, grown, made_up, queued, uploaded, viewed};
+use crate::comparing::{damaged, grown, made_up, queued, reported, uploaded, viewed};
 use crate::evaluation::calls::{Merge, Open, Query, Turn};
 use crate::evaluation::growing::Grow;
 use crate::evaluation::plan::{Branch, Condition, Ending, Plan};
 use crate::evaluation::queues::{Join, Lists, Serve, TopUp, Waiting, PLAN_ROOM, STATE_ROOM};
+use crate::evaluation::registers::Report;
 use crate::evaluation::tables::Tables;
 use crate::evaluation::uploads::Make;
 use crate::evaluation::views::View;
@@ -42,6 +43,7 @@ const TOP_UP: u32 = 13;
 const VIEW: u32 = 14;
 const VIEW_ALL: u32 = 15;
 const GROW: u32 = 16;
+const REPORT: u32 = 17;
 
 /// How many small uploads there are, and the most rows of one.
 const UPLOADS: u64 = 60;
@@ -54,6 +56,9 @@ const VIEWED: usize = 12;
 /// How many small woods are grown, and the most stems of one.
 const GROWN: u64 = 40;
 const GROWN_STEMS: u32 = 12;
+
+/// How often two reports on registers are asked for.
+const REPORTS: u64 = 30;
 
 /// How many small queues there are, and the most entries of one; and how many as large as they may be.
 const QUEUES: u64 = 45;
@@ -412,6 +417,21 @@ impl Calls for Vectors {
         (made.answer, made.at_exit(0).to_vec())
     }
 
+    fn report(&mut self, call: &Report) -> Written {
+        let call = Report {
+            report: filled(call.report.len()),
+            ..call.clone()
+        };
+        let made = lending::report(&self.proved, &call);
+        let Written { refused, words } = made.answer;
+        self.lend(Name::Kept, &call.kept);
+        self.lend(Name::Report, &call.report);
+        self.words.extend([REPORT, given_word(call.given), refused, words as u32]);
+        self.written(Name::Report, made.at_exit(0), words);
+        self.calls += 1;
+        made.answer
+    }
+
     fn make(&mut self, call: &Make) -> Made {
         let call = Make {
             upload: call.upload.clone(),
@@ -715,6 +735,9 @@ pub fn write(file: &str) {
     queues(&mut made);
     views(&mut made);
     woods(&mut made);
+    for seed in 0..REPORTS {
+        reported(&mut made, &mut Random::new(seed), 2);
+    }
     long(&mut made);
     let bytes: Vec<u8> = made.words.iter().flat_map(|word| word.to_le_bytes()).collect();
     fs::write(file, &bytes).expect("the file is written");

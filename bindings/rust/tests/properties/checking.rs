@@ -174,7 +174,11 @@ pub fn cut(tally: &Tally, random: &mut Random, query: &Query, most_quantum: usiz
         }
     }
     // A threshold prunes: the steps are no more, and the list is the same.
-    assert!(if sent { steps <= query.run.steps() } else { steps == query.run.steps() });
+    assert!(if sent {
+        steps <= query.run.steps()
+    } else {
+        steps == query.run.steps()
+    });
     assert_eq!(given, 0);
     assert_eq!(kept[..held], whole);
 }

@@ -67,6 +67,7 @@ fn built(plan: &plan::Plan) -> Plan {
         Ending::Rows(rows) => builder.rows(variables(rows)),
         Ending::Top(k, rows, keys) => builder.top(*k, variables(rows), keys.iter().map(key).collect::<Vec<_>>()),
         Ending::Group(by, measured) => builder.group(variables(by), Variable(*measured)),
+        Ending::Registers(counted) => builder.registers(Variable(*counted)),
     }
     .expect("every value fits")
 }
@@ -108,6 +109,7 @@ fn compare_list(query: &Query, plan: &Plan, words: &[u32]) {
                 assert_eq!((group.least, group.greatest), (bound(totals[6]), bound(totals[7])));
             }
         }
+        List::Registers(registers) => assert!(words.is_empty() && registers == [0; 16] || words == registers),
     }
 }
 
@@ -193,10 +195,11 @@ fn the_readers_read_states_and_lists() {
         // Words of any kind are read or not, but never more than there are.
         let (many, width) = (random.below(12), random.below(4));
         let words = random.words(many);
-        let (_, _, _) = (
+        let (_, _, _, _) = (
             State::read(&words),
             sotjarn::read_rows(&words, width),
             sotjarn::read_groups(&words, width),
+            sotjarn::read_registers(&words),
         );
     });
 }
@@ -224,7 +227,11 @@ fn turns_and_kept_lists_add_up_to_the_uncut_run() {
                 assert!(turn.ending != TurnEnding::Done || turn.steps > 0);
             }
         }
-        assert!(if sent { steps <= query.run.steps() } else { steps == query.run.steps() });
+        assert!(if sent {
+            steps <= query.run.steps()
+        } else {
+            steps == query.run.steps()
+        });
         assert_eq!(kept.words(), whole_list(&query));
         assert!(made.state().is_empty());
         assert!(made.turns(5, plan.least_output()).next().is_none());

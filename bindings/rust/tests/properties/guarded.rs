@@ -6,6 +6,7 @@ use std::hint::black_box;
 use crate::evaluation::calls::{Answer, How, Merge, Open, Turn};
 use crate::evaluation::growing::{self, Grow};
 use crate::evaluation::queues::{Counts, Join, Lists, Serve, Service, TopUp, Waiting};
+use crate::evaluation::registers::Report;
 use crate::evaluation::uploads::{Make, Written};
 use crate::evaluation::views::{self, View};
 use sotjarn::{Entry, Queued, Refusal, Survey, Tables, TurnEnding, Turned, NO_ENTRY};
@@ -123,6 +124,13 @@ pub fn merge(call: &Merge) -> (Result<usize, u32>, Vec<u32>) {
     let answer = sotjarn::merge(plan.lent(), kept.lent_mut(), call.given, list.lent());
     [plan, list].into_iter().for_each(Guarded::unchanged);
     (answer.map_err(number), kept.at_exit())
+}
+
+pub fn report(call: &Report) -> (Result<usize, u32>, Vec<u32>) {
+    let (kept, mut report) = (Guarded::new("kept", &call.kept), Guarded::new("report", &call.report));
+    let answer = sotjarn::report(kept.lent(), call.given, report.lent_mut());
+    kept.unchanged();
+    (answer.map_err(number), report.at_exit())
 }
 
 pub fn make(call: &Make) -> (Result<Written, u32>, Make) {

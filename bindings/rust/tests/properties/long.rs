@@ -50,6 +50,7 @@ fn the_largest_wood_is_cut_by_every_ending() {
         Ending::Top(0, vec![2, 1], vec![(false, 1), (true, 2)]),
         Ending::Group(vec![1], 2),
         Ending::Group(vec![], 2),
+        Ending::Registers(2),
     ] {
         let rows = matches!(ending, Ending::Rows(_));
         let query = accepted(&tables, &stems_plan(if rows { 617 } else { 70 }, ending), 200_000);

@@ -11,6 +11,7 @@ mod guarded;
 mod inputs;
 mod long;
 mod queues;
+mod registers;
 mod short;
 mod surveys;
 mod uploads;

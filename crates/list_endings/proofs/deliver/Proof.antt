@@ -3,7 +3,7 @@ use borrow.Author.Needs.{needs}
 use mathlib.Core.Path.{sym, _∙_}
 use Rattle.plans.specs.Endings.{endingAt}
 use Rattle.plans.proofs.EndingRead.{some-kind}
-use Rattle.list_endings.proofs.Receiving.{rows-room, rows-taken, top-ready, top-taken, group-ready, group-taken}
+use Rattle.list_endings.proofs.Receiving.{rows-room, rows-taken, top-ready, top-taken, group-ready, group-taken, registers-ready, registers-taken}
 use Rattle.list_endings.proofs.deliver.Statement.{statement}
 use Rattle.list_endings.proofs.deliver.Tie as tie
 
@@ -67,6 +67,23 @@ put-group-requires c κs =
 enum-told-4 : tie.Need-enum-told-4
 enum-told-4 c = search needs
 
+counted-requires : tie.Need-counted-requires
+counted-requires c κs =
+    let s = c .before .before .before .before .before .before .before in
+    (s .pre .0, sym (c .before .before .ending-kind .ensures) ∙ c .enum-told4 .given .1)
+
+put-counted-requires : tie.Need-put-counted-requires
+put-counted-requires c κs =
+    let m = c .before in
+    let k = m .before in
+    let v = k .before .before .before in
+    let s = v .before .before .before .before in
+    registers-ready (endingAt (s .args .ending .now)) (s .args .threshold .now) (s .args .out .now) (s .args .used) (s .args .bound .now) (s .pre .1)
+    (sym (k .before .before .ending-kind .ensures) ∙ k .enum-told4 .given .1) (m .counted .result) (m .counted .ensures)
+
+enum-told-5 : tie.Need-enum-told-5
+enum-told-5 c = search needs
+
 same-length : tie.Need-same-length
 same-length c = search needs
 
@@ -110,10 +127,24 @@ returns-3 c =
     (m .measured .result) (m .measured .ensures)
     (p .put-group .last .1 .1 .1 .0) (p .put-group .result) (p .put-group .ensures)
 
+same-length-4 : tie.Need-same-length-4
+same-length-4 c = search needs
+
 returns-4 : tie.Need-returns-4
 returns-4 c =
+    let p = c .before .before in
+    let m = p .before .before in
+    let k = m .before in
+    let v = k .before .before .before in
+    let s = v .before .before .before .before in
+    registers-taken (endingAt (s .args .ending .now)) (s .args .threshold .now) (s .args .out .now) (s .args .used) (s .args .bound .now) (s .pre .1)
+    (sym (k .before .before .ending-kind .ensures) ∙ k .enum-told4 .given .1) (m .counted .result) (m .counted .ensures)
+    (p .put-counted .last .1 .1 .0) (p .put-counted .result) (p .put-counted .ensures)
+
+returns-5 : tie.Need-returns-5
+returns-5 c =
     let s = c .before .before .before .before .before .before .before in
-    absurd (some-kind (endingAt (s .args .ending .now)) (sym (c .before .before .ending-kind .ensures) ∙ c .enum-told4 .given .1))
+    absurd (some-kind (endingAt (s .args .ending .now)) (sym (c .before .before .ending-kind .ensures) ∙ c .enum-told5 .given .1))
 
 pub deliver-spec : {M : Type 1} → statement M
 deliver-spec =
@@ -131,10 +162,15 @@ deliver-spec =
     measured-requires
     put-group-requires
     enum-told-4
+    counted-requires
+    put-counted-requires
+    enum-told-5
     same-length
     returns
     same-length-2
     returns-2
     same-length-3
     returns-3
-    returns-4)
+    same-length-4
+    returns-4
+    returns-5)

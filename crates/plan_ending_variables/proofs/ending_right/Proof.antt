@@ -6,7 +6,7 @@ use Rattle.plans.specs.Branches.{binds}
 use Rattle.plans.specs.Endings.{endingAt}
 use Rattle.plans.specs.Reading.{branchesIn}
 use Rattle.plans.proofs.EndingRead.{some-kind}
-use Rattle.plan_ending_variables.proofs.EndingRight.{wrong-variables, right-rows, right-top, right-group}
+use Rattle.plan_ending_variables.proofs.EndingRight.{wrong-variables, right-rows, right-top, right-group, right-registers}
 use Rattle.plan_ending_variables.proofs.ending_right.Statement.{statement}
 use Rattle.plan_ending_variables.proofs.ending_right.Tie as tie
 
@@ -73,6 +73,9 @@ some-binds-requires c κs =
 enum-told-4 : tie.Need-enum-told-4
 enum-told-4 c = search needs
 
+enum-told-5 : tie.Need-enum-told-5
+enum-told-5 c = search needs
+
 returns-3 : tie.Need-returns-3
 returns-3 c =
     let args = c .before .before .before .before .before .before .before .before .before .before .args in
@@ -122,8 +125,22 @@ returns-5 c =
 returns-6 : tie.Need-returns-6
 returns-6 c =
     let args = c .before .before .before .before .before .before .before .before .before .before .args in
+    let variables-right = c .before .before .before .before .variables-right in
+    let ending-form = c .before .before .before .before .before .before .before .ending-form in
+    let if1 = c .before .before .before .before .before .before .if1 in
+    let variables = c .before .before .before .before .before .variables in
+    let if2 = c .before .before .before .if2 in
     let ending-kind = c .before .before .ending-kind in
-    absurd (some-kind (endingAt (args .e .now)) (sym (ending-kind .ensures) ∙ c .enum-told4 .given .1))
+    let f = binds (branchesIn (args .count) (args .p .now)) in let q = endingAt (args .e .now) in let v = variables-right in
+    rw (← ending-form .ensures, not-false (ending-form .result) (if1 .left))
+    (sym (right-registers f (v .result) q (rw (variables .ensures) at (v .ensures)) (not-false _ (if2 .left))
+    (sym (ending-kind .ensures) ∙ c .enum-told4 .given .1)))
+
+returns-7 : tie.Need-returns-7
+returns-7 c =
+    let args = c .before .before .before .before .before .before .before .before .before .before .args in
+    let ending-kind = c .before .before .ending-kind in
+    absurd (some-kind (endingAt (args .e .now)) (sym (ending-kind .ensures) ∙ c .enum-told5 .given .1))
 
 pub ending-right-spec : {M : Type 1} → statement M
 ending-right-spec =
@@ -143,7 +160,9 @@ ending-right-spec =
     measured-requires
     some-binds-requires
     enum-told-4
+    enum-told-5
     returns-3
     returns-4
     returns-5
-    returns-6)
+    returns-6
+    returns-7)

@@ -22,6 +22,9 @@ enum-told-3 c = search needs
 enum-told-4 : tie.Need-enum-told-4
 enum-told-4 c = search needs
 
+enum-told-5 : tie.Need-enum-told-5
+enum-told-5 c = search needs
+
 returns : tie.Need-returns
 returns c =
     let k = c .before .before in
@@ -46,6 +49,12 @@ returns-4 c =
     let p = k .before .ending-part in
     rows-by-kind (p .result .now) _ (p .ensures .1) _ _ (k .ending-kind .ensures) (c .enum-told4 .given .1)
 
+returns-5 : tie.Need-returns-5
+returns-5 c =
+    let k = c .before .before in
+    let p = k .before .ending-part in
+    rows-by-kind (p .result .now) _ (p .ensures .1) _ _ (k .ending-kind .ensures) (c .enum-told5 .given .1)
+
 pub is-rows-spec : {M : Type 1} → statement M
 is-rows-spec =
     tie.close
@@ -56,7 +65,9 @@ is-rows-spec =
     enum-told-2
     enum-told-3
     enum-told-4
+    enum-told-5
     returns
     returns-2
     returns-3
-    returns-4)
+    returns-4
+    returns-5)

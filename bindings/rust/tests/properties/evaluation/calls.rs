@@ -169,7 +169,7 @@ impl<'a> Space<'a> {
     fn has_space(&self, row: &'a [u32]) -> bool {
         match self.plan.ending {
             Ending::Rows(_) => self.rows < self.capacity,
-            Ending::Top(..) => true,
+            Ending::Top(..) | Ending::Registers(_) => true,
             Ending::Group(..) => self.groups.contains(self.keys(row)) || self.groups.len() < self.capacity,
         }
     }
@@ -227,10 +227,7 @@ pub fn turn(query: &Query, call: &Turn) -> (Result<Answer, u32>, Vec<u32>, Vec<u
         Err(number) => return (Err(number), call.state.clone(), call.output.clone()),
     };
     let (way, end, how) = walked(query, start, call);
-    let rows: Vec<&[u32]> = way
-        .iter()
-        .filter_map(|&at| query.run.delivered[at].as_deref())
-        .collect();
+    let rows: Vec<&[u32]> = way.iter().filter_map(|&at| query.run.delivered[at].as_deref()).collect();
     let (list, saved) = match how {
         How::Done => (lists::last_list(&query.plan, &rows, &call.threshold), Vec::new()),
         _ => (

@@ -1,8 +1,9 @@
-//! Best-of lists and groups: of delivered rows, and merged.
+//! Best-of lists, groups and registers: of delivered rows, and merged.
 
 use std::collections::BTreeMap;
 
 use super::plan::{Branch, Ending, Plan};
+use super::registers;
 use super::run::Bound;
 use super::words::*;
 
@@ -20,7 +21,9 @@ fn key_word(rows: &[u32], key: u32, row: &[u32]) -> u32 {
 
 /// What a key list compares: each key's rank.
 fn sort_key(rows: &[u32], keys: &[(bool, u32)], row: &[u32]) -> Vec<(i64, i64)> {
-    keys.iter().map(|&(falls, key)| rank_by(falls, key_word(rows, key, row))).collect()
+    keys.iter()
+        .map(|&(falls, key)| rank_by(falls, key_word(rows, key, row)))
+        .collect()
 }
 
 /// Whether a threshold leaves out whatever a match of some patterns of a branch may become: its known keys, from the first on, put it after the
@@ -166,6 +169,7 @@ pub fn list(plan: &Plan, delivered: &[&[u32]], threshold: &[u32]) -> Vec<u32> {
             }
             record_words(&groups)
         }
+        Ending::Registers(_) => registers::registers(delivered.iter().map(|row| row[0])),
     }
 }
 
@@ -200,6 +204,7 @@ fn read_best<'a>(plan: &Plan, rows: &[u32], keys: &[(bool, u32)], list: &'a [u32
 pub fn merged(plan: &Plan, kept: &[u32], list: &[u32]) -> Result<Vec<u32>, u32> {
     match &plan.ending {
         Ending::Rows(_) => Err(12),
+        Ending::Registers(_) => registers::merged(kept, list),
         Ending::Top(_, rows, keys) => {
             let kept = read_best(plan, rows, keys, kept).ok_or(12u32)?;
             let made = read_best(plan, rows, keys, list).ok_or(12u32)?;

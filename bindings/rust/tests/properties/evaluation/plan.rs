@@ -25,6 +25,7 @@ pub enum Ending {
     Rows(Vec<u32>),
     Top(u32, Vec<u32>, Vec<(bool, u32)>),
     Group(Vec<u32>, u32),
+    Registers(u32),
 }
 
 #[derive(Clone, Debug, PartialEq)]
@@ -119,6 +120,10 @@ impl Rest<'_> {
                 let many = self.counted(GROUP, 0, 4)?;
                 Some(Ending::Group(self.variables(many)?, self.variable()?))
             }
+            IN_REGISTERS => {
+                self.counted(IN_REGISTERS, 0, 0)?;
+                Some(Ending::Registers(self.variable()?))
+            }
             _ => None,
         }
     }
@@ -193,6 +198,7 @@ impl Plan {
             Ending::Rows(rows) => listed(rows),
             Ending::Top(_, rows, keys) => listed(rows) && keys.iter().all(|(_, key)| rows.contains(key)),
             Ending::Group(by, measured) => listed(by) && bound.contains(measured),
+            Ending::Registers(counted) => bound.contains(counted),
         };
         // What is not bound is refused as it is, so only bound variables are left to be above ?15.
         conditions && ending && bound.iter().all(|&v| v <= 15)
@@ -203,19 +209,21 @@ impl Plan {
         self.year.is_none_or(|year| year <= MOST_YEAR)
     }
 
-    /// The variables whose values a delivery has: the columns, or the group variables and the measured one.
+    /// The variables whose values a delivery has: the columns, the group variables and the measured one, or the one that registers count.
     pub fn columns(&self) -> Vec<u32> {
         match &self.ending {
             Ending::Rows(rows) | Ending::Top(_, rows, _) => rows.clone(),
             Ending::Group(by, measured) => by.iter().chain([measured]).copied().collect(),
+            Ending::Registers(counted) => vec![*counted],
         }
     }
 
-    /// The words of a row, or of a group's record.
+    /// The words of a row, of a group's record, or of all registers.
     pub fn width(&self) -> usize {
         match &self.ending {
             Ending::Rows(rows) | Ending::Top(_, rows, _) => rows.len(),
             Ending::Group(by, _) => by.len() + 8,
+            Ending::Registers(_) => 16,
         }
     }
 
@@ -244,6 +252,7 @@ impl Plan {
             Ending::Rows(_) => words.push(marked(ROWS, self.columns().len() as u32)),
             Ending::Top(k, rows, _) => words.extend([marked(TOP, *k), marked(ROWS, rows.len() as u32)]),
             Ending::Group(by, _) => words.push(marked(GROUP, by.len() as u32)),
+            Ending::Registers(_) => words.push(marked(IN_REGISTERS, 0)),
         }
         words.extend(self.columns().into_iter().map(variable));
         if let Ending::Top(_, _, keys) = &self.ending {

@@ -24,6 +24,7 @@ pub const TOP: u32 = 9;
 pub const RISING: u32 = 10;
 pub const FALLING: u32 = 11;
 pub const GROUP: u32 = 12;
+pub const IN_REGISTERS: u32 = 13;
 pub const SURVEY: u32 = 13;
 pub const STATE: u32 = 14;
 pub const PLACE: u32 = 15;

@@ -6,6 +6,7 @@ use super::woods::some_number;
 use crate::evaluation::calls::{Merge, Open, Query, Turn};
 use crate::evaluation::lists;
 use crate::evaluation::plan::Ending;
+use crate::evaluation::registers::{Report, MOST_RANK, REGISTERS};
 use crate::evaluation::words::*;
 
 pub fn open(random: &mut Random, query: &Query) -> Open {
@@ -103,6 +104,25 @@ fn totals(random: &mut Random, keys: &[u32]) -> Vec<u32> {
     [halves(rows), halves(numbers), halves(sum), [least, greatest]].concat()
 }
 
+/// Registers of any values that they may have.
+fn registers(random: &mut Random) -> Vec<u32> {
+    let most = random.pick(&[1, 4, MOST_RANK]);
+    (0..REGISTERS).map(|_| random.small(most + 1)).collect()
+}
+
+/// A report on registers, or on a list before anything is merged.
+pub fn report(random: &mut Random) -> Report {
+    let mut kept = if random.chance(20) { Vec::new() } else { registers(random) };
+    let given = kept.len();
+    let (behind, spare) = (random.pick(&[0, 0, 1, 16]), random.pick(&[0, 0, 1, 9]));
+    kept.extend(random.words(behind));
+    Report {
+        kept,
+        given,
+        report: random.words(62 + spare),
+    }
+}
+
 /// A list in order, of rows or records from a few that no run need have made.
 fn list(random: &mut Random, query: &Query, pool: &[Vec<u32>]) -> Vec<u32> {
     match &query.plan.ending {
@@ -113,6 +133,7 @@ fn list(random: &mut Random, query: &Query, pool: &[Vec<u32>]) -> Vec<u32> {
             let record = |keys: Vec<u32>| [&keys[..], &totals(random, &keys)].concat();
             keys.into_iter().flat_map(record).collect()
         }
+        Ending::Registers(_) if random.chance(30) => registers(random),
         _ => {
             let many = random.below(2 * pool.len() + 1);
             let rows: Vec<_> = (0..many).map(|_| random.pick(pool)).collect();
@@ -126,12 +147,16 @@ fn list(random: &mut Random, query: &Query, pool: &[Vec<u32>]) -> Vec<u32> {
 pub fn merge(random: &mut Random, query: &Query) -> Merge {
     let columns = match &query.plan.ending {
         Ending::Group(by, _) => by.len(),
+        Ending::Registers(_) => 1,
         _ => query.plan.width(),
     };
     let pool: Vec<_> = (0..random.pick(&[1, 3, 3, 6, 40]))
         .map(|_| row(random, query, columns))
         .collect();
     let (mut kept, list) = (list(random, query, &pool), list(random, query, &pool));
+    if matches!(query.plan.ending, Ending::Registers(_)) && random.chance(25) {
+        kept.clear(); // nothing is merged yet
+    }
     let given = kept.len();
     let spare = random.pick(&[0, 1, list.len(), list.len(), list.len() + 3]);
     kept.extend(random.words(spare));

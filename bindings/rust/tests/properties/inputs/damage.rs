@@ -6,6 +6,7 @@ use super::woods::{no_survey, survey};
 use crate::evaluation::calls::{Merge, Open, Query, Turn};
 use crate::evaluation::lists;
 use crate::evaluation::plan::{Branch, Condition, Ending, Plan};
+use crate::evaluation::registers::{Report, MOST_RANK};
 use crate::evaluation::tables::Tables;
 use crate::evaluation::words::*;
 
@@ -129,6 +130,7 @@ pub fn grown(random: &mut Random, query: &Query) -> Plan {
         }
         7 => match &mut plan.ending {
             Ending::Rows(columns) | Ending::Top(_, columns, _) | Ending::Group(columns, _) => columns.clear(),
+            Ending::Registers(counted) => *counted = random.pick(&[*counted, 15, 16]),
         },
         _ => {
             if let Ending::Top(k, rows, keys) = &mut plan.ending {
@@ -298,6 +300,8 @@ pub fn merge(random: &mut Random, query: &Query, call: &mut Merge) {
         number(-1),
         number(-MOST_NUMBER - 1),
         name(3),
+        MOST_RANK,
+        MOST_RANK + 1,
     ]);
     let given = call.given.min(call.kept.len());
     let (groups, width) = (matches!(query.plan.ending, Ending::Group(..)), query.plan.width());
@@ -317,5 +321,20 @@ pub fn merge(random: &mut Random, query: &Query, call: &mut Merge) {
             call.kept[at] = word;
         }
         _ => nudge(random, &mut call.list, word),
+    }
+}
+
+pub fn report(random: &mut Random, call: &mut Report) {
+    match random.small(5) {
+        0 => call.report.truncate(random.pick(&[0, 1, 61, 61])),
+        1 => call.given = random.pick(&[0, 1, 15, 16, 17, call.kept.len() + 1, usize::MAX]),
+        2 if !call.kept.is_empty() => {
+            let at = random.below(call.kept.len());
+            call.kept[at] = random.pick(&[MOST_RANK, MOST_RANK + 1, u32::MAX]);
+        }
+        _ => {
+            let word = random.pick(&[0, MOST_RANK, MOST_RANK + 1]);
+            nudge(random, &mut call.kept, word);
+        }
     }
 }

@@ -77,11 +77,11 @@ fn branch(random: &mut Random, tables: &Tables, variables: &[u32]) -> Branch {
     }
 }
 
-/// An ending of one of the three kinds; the variables are those that some branch binds.
+/// An ending of one of the four kinds; the variables are those that some branch binds.
 pub fn ending(random: &mut Random, variables: &[u32]) -> Ending {
     let most = random.pick(&[1, 2, 2, 3, 16]);
     let columns = random.some(variables, 1, most);
-    match random.small(3) {
+    match random.small(4) {
         0 => Ending::Rows(columns),
         1 => {
             let k = random.pick(&[0, 1, 1, 2, 2, 3, 5, 10, 64]);
@@ -90,6 +90,7 @@ pub fn ending(random: &mut Random, variables: &[u32]) -> Ending {
                 .collect();
             Ending::Top(k, columns, keys)
         }
+        2 => Ending::Registers(random.pick(variables)),
         _ => {
             let most = random.pick(&[0, 1, 1, 2, 4]);
             Ending::Group(random.some(variables, 0, most), random.pick(variables))

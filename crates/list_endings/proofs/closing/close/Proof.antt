@@ -3,7 +3,7 @@ use borrow.Author.Needs.{needs}
 use mathlib.Core.Path.{sym, _∙_}
 use Rattle.plans.specs.Endings.{endingAt}
 use Rattle.plans.proofs.EndingRead.{some-kind}
-use Rattle.list_endings.proofs.ByClosing.{close-rows, close-top, group-room, close-group}
+use Rattle.list_endings.proofs.ByClosing.{close-rows, close-top, close-registers, group-room, close-group}
 use Rattle.list_endings.proofs.closing.close.Statement.{statement}
 use Rattle.list_endings.proofs.closing.close.Tie as tie
 
@@ -32,6 +32,9 @@ close-groups-requires c κs =
 
 enum-told-4 : tie.Need-enum-told-4
 enum-told-4 c = search needs
+
+enum-told-5 : tie.Need-enum-told-5
+enum-told-5 c = search needs
 
 returns : tie.Need-returns
 returns c =
@@ -62,7 +65,14 @@ returns-4 : tie.Need-returns-4
 returns-4 c =
     let k = c .before .before in
     let s = k .before .before .before .before in
-    absurd (some-kind (endingAt (s .args .ending .now)) (sym (k .ending-kind .ensures) ∙ c .enum-told4 .given .1))
+    close-registers (endingAt (s .args .ending .now)) (s .args .out .now) (s .args .used) (s .pre .1 .1)
+    (sym (k .ending-kind .ensures) ∙ c .enum-told4 .given .1)
+
+returns-5 : tie.Need-returns-5
+returns-5 c =
+    let k = c .before .before in
+    let s = k .before .before .before .before in
+    absurd (some-kind (endingAt (s .args .ending .now)) (sym (k .ending-kind .ensures) ∙ c .enum-told5 .given .1))
 
 pub close-spec : {M : Type 1} → statement M
 close-spec =
@@ -75,8 +85,10 @@ close-spec =
     enum-told-3
     close-groups-requires
     enum-told-4
+    enum-told-5
     returns
     returns-2
     same-length
     returns-3
-    returns-4)
+    returns-4
+    returns-5)

@@ -4,7 +4,7 @@ use native.Mathlib.Omega.{arith}
 use mathlib.Core.Path.{sym, _∙_}
 use Rattle.plans.specs.Endings.{endingAt}
 use Rattle.plans.proofs.EndingRead.{some-kind}
-use Rattle.list_endings.proofs.Least.{least-rows, least-top, least-group, top-fits}
+use Rattle.list_endings.proofs.Least.{least-rows, least-top, least-group, least-registers, top-fits}
 use Rattle.list_endings.proofs.sizes.least_output.Statement.{statement}
 use Rattle.list_endings.proofs.sizes.least_output.Tie as tie
 
@@ -43,6 +43,9 @@ add-result c = search needs
 enum-told-4 : tie.Need-enum-told-4
 enum-told-4 c = search needs
 
+enum-told-5 : tie.Need-enum-told-5
+enum-told-5 c = search needs
+
 returns : tie.Need-returns
 returns c =
     let k = c .before .before in
@@ -71,7 +74,13 @@ returns-4 : tie.Need-returns-4
 returns-4 c =
     let k = c .before .before in
     let s = k .before .before .before in
-    absurd (some-kind (endingAt (s .args .ending .now)) (sym (k .ending-kind .ensures) ∙ c .enum-told4 .given .1))
+    least-registers (endingAt (s .args .ending .now)) (sym (k .ending-kind .ensures) ∙ c .enum-told4 .given .1)
+
+returns-5 : tie.Need-returns-5
+returns-5 c =
+    let k = c .before .before in
+    let s = k .before .before .before in
+    absurd (some-kind (endingAt (s .args .ending .now)) (sym (k .ending-kind .ensures) ∙ c .enum-told5 .given .1))
 
 pub least-output-spec : {M : Type 1} → statement M
 least-output-spec =
@@ -86,7 +95,9 @@ least-output-spec =
     enum-told-3
     add-result
     enum-told-4
+    enum-told-5
     returns
     returns-2
     returns-3
-    returns-4)
+    returns-4
+    returns-5)

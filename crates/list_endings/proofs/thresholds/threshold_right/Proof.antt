@@ -3,7 +3,7 @@ use borrow.Author.Needs.{needs}
 use mathlib.Core.Path.{sym, _∙_}
 use Rattle.plans.specs.Endings.{endingAt}
 use Rattle.plans.proofs.EndingRead.{some-kind}
-use Rattle.list_endings.proofs.ByKind.{threshold-rows, threshold-top, threshold-group}
+use Rattle.list_endings.proofs.ByKind.{threshold-rows, threshold-top, threshold-group, threshold-registers}
 use Rattle.list_endings.proofs.thresholds.threshold_right.Statement.{statement}
 use Rattle.list_endings.proofs.thresholds.threshold_right.Tie as tie
 
@@ -34,6 +34,12 @@ no-threshold-requires-2 c κs = search needs
 enum-told-4 : tie.Need-enum-told-4
 enum-told-4 c = search needs
 
+no-threshold-requires-3 : tie.Need-no-threshold-requires-3
+no-threshold-requires-3 c κs = search needs
+
+enum-told-5 : tie.Need-enum-told-5
+enum-told-5 c = search needs
+
 returns : tie.Need-returns
 returns c =
     let k = c .before .before .before .before in
@@ -54,13 +60,20 @@ returns-3 c =
     let k = c .before .before .before in
     let s = k .before .before .before in
     threshold-group (endingAt (s .args .ending .now)) (s .args .threshold .now) (c .no-threshold2 .result)
-    (sym (k .ending-kind .ensures) ∙ c .before .enum-told3 .given .1) (c .no-threshold2 .ensures .1)
+    (sym (k .ending-kind .ensures) ∙ c .before .enum-told3 .given .1) (c .no-threshold2 .ensures .1 .0)
 
 returns-4 : tie.Need-returns-4
 returns-4 c =
+    let k = c .before .before .before in
+    let s = k .before .before .before in
+    threshold-registers (endingAt (s .args .ending .now)) (s .args .threshold .now) (c .no-threshold3 .result)
+    (sym (k .ending-kind .ensures) ∙ c .before .enum-told4 .given .1) (c .no-threshold3 .ensures .1 .1)
+
+returns-5 : tie.Need-returns-5
+returns-5 c =
     let k = c .before .before in
     let s = k .before .before .before in
-    absurd (some-kind (endingAt (s .args .ending .now)) (sym (k .ending-kind .ensures) ∙ c .enum-told4 .given .1))
+    absurd (some-kind (endingAt (s .args .ending .now)) (sym (k .ending-kind .ensures) ∙ c .enum-told5 .given .1))
 
 pub threshold-right-spec : {M : Type 1} → statement M
 threshold-right-spec =
@@ -75,7 +88,10 @@ threshold-right-spec =
     enum-told-3
     no-threshold-requires-2
     enum-told-4
+    no-threshold-requires-3
+    enum-told-5
     returns
     returns-2
     returns-3
-    returns-4)
+    returns-4
+    returns-5)

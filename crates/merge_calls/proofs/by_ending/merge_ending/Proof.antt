@@ -5,7 +5,7 @@ use Rattle.plans.specs.Endings.{endingAt}
 use Rattle.plans.proofs.EndingRead.{some-kind}
 use Rattle.merge_lists.specs.Answering.{AcceptedPlan, PiecesRight}
 use Rattle.merge_calls.proofs.Tested.{rows-wrong}
-use Rattle.merge_calls.proofs.Pieces.{rows-of, top-of, group-of}
+use Rattle.merge_calls.proofs.Pieces.{rows-of, top-of, group-of, registers-of}
 use Rattle.merge_calls.proofs.by_ending.merge_ending.Statement.{statement}
 use Rattle.merge_calls.proofs.by_ending.merge_ending.Tie as tie
 
@@ -54,6 +54,12 @@ merge-groups-requires c κs =
 enum-told-4 : tie.Need-enum-told-4
 enum-told-4 c = search needs
 
+merge-registers-requires : tie.Need-merge-registers-requires
+merge-registers-requires c κs = search needs
+
+enum-told-5 : tie.Need-enum-told-5
+enum-told-5 c = search needs
+
 returns : tie.Need-returns
 returns c =
     let s = c .before .before .before .before .before .before in
@@ -80,10 +86,20 @@ returns-3 c =
     (c .before .before .before .before .before .enum-told3 .given .1) (c .before .before .before .before .variables2 .ensures) in
     λ plan a. c .before .before .merge-groups .ensures _ _ refl plan (subst (AcceptedPlan plan) is a)
 
+same-length-3 : tie.Need-same-length-3
+same-length-3 c = search needs
+
 returns-4 : tie.Need-returns-4
 returns-4 c =
+    let s = c .before .before .before .before .before .before .before .before .before .before in
+    let is = registers-of (endingAt (s .args .e .now)) (c .before .before .before .before .before .before .ending-kind .ensures)
+    (c .before .before .before .before .enum-told4 .given .1) in
+    λ plan a. c .before .before .merge-registers .ensures _ plan (subst (AcceptedPlan plan) is a)
+
+returns-5 : tie.Need-returns-5
+returns-5 c =
     absurd (some-kind (endingAt (c .before .before .before .before .before .before .args .e .now))
-    (sym (c .before .before .ending-kind .ensures) ∙ c .enum-told4 .given .1))
+    (sym (c .before .before .ending-kind .ensures) ∙ c .enum-told5 .given .1))
 
 pub merge-ending-spec : {M : Type 1} → statement M
 merge-ending-spec =
@@ -100,9 +116,13 @@ merge-ending-spec =
     variables-requires-2
     merge-groups-requires
     enum-told-4
+    merge-registers-requires
+    enum-told-5
     returns
     same-length
     returns-2
     same-length-2
     returns-3
-    returns-4)
+    same-length-3
+    returns-4
+    returns-5)

@@ -6,7 +6,7 @@ use native.Mathlib.Omega.{arith}
 use lib.ListN.{length, take, drop}
 use borrow.Author.Tests.{eq-eqb, ne-eqb}
 use Rattle.plans.specs.Endings.{lastOf}
-use Rattle.plans.proofs.EndingForms.{form-neither, form-rows, form-top, form-group, rows-room, rows-after, some-word}
+use Rattle.plans.proofs.EndingForms.{form-neither, form-rows, form-top, form-group, form-registers, rows-room, rows-after, some-word}
 use Rattle.plan_ending_forms.proofs.endings.ending_form.Statement.{statement}
 use Rattle.plan_ending_forms.proofs.endings.ending_form.Tie as tie
 
@@ -166,24 +166,51 @@ returns-3 c =
 enum-told-4 : tie.Need-enum-told-4
 enum-told-4 c = search needs
 
+sub-all-wanted-2 : tie.Need-sub-all-wanted-2
+sub-all-wanted-2 c = omega arith
+
+part-all-wanted-start-2 : tie.Need-part-all-wanted-start-2
+part-all-wanted-start-2 c = omega arith
+
+part-all-wanted-end-2 : tie.Need-part-all-wanted-end-2
+part-all-wanted-end-2 c = omega arith
+
+all-wanted-requires-2 : tie.Need-all-wanted-requires-2
+all-wanted-requires-2 c κs = search needs
+
 returns-4 : tie.Need-returns-4
 returns-4 c =
+    let p = c .before .before .before .before .before .before .before .before .args .p .now in
+    let t = c .before .before .before .before .before .last-of in
+    let first = c .before .before .before .before .before .before .first in
+    let enum-told4 = c .before .before .before .enum-told4 in
+    let if4 = c .before .before .if4 in
+    rw (
+      form-registers p (t .result) (t .ensures ∙ ap lastOf (first .ensures)) (enum-told4 .given .1),
+      eq-eqb _ _ (if4 .taken),
+    ) (c .all-wanted2 .ensures)
+
+enum-told-5 : tie.Need-enum-told-5
+enum-told-5 c = search needs
+
+returns-5 : tie.Need-returns-5
+returns-5 c =
     let p = c .before .before .before .before .before .before .before .args .p .now in
     let t = c .before .before .before .before .last-of in
     let first = c .before .before .before .before .before .first in
     let enum-told = c .before .before .enum-told in
     rw (form-rows p (t .result) (t .ensures ∙ ap lastOf (first .ensures)) (enum-told .given .1), ← c .before .rows-form .ensures, c .if1 .left)
 
-returns-5 : tie.Need-returns-5
-returns-5 c =
+returns-6 : tie.Need-returns-6
+returns-6 c =
     let p = c .before .before .before .before .before .before .before .before .args .p .now in
     let t = c .before .before .before .before .before .last-of in
     let first = c .before .before .before .before .before .before .first in
     let enum-told2 = c .before .before .before .enum-told2 in
     rw (form-top p (t .result) (t .ensures ∙ ap lastOf (first .ensures)) (enum-told2 .given .1), ← c .before .rows-form2 .ensures, c .if2 .left)
 
-returns-6 : tie.Need-returns-6
-returns-6 c =
+returns-7 : tie.Need-returns-7
+returns-7 c =
     let p = c .before .before .before .before .before .before .before .before .before .args .p .now in
     let t = c .before .before .before .before .before .before .last-of in
     let first = c .before .before .before .before .before .before .before .first in
@@ -198,12 +225,22 @@ returns-6 c =
       ne-eqb _ _ (c .if3 .left),
     )
 
-returns-7 : tie.Need-returns-7
-returns-7 c =
+returns-8 : tie.Need-returns-8
+returns-8 c =
+    let p = c .before .before .before .before .before .before .args .p .now in
+    let t = c .before .before .before .last-of in
+    let first = c .before .before .before .before .first in
+    rw (
+      form-registers p (t .result) (t .ensures ∙ ap lastOf (first .ensures)) (c .before .enum-told4 .given .1),
+      ne-eqb _ _ (c .if4 .left),
+    )
+
+returns-9 : tie.Need-returns-9
+returns-9 c =
     let t = c .before .before .last-of in
     let args = c .before .before .before .before .before .args in
     let first = c .before .before .before .first in
-    sym (form-neither (args .p .now) (t .result) (t .ensures ∙ ap lastOf (first .ensures)) (c .enum-told4 .given .1))
+    sym (form-neither (args .p .now) (t .result) (t .ensures ∙ ap lastOf (first .ensures)) (c .enum-told5 .given .1))
 
 pub ending-form-spec : {M : Type 1} → statement M
 ending-form-spec =
@@ -240,7 +277,14 @@ ending-form-spec =
     all-wanted-requires
     returns-3
     enum-told-4
+    sub-all-wanted-2
+    part-all-wanted-start-2
+    part-all-wanted-end-2
+    all-wanted-requires-2
     returns-4
+    enum-told-5
     returns-5
     returns-6
-    returns-7)
+    returns-7
+    returns-8
+    returns-9)

@@ -7,7 +7,7 @@ use Rattle.words.specs.Words.{low}
 use Rattle.plans.specs.Endings.{lastOf}
 use Rattle.plans.specs.Reading.{keysIn}
 use Rattle.plans.proofs.EndingForms.{rows-next, not-neither, some-word}
-use Rattle.plans.proofs.EndingRead.{ending-rows, ending-top, ending-group}
+use Rattle.plans.proofs.EndingRead.{ending-rows, ending-top, ending-group, ending-registers}
 use Rattle.plans.proofs.endings.keys.Statement.{statement}
 use Rattle.plans.proofs.endings.keys.Tie as tie
 
@@ -73,6 +73,12 @@ enum-told-4 c = search needs
 slice-aggregate-result-3 : tie.Need-slice-aggregate-result-3
 slice-aggregate-result-3 c = omega arith
 
+enum-told-5 : tie.Need-enum-told-5
+enum-told-5 c = search needs
+
+slice-aggregate-result-4 : tie.Need-slice-aggregate-result-4
+slice-aggregate-result-4 c = omega arith
+
 returns : tie.Need-returns
 returns c =
     let e = c .before .before .before .before .before .before .before .args .e .now in
@@ -100,8 +106,15 @@ returns-4 c =
     let e = c .before .before .before .before .before .before .args .e .now in
     let t = c .before .before .before .last-of in
     let first = c .before .before .before .before .first in
+    sym (ap keysIn (ending-registers e (t .result) (t .ensures ∙ ap lastOf (first .ensures)) (c .before .enum-told4 .given .1)))
+
+returns-5 : tie.Need-returns-5
+returns-5 c =
+    let e = c .before .before .before .before .before .before .args .e .now in
+    let t = c .before .before .before .last-of in
+    let first = c .before .before .before .before .first in
     let pre = c .before .before .before .before .before .before .pre in
-    absurd (not-neither e (t .result) (t .ensures ∙ ap lastOf (first .ensures)) pre (c .before .enum-told4 .given .1))
+    absurd (not-neither e (t .result) (t .ensures ∙ ap lastOf (first .ensures)) pre (c .before .enum-told5 .given .1))
 
 pub keys-spec : {M : Type 1} → statement M
 keys-spec =
@@ -120,7 +133,10 @@ keys-spec =
     slice-aggregate-result-2
     enum-told-4
     slice-aggregate-result-3
+    enum-told-5
+    slice-aggregate-result-4
     returns
     returns-2
     returns-3
-    returns-4)
+    returns-4
+    returns-5)

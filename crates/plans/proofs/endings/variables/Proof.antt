@@ -5,8 +5,8 @@ use native.Mathlib.Omega.{arith}
 use Rattle.words.specs.Words.{low}
 use Rattle.plans.specs.Endings.{lastOf}
 use Rattle.plans.specs.Reading.{variablesIn}
-use Rattle.plans.proofs.EndingForms.{rows-here, rows-next, group-room, not-neither, some-word}
-use Rattle.plans.proofs.EndingRead.{ending-rows, ending-top, ending-group}
+use Rattle.plans.proofs.EndingForms.{rows-here, rows-next, group-room, registers-room, not-neither, some-word}
+use Rattle.plans.proofs.EndingRead.{ending-rows, ending-top, ending-group, ending-registers, counted-lent}
 use Rattle.plans.proofs.endings.variables.Statement.{statement}
 use Rattle.plans.proofs.endings.variables.Tie as tie
 
@@ -104,6 +104,28 @@ part-result-end c =
 enum-told-4 : tie.Need-enum-told-4
 enum-told-4 c = search needs
 
+sub-result-2 : tie.Need-sub-result-2
+sub-result-2 c =
+    let e = c .before .before .before .before .before .args .e .now in
+    let t = c .before .before .last-of in
+    let first = c .before .before .before .first in
+    let pre = c .before .before .before .before .before .pre in
+    omega (arith, registers-room e (t .result) (t .ensures ∙ ap lastOf (first .ensures)) pre (c .enum-told4 .given .1))
+
+part-result-start-2 : tie.Need-part-result-start-2
+part-result-start-2 c =
+    let e = c .before .before .before .before .before .args .e .now in
+    let t = c .before .before .last-of in
+    let first = c .before .before .before .first in
+    let pre = c .before .before .before .before .before .pre in
+    omega (arith, registers-room e (t .result) (t .ensures ∙ ap lastOf (first .ensures)) pre (c .enum-told4 .given .1))
+
+part-result-end-2 : tie.Need-part-result-end-2
+part-result-end-2 c = omega arith
+
+enum-told-5 : tie.Need-enum-told-5
+enum-told-5 c = search needs
+
 returns : tie.Need-returns
 returns c =
     let e = c .before .before .before .before .before .before .args .e .now in
@@ -133,11 +155,21 @@ returns-3 c =
 
 returns-4 : tie.Need-returns-4
 returns-4 c =
+    let e = c .before .before .before .before .before .before .args .e .now in
+    let t = c .before .before .before .last-of in
+    let first = c .before .before .before .before .first in
+    let pre = c .before .before .before .before .before .before .pre in
+    let et = t .ensures ∙ ap lastOf (first .ensures) in
+    let told = c .before .enum-told4 .given .1 in
+    counted-lent e (registers-room e (t .result) et pre told) ∙ sym (ap variablesIn (ending-registers e (t .result) et told))
+
+returns-5 : tie.Need-returns-5
+returns-5 c =
     let e = c .before .before .before .before .before .args .e .now in
     let t = c .before .before .last-of in
     let first = c .before .before .before .first in
     let pre = c .before .before .before .before .before .pre in
-    absurd (not-neither e (t .result) (t .ensures ∙ ap lastOf (first .ensures)) pre (c .enum-told4 .given .1))
+    absurd (not-neither e (t .result) (t .ensures ∙ ap lastOf (first .ensures)) pre (c .enum-told5 .given .1))
 
 pub variables-spec : {M : Type 1} → statement M
 variables-spec =
@@ -161,7 +193,12 @@ variables-spec =
     part-result-start
     part-result-end
     enum-told-4
+    sub-result-2
+    part-result-start-2
+    part-result-end-2
+    enum-told-5
     returns
     returns-2
     returns-3
-    returns-4)
+    returns-4
+    returns-5)

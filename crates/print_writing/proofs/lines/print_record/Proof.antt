@@ -34,6 +34,14 @@ print-group-requires c κs =
 enum-told-4 : tie.Need-enum-told-4
 enum-told-4 c = search needs
 
+print-registers-requires : tie.Need-print-registers-requires
+print-registers-requires c κs =
+    let s = c .before .before .before in
+    subst (λ (k : Last). HasWidth k (length (s .args .words .now))) (c .enum-told4 .given .1) (s .pre)
+
+enum-told-5 : tie.Need-enum-told-5
+enum-told-5 c = search needs
+
 returns : tie.Need-returns
 returns c = search needs
 
@@ -46,6 +54,9 @@ returns-3 c = search needs
 returns-4 : tie.Need-returns-4
 returns-4 c = search needs
 
+returns-5 : tie.Need-returns-5
+returns-5 c = search needs
+
 pub print-record-spec : {M : Type 1} → statement M
 print-record-spec =
     tie.close
@@ -57,7 +68,10 @@ print-record-spec =
     enum-told-3
     print-group-requires
     enum-told-4
+    print-registers-requires
+    enum-told-5
     returns
     returns-2
     returns-3
-    returns-4)
+    returns-4
+    returns-5)

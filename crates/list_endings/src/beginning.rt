@@ -1,0 +1,26 @@
+// The list of no rows, by the ending of a plan.
+use plans::Last;
+ghost use mathlib.Core.Path.{_≡_};
+ghost use mathlib.Core.Bool.{true};
+ghost use mathlib.Core.List.{List, []};
+ghost use Prim.Native.Nat.{ℕ, _≤_};
+ghost use lib.ListN.{length};
+ghost use Rattle.plans.specs.Endings.{endingForm, endingAt};
+ghost use Rattle.lists.specs.Gathering.{gathered, leastOutput};
+ghost use Rattle.lists.specs.Putting.{Listed};
+
+// Writes the list of no rows, and answers its words: all registers, each 0, and no word for any other ending.
+pub fn begin(ending: &[u32], out: &mut [u32]) -> usize
+    requires { ⌜ endingForm (now ending) ≡ true ⌝ }
+    requires { ⌜ leastOutput (endingAt (now ending)) ≤ length (now out) ⌝ }
+    ensures { λ r. ⌜ ((threshold : List ℕ)
+        → Listed (gathered (endingAt (now (ending .entry))) threshold []) (now (out .entry)) (now (out .exit)) r) ⌝ }
+{
+    match plans::ending_kind(ending) {
+        Last::Rows => 0,
+        Last::Top => 0,
+        Last::Group => 0,
+        Last::Registers => list_registers::no_values(out),
+        Last::Neither => 0,
+    }
+}

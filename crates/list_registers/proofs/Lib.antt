@@ -1,0 +1,4 @@
+pub mod Raising
+pub mod Merged
+pub mod Tested
+pub mod Counting

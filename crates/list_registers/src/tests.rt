@@ -1,0 +1,41 @@
+// Test 12 of a list of registers.
+use crate::REGISTERS;
+ghost use mathlib.Core.Path.{_≡_};
+ghost use Rattle.words.specs.Sequences.{all};
+ghost use Rattle.registers.specs.Registers.{inRange, areRegisters, keptRegisters};
+
+const MOST_RANK: u32 = 61;
+
+// Whether no register is above 61.
+fn in_range(list: &[u32]) -> bool
+    ensures { λ r. ⌜ r ≡ all inRange (now (list .entry)) ⌝ }
+{
+    let mut i: usize = 0;
+    while i < list.len() {
+        if MOST_RANK < list[i] {
+            return false;
+        }
+        i += 1;
+    }
+    true
+}
+
+// Whether a turn's list has all 16, and none too great.
+pub fn are_registers(list: &[u32]) -> bool
+    ensures { λ r. ⌜ r ≡ areRegisters (now (list .entry)) ⌝ }
+{
+    if list.len() == REGISTERS {
+        return in_range(list);
+    }
+    false
+}
+
+// Whether a kept list is empty or has all 16.
+pub fn kept_registers(list: &[u32]) -> bool
+    ensures { λ r. ⌜ r ≡ keptRegisters (now (list .entry)) ⌝ }
+{
+    if list.len() == 0 {
+        return true;
+    }
+    are_registers(list)
+}

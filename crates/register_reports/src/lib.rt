@@ -1,0 +1,38 @@
+// A report on a kept list of registers, which is the first words of its buffer, as many as the call gives.
+mod counts;
+
+use counts::write_counts;
+use list_registers::kept_registers;
+use words::Written;
+ghost use mathlib.Core.Path.{_≡_};
+ghost use Rattle.registers.specs.Reporting.{reportInput, reportOf};
+ghost use Rattle.registers.specs.Refusals.{ReportAnswers};
+
+// The tests of a report, by their numbers.
+pub const ROOM: u32 = 7;
+
+pub const LISTS: u32 = 12;
+
+// A count for each value that a register may have.
+pub const REPORT_WORDS: usize = 62;
+
+// Writes how many registers have each value from 0 to 61. It is refused by the number of the first test that fails, and then nothing is
+// written.
+pub fn report(kept: &[u32], given: usize, report: &mut [u32]) -> Written
+    ensures { λ r. ⌜ record { answer = r; report = now (report .exit) }
+        ≡ reportOf (reportInput (now (kept .entry)) given (now (report .entry))) ⌝ }
+    ensures number { λ r. ⌜ ReportAnswers (reportInput (now (kept .entry)) given (now (report .entry))) r ⌝ }
+{
+    if report.len() < REPORT_WORDS {
+        return Written::Refused(ROOM);
+    }
+    if kept.len() < given {
+        return Written::Refused(LISTS);
+    }
+    let list = &kept[..given];
+    if !kept_registers(list) {
+        return Written::Refused(LISTS);
+    }
+    write_counts(list, report);
+    Written::Words(REPORT_WORDS)
+}

@@ -1,0 +1,6 @@
+pub mod Merging
+pub mod Bounds
+pub mod Sets
+pub mod Reports
+pub mod Refusals
+pub mod Writes

@@ -1,0 +1,4 @@
+pub mod Registers
+pub mod Reporting
+pub mod Refusals
+pub mod Computing
