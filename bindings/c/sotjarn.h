@@ -30,7 +30,7 @@ extern "C" {
 #endif
 
 /* The version of this header, which is that of the libraries made beside it. */
-#define SOTJARN_VERSION "0.15.0"
+#define SOTJARN_VERSION "0.16.0"
 
 /* How a turn ended. */
 enum {
@@ -187,7 +187,8 @@ struct sotjarn_turned sotjarn_turn(const uint32_t *rows, size_t rows_len,
 
 /* Merges a turn's whole list into the kept one, which is the first `kept_words` words of `kept`; none at first. The merged list is
  * written over the front of `kept`. For best-of queries, groups and registers; the lists of a row query are joined end to end instead.
- * Refused by 5, 6, 23 and 12 to 14. */
+ * Each turn's list is merged once: groups and registers in any order, best-of lists in the order of turns, or in any where no two rows are
+ * equal in all keys. A merged list may be lent as `list` too. Refused by 5, 6, 23 and 12 to 14. */
 struct sotjarn_written sotjarn_merge(const uint32_t *plan, size_t plan_len,
                                      uint32_t *kept, size_t kept_len, size_t kept_words,
                                      const uint32_t *list, size_t list_len);

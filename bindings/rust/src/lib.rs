@@ -18,6 +18,7 @@
 //! | tables and their number | [`Survey`]: [`TableWords::survey`], [`Tables::survey`] |
 //! | a query to write | [`Plan::builder`] |
 //! | a query to run | [`Query`] and its [`turns`](Query::turns), [`Kept`] |
+//! | turns' lists that come out of order | [`Late`] |
 //! | queries of several owners | [`Queue`], [`Entry`] |
 //! | words that were stored | [`Plan::from_words`], [`Query::load`], [`Kept::from_words`] |
 //! | words to read | [`State::read`], [`Plan::read`], [`read_rows`], [`read_groups`], [`read_registers`], [`read_report`] |
@@ -65,6 +66,7 @@ mod calls;
 #[cfg(feature = "proved")]
 #[path = "proved.rs"]
 mod engine;
+mod late;
 mod lists;
 mod plans;
 mod queries;
@@ -86,6 +88,7 @@ pub use calls::{
     STATE_WORDS, SURVEYS, VIEW_STACK,
 };
 pub use engine::Entry;
+pub use late::Late;
 pub use lists::{read_groups, read_rows, Group, Kept, List, Row, Unreadable};
 pub use plans::{Branch, Comparison, Condition, Key, Plan, PlanBuilder, PlanEnding};
 pub use queries::{Query, Turn, Turns};

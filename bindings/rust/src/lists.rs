@@ -140,7 +140,8 @@ impl Plan {
     }
 }
 
-/// The list that a client keeps of a query, from none at first: each turn's list is taken once, in order.
+/// The list that a client keeps of a query, from none at first: each turn's list is taken once, in order. Lists that come in another order are for
+/// [`Late`](crate::Late).
 ///
 /// ```
 /// use sotjarn::{Branch, Kept, Plan, Term, Value, Variable};
@@ -206,6 +207,10 @@ impl<'p> Kept<'p> {
     /// The words kept.
     pub fn words(&self) -> &[u32] {
         &self.words
+    }
+
+    pub(crate) fn into_words(self) -> Vec<u32> {
+        self.words
     }
 
     /// What they hold.

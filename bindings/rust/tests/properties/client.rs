@@ -42,7 +42,7 @@ fn built_condition(condition: &plan::Condition) -> Condition {
 }
 
 /// The plan as the crate's builder makes it.
-fn built(plan: &plan::Plan) -> Plan {
+pub fn built(plan: &plan::Plan) -> Plan {
     let mut builder = match plan.year {
         Some(0) => Plan::builder().every_year(),
         Some(year) => Plan::builder().year(year),
@@ -113,7 +113,7 @@ fn compare_list(query: &Query, plan: &Plan, words: &[u32]) {
     }
 }
 
-fn survey(query: &Query) -> Survey<'_> {
+pub fn survey(query: &Query) -> Survey<'_> {
     Tables {
         rows: &query.tables.rows,
         pos: &query.tables.pos,

@@ -9,6 +9,7 @@ mod evaluation;
 mod growing;
 mod guarded;
 mod inputs;
+mod late;
 mod long;
 mod queues;
 mod registers;

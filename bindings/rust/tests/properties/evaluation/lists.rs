@@ -47,6 +47,23 @@ pub fn left_out(plan: &Plan, branch: &Branch, bound: &Bound, threshold: &[u32]) 
     true
 }
 
+/// Whether no two of these rows are equal in all keys of a best-of plan.
+pub fn are_apart(plan: &Plan, rows: &[&[u32]]) -> bool {
+    let mut keys: Vec<_> = rows.iter().map(|row| plan.keys_of(row)).collect();
+    keys.sort();
+    keys.windows(2).all(|pair| pair[0] != pair[1])
+}
+
+impl Plan {
+    /// What the keys of a best-of plan compare of a row.
+    pub fn keys_of(&self, row: &[u32]) -> Vec<(i64, i64)> {
+        match &self.ending {
+            Ending::Top(_, rows, keys) => sort_key(rows, keys, row),
+            _ => Vec::new(),
+        }
+    }
+}
+
 /// A group's totals: rows, numbers, sum, and the least and greatest number.
 #[derive(Clone, Debug, Default)]
 struct Totals {

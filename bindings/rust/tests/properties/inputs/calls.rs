@@ -143,8 +143,8 @@ fn list(random: &mut Random, query: &Query, pool: &[Vec<u32>]) -> Vec<u32> {
     }
 }
 
-/// A merge of two such lists.
-pub fn merge(random: &mut Random, query: &Query) -> Merge {
+/// So many such lists.
+pub fn lists(random: &mut Random, query: &Query, many: usize) -> Vec<Vec<u32>> {
     let columns = match &query.plan.ending {
         Ending::Group(by, _) => by.len(),
         Ending::Registers(_) => 1,
@@ -153,7 +153,13 @@ pub fn merge(random: &mut Random, query: &Query) -> Merge {
     let pool: Vec<_> = (0..random.pick(&[1, 3, 3, 6, 40]))
         .map(|_| row(random, query, columns))
         .collect();
-    let (mut kept, list) = (list(random, query, &pool), list(random, query, &pool));
+    (0..many).map(|_| list(random, query, &pool)).collect()
+}
+
+/// A merge of two such lists.
+pub fn merge(random: &mut Random, query: &Query) -> Merge {
+    let mut two = lists(random, query, 2).into_iter();
+    let (mut kept, list) = (two.next().unwrap_or_default(), two.next().unwrap_or_default());
     if matches!(query.plan.ending, Ending::Registers(_)) && random.chance(25) {
         kept.clear(); // nothing is merged yet
     }

@@ -1,0 +1,16 @@
+pub mod Permuted
+pub mod Reordering
+pub mod ApartParts
+pub mod ApartSome
+pub mod AddingPermuted
+pub mod GroupsPermuted
+pub mod Served
+pub mod TopWays
+pub mod GroupWays
+pub mod RegisterWays
+pub mod AnyOrder
+pub mod InOrder
+pub mod Once
+pub mod Sending
+pub mod Needed
+pub mod Meeting

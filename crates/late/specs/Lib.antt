@@ -1,0 +1,6 @@
+pub mod Ways
+pub mod Apart
+pub mod AnyOrder
+pub mod Sending
+pub mod Needed
+pub mod Meeting

@@ -1,0 +1,2 @@
+pub mod LateTurns
+pub mod OwnWay
