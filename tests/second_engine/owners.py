@@ -98,6 +98,22 @@ class Owners:
             rows[at] = term(self.rng.choice([NUMBER, TEXT, VARIABLE]) if at % COLUMNS < COLUMNS - 1 else VARIABLE, term_value(rows[at]))
         return turn._replace(tables=turn.tables._replace(rows=tuple(rows)))
 
+    def years_damage(self, turn):
+        """A row's year outside 1 to 9,999."""
+        rows = list(turn.tables.rows)
+        if len(rows) >= COLUMNS:
+            rows[COLUMNS * self.rng.randrange(len(rows) // COLUMNS)] = term(NUMBER, self.rng.choice([0, 10000, 1 << 29]))
+        return turn._replace(tables=turn.tables._replace(rows=tuple(rows)))
+
+    def place_damage(self, turn):
+        """A place that the run may not stand at: survey, year and position come before the places."""
+        state = list(turn.state)
+        places = state[3:turn.given]
+        if places:
+            at = 3 + self.rng.randrange(len(places))
+            state[at] = (state[at] + self.rng.choice([1, 2, 1000])) % (1 << 32)
+        return turn._replace(state=tuple(state))
+
     def numbers_damage(self, turn):
         """Two row numbers exchanged, or one that is not there."""
         pos = list(turn.tables.pos)
@@ -112,7 +128,8 @@ class Owners:
     def query_damages(self, script):
         """What may be wrong with tables, number, plan and state."""
         return [script.plan_damage, script.plan_damage, lambda turn: self.variable_damage(script, turn), script.table_damage, script.table_damage,
-                self.kinds_damage, self.numbers_damage, script.state_damage, script.state_damage, script.state_damage, script.survey_damage]
+                self.kinds_damage, self.years_damage, self.numbers_damage, self.place_damage,
+                script.state_damage, script.state_damage, script.state_damage, script.survey_damage]
 
     def join_damage(self, call):
         script = next((script for script in self.scripts if script.words == call.plan), None)
@@ -127,7 +144,7 @@ class Owners:
         script = self.script_of(front) if front else None
         if script is None or self.rng.random() < .35:
             return self.rng.choice([self.lists_damage, self.lists_damage, self.call_damage])(call)
-        damages = self.query_damages(script) + [script.turn_damage] * 4 + [script.state_damage] * 3
+        damages = self.query_damages(script) + [script.turn_damage] * 5 + [script.state_damage] * 3
         turn = Turn(call.tables, call.survey, script.words, front.state, front.state_words, call.quantum, call.threshold, call.output)
         turn = self.rng.choice(damages)(turn)
         words = turn.words if self.rng.random() < .95 else turn.words + (0,) * 250

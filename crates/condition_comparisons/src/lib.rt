@@ -1,8 +1,8 @@
 // Comparisons of two terms.
+use condition_truths::negation;
+use condition_truths::of_test;
 use conditions::Evaluated;
 use conditions::Truth;
-use conditions::negation;
-use conditions::of_test;
 use words::PlanWord;
 use words::Term;
 use words::value_of;

@@ -1,8 +1,8 @@
 // Where the right operands of pairs stand: found once for a whole plan, so that no row takes a walk over words.
+use plan_nodes::condition;
 use plans::MOST_DEPTH;
 use plans::Node;
 use plans::Tree;
-use plans::condition;
 ghost use mathlib.Core.Path.{_≡_};
 ghost use Prim.Native.Nat.{_≤_};
 ghost use lib.ListN.{length, take};

@@ -3,10 +3,10 @@ mod lefts;
 mod values;
 
 use condition_comparisons::compared;
+use condition_truths::is_false;
+use condition_truths::is_true;
 use conditions::Evaluated;
 use conditions::Truth;
-use conditions::is_false;
-use conditions::is_true;
 pub use lefts::find_lefts;
 use plans::Node;
 use values::is_short;

@@ -1,7 +1,7 @@
 // Values put together: what is known of a condition from its operands, and which right operand is read first.
+use condition_truths::join;
+use condition_truths::negation;
 use conditions::Evaluated;
-use conditions::join;
-use conditions::negation;
 use words::PlanWord;
 ghost use mathlib.Core.Path.{_≡_};
 ghost use Rattle.conditions.specs.Evaluated.{negatedRead, pairRead};

@@ -1,11 +1,4 @@
-// Truths: the three values of a condition, and the tables of and, or and not in code.
-mod truths;
-
-pub use truths::is_false;
-pub use truths::is_true;
-pub use truths::join;
-pub use truths::negation;
-pub use truths::of_test;
+// Truths: the three values of a condition.
 
 // SPARQL's three values of a condition.
 pub enum Truth {

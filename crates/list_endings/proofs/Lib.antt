@@ -5,3 +5,4 @@ pub mod Least
 pub mod ByKind
 pub mod OutputRefusals
 pub mod NoRows
+pub mod Growing

@@ -16,7 +16,7 @@ pub fn begin(ending: &[u32], out: &mut [u32]) -> usize
     ensures { λ r. ⌜ ((threshold : List ℕ)
         → Listed (gathered (endingAt (now (ending .entry))) threshold []) (now (out .entry)) (now (out .exit)) r) ⌝ }
 {
-    match plans::ending_kind(ending) {
+    match plan_ending_kinds::ending_kind(ending) {
         Last::Rows => 0,
         Last::Top => 0,
         Last::Group => 0,

@@ -15,10 +15,10 @@ pub fn least_output(ending: &[u32]) -> usize
     requires { ⌜ endingForm (now ending) ≡ true ⌝ }
     ensures { λ r. ⌜ r ≡ leastOutput (endingAt (now (ending .entry))) ⌝ }
 {
-    let width = plans::variables(ending).len();
-    match plans::ending_kind(ending) {
+    let width = plan_ending_parts::variables(ending).len();
+    match plan_ending_kinds::ending_kind(ending) {
         Last::Rows => width,
-        Last::Top => plans::best_count(ending) * width,
+        Last::Top => plan_ending_kinds::best_count(ending) * width,
         Last::Group => width + list_group_totals::TOTALS,
         Last::Registers => list_registers::REGISTERS,
         Last::Neither => 0,
@@ -33,5 +33,5 @@ pub fn plan_output(plan: &[u32]) -> Written
     if number != ACCEPTED {
         return Written::Refused(number);
     }
-    Written::Words(least_output(plans::ending_part(plan)))
+    Written::Words(least_output(plan_parts::ending_part(plan)))
 }

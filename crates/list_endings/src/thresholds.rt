@@ -10,8 +10,11 @@ pub fn threshold_right(ending: &[u32], threshold: &[u32]) -> bool
     requires { ⌜ endingForm (now ending) ≡ true ⌝ }
     ensures { λ r. ⌜ r ≡ thresholdRight (endingAt (now (ending .entry))) (now (threshold .entry)) ⌝ }
 {
-    match plans::ending_kind(ending) {
-        Last::Top => list_best_tests::best_threshold(plans::variables(ending), threshold),
+    match plan_ending_kinds::ending_kind(ending) {
+        Last::Top => list_best_tests::best_threshold(
+            plan_ending_parts::variables(ending),
+            threshold,
+        ),
         Last::Rows => lists::no_threshold(threshold),
         Last::Group => lists::no_threshold(threshold),
         Last::Registers => lists::no_threshold(threshold),

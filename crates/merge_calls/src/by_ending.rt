@@ -71,14 +71,21 @@ pub fn merge_ending(e: &[u32], kept: &mut [u32], given: usize, list: &[u32]) -> 
     ensures { λ r. ⌜ MergedFor (endingAt (now (e .entry))) (now (kept .entry)) given (now (list .entry))
         (record { answer = r; kept = now (kept .exit) }) ⌝ }
 {
-    match plans::ending_kind(e) {
+    match plan_ending_kinds::ending_kind(e) {
         Last::Rows => Written::Refused(LISTS),
         Last::Top => {
-            let vars = plans::variables(e);
-            let keys = plans::keys(e);
-            merge_top(vars, keys, plans::best_count(e), kept, given, list)
+            let vars = plan_ending_parts::variables(e);
+            let keys = plan_ending_parts::keys(e);
+            merge_top(
+                vars,
+                keys,
+                plan_ending_kinds::best_count(e),
+                kept,
+                given,
+                list,
+            )
         }
-        Last::Group => merge_groups(plans::variables(e).len(), kept, given, list),
+        Last::Group => merge_groups(plan_ending_parts::variables(e).len(), kept, given, list),
         Last::Registers => merge_registers(kept, given, list),
         Last::Neither => Written::Refused(LISTS),
     }

@@ -22,5 +22,5 @@ pub fn merge(plan: &[u32], kept: &mut [u32], given: usize, list: &[u32]) -> Writ
     if kept.len() < given {
         return Written::Refused(LISTS);
     }
-    merge_ending(plans::ending_part(plan), kept, given, list)
+    merge_ending(plan_parts::ending_part(plan), kept, given, list)
 }

@@ -1,10 +1,10 @@
 // The form of an ending, in test 5.
 use crate::Wanted;
 use crate::searches::all_wanted;
+use plan_ending_kinds::last_of;
+use plan_ending_kinds::row_width;
 use plans::Last;
 use plans::first;
-use plans::last_of;
-use plans::row_width;
 use words::PlanWord;
 ghost use mathlib.Core.Path.{_≡_};
 ghost use Rattle.plans.specs.Endings.{rowsForm, keysForm, endingForm};

@@ -1,14 +1,14 @@
 // The variables of an ending, in test 6: bound by some branch, none repeated, a key's among the rows'.
 use plan_ending_forms::all_differ;
 use plan_ending_forms::ending_form;
+use plan_ending_kinds::ending_kind;
+use plan_ending_parts::keys;
+use plan_ending_parts::measured;
+use plan_ending_parts::variables;
+use plan_parts::branch_words;
 use plans::Last;
 use plans::among;
-use plans::branch_words;
-use plans::ending_kind;
-use plans::keys;
-use plans::measured;
 use plans::terms;
-use plans::variables;
 use words::PlanWord;
 use words::Term;
 ghost use mathlib.Core.Path.{_≡_};

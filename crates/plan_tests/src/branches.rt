@@ -2,11 +2,11 @@
 use crate::Part;
 use plan_ending_forms::Wanted;
 use plan_ending_forms::all_wanted;
+use plan_nodes::both;
+use plan_nodes::condition;
 use plans::MOST_DEPTH;
 use plans::PATTERN_WIDTH;
 use plans::Tree;
-use plans::both;
-use plans::condition;
 use plans::pattern_count;
 ghost use mathlib.Core.Path.{_≡_};
 ghost use Rattle.words.specs.Sequences.{all};

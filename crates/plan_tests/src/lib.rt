@@ -3,8 +3,8 @@ mod branches;
 
 use plan_ending_forms::ending_form;
 use plan_ending_variables::ending_right;
+use plan_nodes::both;
 use plans::Years;
-use plans::both;
 use plans::year_allowed;
 ghost use mathlib.Core.Path.{_≡_};
 ghost use mathlib.Core.List.{_∷_, []};

@@ -1,7 +1,4 @@
 // Branches: what stands in one that was read.
-use crate::MOST_DEPTH;
-use crate::Tree;
-use crate::nodes::condition;
 use crate::searches::count_in;
 use words::PlanWord;
 ghost use mathlib.Core.Path.{_≡_};
@@ -9,8 +6,8 @@ ghost use mathlib.Core.Bool.{true};
 ghost use Prim.Native.Nat.{_≤_};
 ghost use lib.ListN.{getD};
 ghost use Rattle.plans.specs.Conditions.{readCondition, mostDepth};
-ghost use Rattle.plans.specs.Branches.{patternCount, mostPatterns, readBranch, readBranches};
-ghost use Rattle.plans.specs.Reading.{isRead, wordsRead, branchIn, Gives};
+ghost use Rattle.plans.specs.Branches.{patternCount, mostPatterns, readBranch};
+ghost use Rattle.plans.specs.Reading.{isRead, branchIn, Gives};
 
 // The fields of a pattern, and how many there are: its own, and not the columns of a row.
 pub const SUBJECT_FIELD: usize = 0;
@@ -54,34 +51,4 @@ pub fn condition_part(p: &[u32]) -> &[u32]
 {
     let end = 1 + PATTERN_WIDTH * patterns_read(p);
     &p[end..]
-}
-
-// The words of the branch that p starts with.
-pub fn branch_words(p: &[u32]) -> usize
-    requires { ⌜ isRead (readBranch (now p)) ≡ true ⌝ }
-    ensures { λ r. ⌜ r ≡ wordsRead (readBranch (now (p .entry))) ⌝ }
-{
-    let at = 1 + PATTERN_WIDTH * pattern_count(p);
-    match condition(&p[at..], MOST_DEPTH, &p[..0]) {
-        Tree::Bad => at,
-        Tree::Reads {
-            words,
-            nodes,
-            bound,
-        } => at + words,
-    }
-}
-
-// The words of the first branches, so many, that p starts with.
-pub fn branches_words(p: &[u32], count: u32) -> usize
-    requires { ⌜ isRead (readBranches count (now p)) ≡ true ⌝ }
-    ensures { λ r. ⌜ r ≡ wordsRead (readBranches count (now (p .entry))) ⌝ }
-{
-    let mut at: usize = 0;
-    let mut left = count;
-    while left > 0 {
-        at += branch_words(&p[at..]);
-        left -= 1;
-    }
-    at
 }

@@ -1,6 +1,6 @@
 // A file of the printer: opened, read, and its query opened.
-use print_lines::FileParts;
-use print_lines::Layout;
+use print_reading::FileParts;
+use print_reading::Layout;
 use print_rounds::SURVEY;
 use print_rounds::run;
 use print_writing::print_refused;
@@ -9,8 +9,8 @@ use words::Written;
 ghost use mathlib.Core.Path.{_≡_};
 ghost use Prim.Native.Nat.{_≤_};
 ghost use lib.ListN.{length, take};
-ghost use Rattle.print_lines.specs.declared.Layout.the-variants.{Parts};
-ghost use Rattle.print_lines.specs.Files.{fileWords, Laid, layoutOf};
+ghost use Rattle.print_reading.specs.declared.Layout.the-variants.{Parts};
+ghost use Rattle.print_reading.specs.Files.{fileWords, Laid, layoutOf};
 
 // Opens the query of a file, whose words are read and whose parts are found, and runs it; a refusal is printed.
 fn print_query(bytes: &[u8], file: &[u32], parts: FileParts)
@@ -37,7 +37,7 @@ fn print_query(bytes: &[u8], file: &[u32], parts: FileParts)
 // Finds the parts of a file's bytes and prints what its query answers.
 fn print_bytes(bytes: &[u8]) {
     let mut file = [0u32; 16384];
-    let layout = print_lines::read_file(bytes, &mut file);
+    let layout = print_reading::read_file(bytes, &mut file);
     match layout {
         Layout::Parts(parts) => print_query(bytes, &file, parts),
         Layout::Refused(x) => print_refused(bytes, x),

@@ -1,15 +1,12 @@
--- Lines of the rules (docs/RULES.md, 12), byte by byte, and the parts of a file.
+-- Lines of the rules (docs/RULES.md, 12), byte by byte.
 use mathlib.Core.Path.{_≡_, refl}
 use mathlib.Core.List.{[], _∷_, flatten}
 use lib.IntN.{pos}
-use lib.ListN.{replicate}
 use Rattle.words.specs.Words.{name, number, text, unbound}
 use Rattle.words.specs.Computing as words
 use Rattle.lists.specs.Groups.{ofNothing, groupIn}
 use Rattle.lists.specs.Computing as lists
 use Rattle.turns.specs.declared.TurnEnding.the-variants.{Spent}
-use Rattle.print_lines.specs.declared.Layout.the-variants.{Parts, Refused}
-use Rattle.print_lines.specs.Files.{partsIn}
 use Rattle.print_lines.specs.Lines.{rowLine, groupLine, turnLine, listLine}
 use Rattle.print_lines.specs.Computing.{computing}
 
@@ -56,17 +53,3 @@ list-example : listLine (0 ∷ 4294967295 ∷ [])
     ≡ 108 ∷ 105 ∷ 115 ∷ 116 ∷ 32 ∷ 48 ∷ 32 ∷ 52 ∷ 50 ∷ 57 ∷ 52 ∷ 57 ∷ 54 ∷ 55 ∷ 50 ∷ 57 ∷ 53 ∷ 10 ∷ []
 unfolding computing flatten
 list-example = refl
-
--- two rows: 8 words of rows, 2 and 2 of lists, so 2 + 6 × 2 words before the plan, which has 3; a file that ends there has no plan, and one word less
--- is refused by 1
-parts-example : partsIn (2 ∷ 4 ∷ replicate 15 0) ≡ Parts (record { pos = 10; osp = 12; plan = 14; words = 17 })
-unfolding computing
-parts-example = refl
-
-no-plan-example : partsIn (2 ∷ 4 ∷ replicate 12 0) ≡ Parts (record { pos = 10; osp = 12; plan = 14; words = 14 })
-unfolding computing
-no-plan-example = refl
-
-short-example : partsIn (2 ∷ 4 ∷ replicate 11 0) ≡ Refused 1
-unfolding computing
-short-example = refl

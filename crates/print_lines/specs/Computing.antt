@@ -1,9 +1,7 @@
 -- One name that opens every definition of this crate, for proofs that compute.
 use Rattle.print_texts.specs.Texts.{digitsIn, decimal, integerText, valueText, termText, fields}
 use Rattle.print_lines.specs.Lines.{rowLine, groupFields, groupLine, listLine, refusedLine, turnLine}
-use Rattle.print_lines.specs.Files.{littleEndian, fileWords, countsRight, partsIn, layoutOf}
 
 unfoldable pub computing : Unit {0}
-unfolding digitsIn decimal integerText valueText termText fields rowLine groupFields groupLine listLine refusedLine turnLine littleEndian fileWords countsRight
-    partsIn layoutOf
+unfolding digitsIn decimal integerText valueText termText fields rowLine groupFields groupLine listLine refusedLine turnLine
 computing = tt

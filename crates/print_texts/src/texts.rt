@@ -1,27 +1,15 @@
-// Bytes, numbers and terms, put on a line from a place on; each function answers the place after what it put.
+// Bytes and numbers, put on a line from a place on; each function answers the place after what it put.
 use crate::digits::put_decimal;
-use words::Term;
-ghost use mathlib.Core.Path.{_≡_};
 ghost use mathlib.Core.List.{_∷_, []};
 ghost use Prim.Native.Nat.{_+_, _<_, _≤_};
 ghost use lib.ListN.{length};
 ghost use Rattle.words.specs.Words.{signed};
 ghost use Rattle.lists.specs.Sums.{sumIn};
-ghost use Rattle.print_texts.specs.Texts.{kindLetter, integerText, valueText, termText, numberField, integerField, termField, fields};
-ghost use Rattle.print_texts.specs.Texts.{numberFields, termFields};
+ghost use Rattle.print_texts.specs.Texts.{integerText, numberField, integerField};
 ghost use Rattle.print_texts.specs.Placing.{Placed};
-ghost use Rattle.print_texts.specs.Fields.{fieldAs};
 
-// Half the values of a number's 30 bits, and of 64 bits: from there on they are below zero.
-const HALF_VALUES: u64 = words::HALF_VALUES as u64;
-
+// Half the values of 64 bits: from there on they are below zero.
 const HALF_LONGS: u64 = 0x8000000000000000;
-
-// How a word is shown: as a term, or as a number.
-pub enum Shown {
-    Term,
-    Number,
-}
 
 pub fn put_byte(line: &mut [u8], at: usize, byte: u8) -> usize
     requires { ⌜ at < length (now line) ⌝ }
@@ -54,7 +42,7 @@ pub fn put_number(line: &mut [u8], at: usize, x: u64) -> usize
 }
 
 // Bits in two's complement, with half their values from zero up, in decimal.
-fn put_signed(line: &mut [u8], at: usize, bits: u64, half: u64) -> usize
+pub fn put_signed(line: &mut [u8], at: usize, bits: u64, half: u64) -> usize
     requires { ⌜ (bits < half + half) × (at + length (integerText (signed half bits)) ≤ length (now line)) ⌝ }
     ensures { λ r. ⌜ Placed (integerText (signed half bits)) at (now (line .entry)) (now (line .exit)) r ⌝ }
 {
@@ -72,92 +60,4 @@ pub fn put_sum(line: &mut [u8], at: usize, bits: u64) -> usize
 {
     let next = put_byte(line, at, b' ');
     put_signed(line, next, bits, HALF_LONGS)
-}
-
-// The letter of a term's kind: n for a name, i for a number, t for a text.
-fn letter_of(kind: u32) -> u8
-    ensures { λ r. ⌜ r ≡ kindLetter kind ⌝ }
-{
-    match kind {
-        Term::NAME => b'n',
-        Term::NUMBER => b'i',
-        _ => b't',
-    }
-}
-
-// The value of a term, a number's with its sign.
-fn put_value(line: &mut [u8], at: usize, word: u32) -> usize
-    requires { ⌜ at + length (valueText word) ≤ length (now line) ⌝ }
-    ensures { λ r. ⌜ Placed (valueText word) at (now (line .entry)) (now (line .exit)) r ⌝ }
-{
-    let term = Term(word);
-    let value = list_group_totals::long(term.value());
-    if term.is_number() {
-        return put_signed(line, at, value, HALF_VALUES);
-    }
-    put_decimal(line, at, value)
-}
-
-// A term: a letter and its value, or a dash for unbound.
-fn put_text(line: &mut [u8], at: usize, word: u32) -> usize
-    requires { ⌜ at + length (termText word) ≤ length (now line) ⌝ }
-    ensures { λ r. ⌜ Placed (termText word) at (now (line .entry)) (now (line .exit)) r ⌝ }
-{
-    let term = Term(word);
-    if term.is_variable() {
-        return put_byte(line, at, b'-');
-    }
-    let next = put_byte(line, at, letter_of(term.kind()));
-    put_value(line, next, word)
-}
-
-// A term, after a blank.
-fn put_term(line: &mut [u8], at: usize, word: u32) -> usize
-    requires { ⌜ at + length (termField word) ≤ length (now line) ⌝ }
-    ensures { λ r. ⌜ Placed (termField word) at (now (line .entry)) (now (line .exit)) r ⌝ }
-{
-    let next = put_byte(line, at, b' ');
-    put_text(line, next, word)
-}
-
-// A word as a field, after a blank.
-fn put_field(line: &mut [u8], at: usize, word: u32, shown: Shown) -> usize
-    requires { ⌜ at + length (fieldAs shown word) ≤ length (now line) ⌝ }
-    ensures { λ r. ⌜ Placed (fieldAs shown word) at (now (line .entry)) (now (line .exit)) r ⌝ }
-{
-    match shown {
-        Shown::Term => put_term(line, at, word),
-        Shown::Number => put_number(line, at, list_group_totals::long(word)),
-    }
-}
-
-// Words as fields, each after a blank.
-fn put_fields(line: &mut [u8], at: usize, words: &[u32], shown: Shown) -> usize
-    requires { ⌜ at + length (fields (fieldAs shown) (now words)) ≤ length (now line) ⌝ }
-    ensures { λ r. ⌜ Placed (fields (fieldAs shown) (now (words .entry))) at (now (line .entry)) (now (line .exit)) r ⌝ }
-{
-    let mut next = at;
-    let mut i: usize = 0;
-    while i < words.len() {
-        let word = words[i];
-        next = put_field(line, next, word, shown);
-        i += 1;
-    }
-    next
-}
-
-// Words as terms, each after a blank.
-pub fn put_terms(line: &mut [u8], at: usize, terms: &[u32]) -> usize
-    requires { ⌜ at + length (termFields (now terms)) ≤ length (now line) ⌝ }
-    ensures { λ r. ⌜ Placed (termFields (now (terms .entry))) at (now (line .entry)) (now (line .exit)) r ⌝ }
-{
-    put_fields(line, at, terms, Shown::Term)
-}
-
-// Words as numbers, each after a blank.
-pub fn put_numbers(line: &mut [u8], at: usize, words: &[u32]) -> usize
-    requires { ⌜ at + length (numberFields (now words)) ≤ length (now line) ⌝ }
-    ensures { λ r. ⌜ Placed (numberFields (now (words .entry))) at (now (line .entry)) (now (line .exit)) r ⌝ }
-{
-    put_fields(line, at, words, Shown::Number)
 }

@@ -9,9 +9,9 @@ use Rattle.plans.specs.Plans.{planOf}
 use Rattle.steps.specs.Saved.{leastStateWords}
 use Rattle.lists.specs.Gathering.{width}
 use Rattle.turns.specs.Surveys.{Survey, underNumber, surveyOf}
-use Rattle.print_lines.specs.declared.FileParts.{FileParts}
-use Rattle.print_lines.specs.declared.Layout.the-variants.{Parts}
-use Rattle.print_lines.specs.Files.{fileWords, rowCountIn, quantumIn, rowsAt, posAt, ospAt, planAt, layoutOf}
+use Rattle.print_reading.specs.declared.FileParts.{FileParts}
+use Rattle.print_reading.specs.declared.Layout.the-variants.{Parts}
+use Rattle.print_reading.specs.Files.{fileWords, rowCountIn, quantumIn, rowsAt, posAt, ospAt, planAt, layoutOf}
 
 -- ---- the parts of a file's words
 abbrev pub rowsIn : List ℕ → List ℕ

@@ -12,8 +12,8 @@ use Rattle.queries.specs.declared.Keeping.the-variants.{Merged}
 use Rattle.queries.specs.declared.Played.{Played}
 use Rattle.queries.specs.declared.Played.the-variants.{Finished, Unfinished, Stopped, Refused}
 use Rattle.queries.specs.Playing.{Stops, Shows, IsWhole}
-use Rattle.print_lines.specs.declared.Layout.the-variants as layout
-use Rattle.print_lines.specs.Files.{layoutOf}
+use Rattle.print_reading.specs.declared.Layout.the-variants as layout
+use Rattle.print_reading.specs.Files.{layoutOf}
 use Rattle.print_writing.specs.FileQueries.{fileTables, fileSurvey, filePlan, fileQuantum, IsAccepted, stateRoom, outputRoom, keptRoom}
 
 -- as many turns as 64 bits count

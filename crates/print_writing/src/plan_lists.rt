@@ -29,9 +29,9 @@ pub fn lists_of(plan: &[u32]) -> Listing
     requires { ⌜ hasForm (readPlan (now plan)) ≡ true ⌝ }
     ensures { λ r. ⌜ r ≡ listingOf (planOf (now (plan .entry)) .ending) ⌝ }
 {
-    let ending = plans::ending_part(plan);
-    let kind = plans::ending_kind(ending);
-    let variables = plans::variables(ending).len();
+    let ending = plan_parts::ending_part(plan);
+    let kind = plan_ending_kinds::ending_kind(ending);
+    let variables = plan_ending_parts::variables(ending).len();
     Listing {
         kind: kind,
         width: record_width(kind, variables),

@@ -19,7 +19,7 @@ use Rattle.lists.specs.Gathering.{gathered, thresholdRight}
 use Rattle.lists.specs.Closing.{listAt}
 use Rattle.lists.proofs.Closing.{at-longer}
 use Rattle.turns.specs.Turns.{isOver}
-use Rattle.turn_runs.proofs.Growing.{Grows, grows}
+use Rattle.list_endings.proofs.Growing.{Grows, grows}
 use Rattle.cuts.specs.Accepting.{Accepted}
 use Rattle.cuts.proofs.Accepting.{accepted-form}
 use Rattle.cuts.proofs.Chains.{kept-some}

@@ -16,7 +16,7 @@ fn is_rows(plan: &[u32]) -> bool
     requires { ⌜ hasForm (readPlan (now plan)) ≡ true ⌝ }
     ensures { λ r. ⌜ r ≡ isRows (planOf (now (plan .entry)) .ending) ⌝ }
 {
-    match plans::ending_kind(plans::ending_part(plan)) {
+    match plan_ending_kinds::ending_kind(plan_parts::ending_part(plan)) {
         Last::Rows => true,
         Last::Top => false,
         Last::Group => false,

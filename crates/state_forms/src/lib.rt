@@ -50,7 +50,10 @@ fn position_right(plan: &[u32], word: u32) -> bool
     if branch >= plans::branch_count(plan) {
         return false;
     }
-    depth_right(plans::terms(plans::branch_part(plan, branch)), w.depth())
+    depth_right(
+        plans::terms(plan_parts::branch_part(plan, branch)),
+        w.depth(),
+    )
 }
 
 // Whether the words behind a year's are a position in the plan and a place for each level to its depth.

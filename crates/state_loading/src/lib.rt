@@ -1,6 +1,5 @@
 // Saved states read in code: the cursor that a state's words stand for, if they pass tests 9, 22 and 10.
 mod loading;
-mod walks;
 
 pub use loading::load;
 pub use loading::refused;

@@ -1,5 +1,2 @@
 pub mod RowKinds
-pub mod Keys
-pub mod Walking
 pub mod Refusing
-pub mod Bounds

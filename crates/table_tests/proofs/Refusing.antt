@@ -7,7 +7,7 @@ use mathlib.Core.Option.{Option, none, some}
 use mathlib.Core.List.{List}
 use lib.Dec.{ltb}
 use lib.ListN.{length, getD}
-use borrow.Author.Tests.{lt-ltb, ltb-true}
+use borrow.Author.Tests.{ltb-true}
 use Rattle.words.specs.Sequences.{allBelow, lexBefore}
 use Rattle.words.specs.Tests.{firstFailing, numberOf}
 use Rattle.words.proofs.Booleans.{Decided, yes, no, decided}
@@ -18,9 +18,10 @@ use Rattle.tables.specs.declared.Order.the-variants.{Spo, Pos, Osp}
 use Rattle.tables.specs.Tables.{Tables, rowCount, rowAt, fieldsAt, lengthsRight, kindsRight, yearsRight, ascends, namesRows, tableTests}
 use Rattle.tables.specs.Right.{Sized}
 use Rattle.tables.proofs.RightTables.{sized-lengths}
-use Rattle.table_tests.specs.Walk.{rowsRefusal, keysOf, keysAt, rightUpto, orderRight, rightOrders, refusalAfter}
-use Rattle.table_tests.proofs.Keys.{keys-say}
-use Rattle.table_tests.proofs.Walking.{upto-none, orders-none, orders-fault}
+use Rattle.walks.specs.Walk.{keysAt, rightUpto, orderRight, rightOrders}
+use Rattle.walks.proofs.Keys.{keys-say}
+use Rattle.walks.proofs.Walking.{upto-none, order-rows, orders-none, orders-fault}
+use Rattle.table_tests.specs.Refusals.{rowsRefusal, refusalAfter}
 
 pub no-refusal : (n : ℕ) → (n ≡ 0 → ⊥) → (n ≡ 1 → ⊥) → (n ≡ 2 → ⊥) → 0 ≡ refusalAfter n
 no-refusal zero a b c = absurd (a refl)
@@ -50,12 +51,7 @@ by-order true true true true false = refl
 by-order true true true true true = refl
 
 module _ (t : Tables) where
-  -- ---- an order is right by its tests
-  pub order-rows : orderRight t Spo ≡ ascends Spo t
-  unfolding rightUpto ascends keysOf
-  order-rows = rw (at-all (λ place. ltb place (rowCount t)) (rowCount t) (λ i h. lt-ltb i (rowCount t) h))
-
-  -- an order of a list, where the rows ascend in their own
+  -- ---- an order of a list is right by its tests, where the rows ascend in their own
   module _ (own : ascends Spo t ≡ true) (o : Order) (list : List ℕ) (l : length list ≡ rowCount t) (e : rowAt o t ≡ (λ place. getD list place 0)) where
     abbrev names : Bool
     names = allBelow (λ place. ltb (rowAt o t place) (rowCount t)) (rowCount t)
@@ -114,13 +110,13 @@ module _ (t : Tables) where
     orders-first = go (decided (ascends Spo t))
       where
         go : Decided (ascends Spo t) → numberOf (firstFailing (tableTests t)) ≡ refusalAfter (rightOrders t)
-        go (no u) = rw (sized-lengths t s, p .0, p .1, order-rows, u)
+        go (no u) = rw (sized-lengths t s, p .0, p .1, order-rows t, u)
         go (yes u) =
             rw (
               sized-lengths t s,
               p .0,
               p .1,
-              order-rows,
+              order-rows t,
               order-list u Pos (t .pos) (s .pos-length) refl,
               order-list u Osp (t .osp) (s .osp-length) refl,
             )

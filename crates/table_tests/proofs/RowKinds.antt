@@ -8,7 +8,9 @@ use lib.ListN.{length, getD}
 use Rattle.words.specs.Sequences.{allBelow}
 use Rattle.tables.specs.Tables.{tablesOf, columnCount, yearColumn, fieldOf, rowRight, yearRight, kindsRight, yearsRight}
 use Rattle.tables.specs.declared.Order.the-variants.{Spo}
-use Rattle.table_tests.specs.Walk.{rowsRefusal, rightUpto, orderRight, rowsFine}
+use Rattle.walks.specs.Walk.{rightUpto, orderRight}
+use Rattle.table_own_orders.specs.OwnOrder.{rowsFine}
+use Rattle.table_tests.specs.Refusals.{rowsRefusal}
 
 -- a row passes; the rows that end before a word pass
 abbrev rowPasses : List ℕ → ℕ → Bool

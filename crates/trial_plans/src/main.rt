@@ -5,11 +5,11 @@ mod playing;
 
 use libc::STDIN_FILENO;
 use lines::print_refused;
-use print_lines::FileParts;
-use print_lines::Layout;
+use print_reading::FileParts;
+use print_reading::Layout;
 ghost use Prim.Native.Nat.{_≤_, _<_};
 ghost use lib.ListN.{length};
-ghost use Rattle.print_lines.specs.Files.{Laid};
+ghost use Rattle.print_reading.specs.Files.{Laid};
 
 // The woods that are read, and the words of one with its plans, at most.
 pub const MOST_WOODS: u32 = 1000;
@@ -56,7 +56,7 @@ fn play_wood(file: &[u32], parts: FileParts)
 // A wood and its plans, from their bytes.
 fn play_bytes(bytes: &[u8]) {
     let mut file = [0u32; 16384];
-    let layout = print_lines::read_file(bytes, &mut file);
+    let layout = print_reading::read_file(bytes, &mut file);
     match layout {
         Layout::Parts(parts) => play_wood(&file, parts),
         Layout::Refused(x) => print_refused(x),

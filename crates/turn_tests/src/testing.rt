@@ -116,7 +116,7 @@ fn load(
     if loaded.refused != ACCEPTED {
         return loaded;
     }
-    if threshold_right(plans::ending_part(plan), threshold) {
+    if threshold_right(plan_parts::ending_part(plan), threshold) {
         return loaded;
     }
     refused(THRESHOLD)
@@ -148,7 +148,7 @@ pub fn prepare(
     if number != ACCEPTED {
         return refused(number);
     }
-    let size = sizes(plans::ending_part(plan), state, quantum, output);
+    let size = sizes(plan_parts::ending_part(plan), state, quantum, output);
     if size != ACCEPTED {
         return refused(size);
     }

@@ -22,7 +22,7 @@ fn every_cut_adds_up_to_the_uncut_run() {
 #[test]
 fn turns_go_on_from_every_state_of_the_run() {
     let tally = Tally::default();
-    for_each_seed(6000, |random| {
+    for_each_seed(8000, |random| {
         let query = plans::short_query(random);
         for _ in 0..4 {
             check_turn(&tally, &query, &calls::turn(random, &query)).expect("the turn is served");
@@ -48,7 +48,7 @@ fn merges_add_up_lists_that_no_run_made() {
 #[test]
 fn damaged_calls_are_refused_by_the_first_test_that_fails() {
     let tally = Tally::default();
-    for_each_seed(6000, |random| {
+    for_each_seed(8000, |random| {
         let query = plans::short_query(random);
         for _ in 0..4 {
             let mut call = calls::open(random, &query);

@@ -14,7 +14,7 @@ use Rattle.plans.specs.declared.Node.the-variants.{Pair}
 use Rattle.plans.specs.Conditions.{readCondition, mostDepth}
 use Rattle.plans.specs.Reading.{wordsRead}
 use Rattle.plans.proofs.node_of.Reads as node-of-reads
-use Rattle.conditions.proofs.is_false.Reads as is-false-reads
+use Rattle.condition_truths.proofs.is_false.Reads as is-false-reads
 use Rattle.conditions.proofs.Reading.{Begins}
 use Rattle.conditions.specs.declared.Evaluated.{Evaluated}
 use Rattle.conditions.specs.Evaluated.{evaluated}

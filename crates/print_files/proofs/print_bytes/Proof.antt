@@ -3,8 +3,8 @@ use borrow.Author.Needs.{needs}
 use native.Mathlib.Omega.{arith}
 use mathlib.Core.Path.{sym, _∙_, ap}
 use lib.ListN.{take}
-use Rattle.print_lines.specs.Files.{FileRead}
-use Rattle.print_lines.proofs.LaidOut.{laid-out, words-read}
+use Rattle.print_reading.specs.Files.{FileRead}
+use Rattle.print_reading.proofs.LaidOut.{laid-out, words-read}
 use Rattle.print_writing.specs.Shown.{for-size}
 use Rattle.print_files.proofs.print_bytes.Statement.{statement}
 use Rattle.print_files.proofs.print_bytes.Tie as tie

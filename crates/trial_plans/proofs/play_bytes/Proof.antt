@@ -2,8 +2,8 @@
 use borrow.Author.Needs.{needs}
 use native.Mathlib.Omega.{arith}
 use mathlib.Core.Path.{sym, _∙_, ap}
-use Rattle.print_lines.specs.Files.{FileRead}
-use Rattle.print_lines.proofs.LaidOut.{laid-out}
+use Rattle.print_reading.specs.Files.{FileRead}
+use Rattle.print_reading.proofs.LaidOut.{laid-out}
 use Rattle.trial_plans.proofs.play_bytes.Statement.{statement}
 use Rattle.trial_plans.proofs.play_bytes.Tie as tie
 

@@ -1,0 +1,3 @@
+pub mod FileWords
+pub mod LaidOut
+pub mod Examples

@@ -1,9 +1,0 @@
--- A word as a field of a line, by how it is shown. Assumes nothing: these are definitions.
-use Prim.Native.Nat.{ℕ}
-use Rattle.print_texts.specs.Texts.{Text, termField, numberField}
-use Rattle.print_texts.specs.declared.texts.Shown.{Shown}
-use Rattle.print_texts.specs.declared.texts.Shown.the-variants.{Term, Number}
-
-abbrev pub fieldAs : Shown → ℕ → Text
-fieldAs Term = termField
-fieldAs Number = numberField

@@ -1,0 +1,15 @@
+-- The numbers of the tests that the parts of the check leave to fail. Assumes nothing: these are definitions.
+use Prim.Native.Nat.{ℕ, zero, suc}
+use mathlib.Core.Bool.{cond}
+use Rattle.tables.specs.Tables.{Tables, kindsRight, yearsRight}
+
+-- the number of the test that rows fail by themselves, 0 where they pass: the kinds of all rows come before the year of any
+abbrev pub rowsRefusal : Tables → ℕ
+rowsRefusal t = cond (kindsRight t) (cond (yearsRight t) 0 23) 2
+
+-- the number of the test that so many right orders leave to fail, 0 where all are right
+abbrev pub refusalAfter : ℕ → ℕ
+refusalAfter zero = 3
+refusalAfter (suc zero) = 4
+refusalAfter (suc (suc zero)) = 4
+refusalAfter (suc (suc (suc n))) = 0
