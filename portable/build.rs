@@ -8,7 +8,10 @@
 //!   - crates are modules here: `crate::` and the names of the crates that a crate may use become paths to modules, all public;
 //!   - `std::` becomes a path to src/standard.rs, which has what the engine takes of Rattle's standard library;
 //!   - a function that is exported for C takes slices there, which rustc passes otherwise than Rattle does. Here it is a plain
-//!     function, and exports.rs gets one of the same name that takes addresses and lengths.
+//!     function, and exports.rs gets one of the same name that takes addresses and lengths;
+//!   - rustc leaves calls in a step where Rattle leaves none, and a struct that is handed to a call is in memory. So the functions of some
+//!     crates get `#[inline(always)]` or `#[inline]`, and the structs of one `#[repr(packed)]`; only how long they take depends on it
+//!     (docs/PERFORMANCE.md, "What is measured").
 //!
 //! Each line keeps its number, so that what rustc says of a written file holds of the source. An item that is not known here, a path
 //! that begins with an unknown name or an exported signature that cannot be had in C stops the build, with file and line.
@@ -25,6 +28,34 @@ const PRINTER: &str = "print_files";
 const TOOLCHAIN: [&str; 3] = ["io", "os", "libc"];
 /// The library's name, for paths from the program.
 const LIBRARY: &str = "sotjarn_portable";
+
+/// The crates whose functions are put where they are called: what a step goes through, and the loops of the check and of merges.
+const PUT_IN: [&str; 18] = [
+    "list_group_merges",
+    "list_group_totals",
+    "list_longs",
+    "list_row_orders",
+    "lists",
+    "plan_ending_parts",
+    "state_saving",
+    "step_fields",
+    "step_moves",
+    "step_next",
+    "step_rows",
+    "step_shifts",
+    "table_readings",
+    "table_sides",
+    "table_walks",
+    "turn_attempts",
+    "turn_runs",
+    "turn_savings",
+];
+/// Those whose functions may be, also in a program that compiles the library in several units and does not optimise it as a whole. The
+/// searches of table_starts and table_ends stay calls: put where they are called before those are optimised, they are slower.
+const MAY_BE_PUT_IN: [&str; 8] =
+    ["list_endings", "list_groups", "plan_parts", "plans", "step_levels", "table_row_orders", "tables", "words"];
+/// The crate of the fixed fields that each step copies: without gaps, since the bytes of those would be copied along one by one.
+const PACKED: &str = "steps";
 
 const SCALARS: [&str; 9] = ["u8", "u16", "u32", "u64", "usize", "i32", "i64", "isize", "bool"];
 
@@ -159,6 +190,11 @@ impl<'a> Source<'a> {
         stop(self.file, token.map_or(1, |&token| self.tokens[token].line), what)
     }
 
+    /// The name of the crate.
+    fn name(&self) -> &str {
+        self.module.split("::").nth(1).expect("a module's path begins with crate:: and its crate")
+    }
+
     /// The text of the token with a number, empty past the last.
     fn text(&self, at: usize) -> &'a str {
         self.solid.get(at).map_or("", |&token| self.tokens[token].text)
@@ -208,16 +244,25 @@ impl<'a> Source<'a> {
             }
             ("", "const" | "type", ..) => self.find(head, &[";"]),
             ("" | "#[repr(C)]", "struct" | "enum", name, _) => {
-                let mut derived = "Clone, Copy";
+                let mut marks = "#[derive(Clone, Copy)]";
                 if !mark.is_empty() {
                     self.for_c.insert(name);
-                    derived = "Clone, Copy, Debug, PartialEq, Eq";
+                    marks = "#[derive(Clone, Copy, Debug, PartialEq, Eq)]";
+                } else if self.text(head) == "struct" && self.name() == PACKED {
+                    marks = "#[derive(Clone, Copy)] #[repr(packed)]";
                 }
-                self.put(first, format!("#[derive({derived})] {}", self.text(first)));
+                self.put(first, format!("{marks} {}", self.text(first)));
                 self.find(head, &[";", "}"])
             }
             ("", "impl", _, "{") => self.items(head + 3),
-            ("", "fn", ..) => self.find(head, &["}"]),
+            ("", "fn", ..) => {
+                if PUT_IN.contains(&self.name()) {
+                    self.put(first, format!("#[inline(always)] {}", self.text(first)));
+                } else if MAY_BE_PUT_IN.contains(&self.name()) {
+                    self.put(first, format!("#[inline] {}", self.text(first)));
+                }
+                self.find(head, &["}"])
+            }
             ("#[no_mangle]", "extern", "\"C\"", "fn") => {
                 (start..first).chain(head..head + 2).for_each(|at| self.put(at, String::new()));
                 self.export(head + 3)
@@ -445,6 +490,9 @@ fn main() {
     let (mut library, mut all) = (BTreeSet::new(), BTreeSet::new());
     find_used(&crates, CALLS, &mut library);
     find_used(&crates, PRINTER, &mut all);
+    if let Some(name) = PUT_IN.iter().chain(&MAY_BE_PUT_IN).chain([&PACKED]).find(|&&name| !library.contains(name)) {
+        stop(Path::new("crates.txt"), 1, &format!("the library has no crate {name}, which portable/build.rs names"));
+    }
 
     let last = format!("pub use self::{CALLS}::*;\n");
     let exports = write_crates(&root, &crates, &library, |_| "crate".to_string(), &out.join("library"), &last);
