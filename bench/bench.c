@@ -3,8 +3,8 @@
  * engines' and the C machine's steps and lists are compared word by word; SQLite's rows by their number, and but for ties in a best-of
  * list by the sum of their fields. Where tables are made of an upload, C++ by std::stable_sort stands in the C machine's place (tables.cpp),
  * and what is made is compared word by word. Compiled with -DPORTABLE_THERE it takes the portable engine's calls by names of their own. */
+#include "machines.h"
 #include "sotjarn.h"
-#include "step_machine.h"
 #include "tables.h"
 
 #include <sqlite3.h>
@@ -219,7 +219,7 @@ static const struct {
     __typeof__(sotjarn_make) *make;
     __typeof__(sotjarn_grow) *grow;
 } calls[SQLITE] = {{sotjarn_open, sotjarn_turn, sotjarn_merge, sotjarn_make, sotjarn_grow},
-                   {c_open, c_turn, c_merge, cpp_make, cpp_grow},
+                   {plain_open, plain_turn, plain_merge, cpp_make, cpp_grow},
                    {portable_open, portable_turn, portable_merge, portable_make, portable_grow}};
 
 #define TABLES rows, COLUMNS * COUNT, pos, COUNT, osp, COUNT
@@ -248,7 +248,7 @@ static double time_check(enum who w, const struct query *q, uint32_t quantum)
         found = run_sql("pragma integrity_check", 1, &sum);
         return now() - t;
     }
-    refused = w == PEER ? c_check(TABLES) + 5 : calls[w].open(TABLES, 0, none, 1, state, SOTJARN_STATE_WORDS).refused;
+    refused = w == PEER ? plain_check(TABLES) + 5 : calls[w].open(TABLES, 0, none, 1, state, SOTJARN_STATE_WORDS).refused;
     t = now() - t;
     if (refused != 5)
         fail("the tables are not accepted");
