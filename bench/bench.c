@@ -1,7 +1,7 @@
-/* Times the proved engine, the same step machine in C, the portable engine and SQLite on three woods, in turns, and prints the best time of
- * each in nanoseconds, a line a measure: wood, name, steps, engine, C, SQLite, portable ('-': it has nothing like it, or is not there). The
- * engines' and the C machine's steps and lists are compared word by word; SQLite's rows by their number, and but for ties in a best-of
- * list by the sum of their fields. Where tables are made of an upload, C++ by std::stable_sort stands in the C machine's place (tables.cpp),
+/* Times the proved engine, two step machines in C, the portable engine and SQLite on three woods, in turns, and prints the best time of each in
+ * nanoseconds, a line a measure: wood, name, steps, engine, C floor, C plain, SQLite, portable ('-': it has nothing like it, or is not there).
+ * The engines' and the C machines' steps and lists are compared word by word; SQLite's rows by their number, and but for ties in a best-of
+ * list by the sum of their fields. Where tables are made of an upload, C++ by std::stable_sort stands in the plain machine's place (tables.cpp),
  * and what is made is compared word by word. Compiled with -DPORTABLE_THERE it takes the portable engine's calls by names of their own. */
 #include "machines.h"
 #include "sotjarn.h"
@@ -22,6 +22,7 @@ enum { STEMS = 32768, COUNT = 2 * STEMS, GROUPS = 10000, BEST = 64, OUTPUT = 400
 #define W(kind, low) ((uint32_t)(kind) << 28 | (uint32_t)(low))
 
 static uint32_t rows[COLUMNS * COUNT], pos[COUNT], osp[COUNT];
+static size_t count; /* of the rows that are there */
 static sqlite3 *db;
 static double seconds = 2; /* for each measure; with 0, one round of each */
 
@@ -65,12 +66,20 @@ static uint32_t next_name(enum wood wood, uint32_t last, uint32_t j)
     return last + (wood == FAR && j == STEMS / 8 * 7 ? 900000000 : 1);
 }
 
-/* The call's wood of seed 1. Other names in the same order leave both lists of row numbers as they are. */
+/* The call's wood of seed 1, of so many stems. */
+static void grow_stems(uint32_t stems)
+{
+    struct sotjarn_tables grown = sotjarn_grow(1, stems, YEAR, rows, COLUMNS * COUNT, pos, COUNT, osp, COUNT);
+    if (grown.refused || grown.pos_words != 2 * stems)
+        fail("the wood is not grown");
+    count = grown.pos_words;
+}
+
+/* The wood of all stems, with other names in the same order, which leave both lists of row numbers as they are. */
 static void grow(enum wood wood)
 {
     uint32_t name = 999999;
-    if (sotjarn_grow(1, STEMS, YEAR, rows, COLUMNS * COUNT, pos, COUNT, osp, COUNT).refused)
-        fail("the wood is not grown");
+    grow_stems(STEMS);
     seed = gap_seed = 1;
     for (uint32_t j = 0; j < STEMS; j++) {
         name = next_name(wood, name, j);
@@ -191,9 +200,9 @@ static struct query pairs = {
     "",
     {W(1, 1), W(2, 3), V(0), N(12), V(1), V(2), N(12), V(1), V(2), N(10), V(3), W(3, 0), W(12, 1), V(3), V(1)}, 15};
 
-/* ---- measures: each is one piece of work by one of four, and answers its time */
+/* ---- measures: each is one piece of work by one of five, and answers its time */
 
-enum who { ENGINE, PEER, PORTABLE, SQLITE, ALL };
+enum who { ENGINE, FLOOR, PLAIN, PORTABLE, SQLITE, ALL };
 
 #ifdef PORTABLE_THERE
 enum { WITH_PORTABLE = 1 };
@@ -211,18 +220,20 @@ enum { WITH_PORTABLE = 0 };
 #define portable_grow 0
 #endif
 
-/* The calls of those that have them. */
+/* The calls of those that have them; C++ makes tables in the plain machine's place. A check of its own has no plan to be refused. */
 static const struct {
     __typeof__(sotjarn_open) *open;
     __typeof__(sotjarn_turn) *turn;
     __typeof__(sotjarn_merge) *merge;
     __typeof__(sotjarn_make) *make;
     __typeof__(sotjarn_grow) *grow;
-} calls[SQLITE] = {{sotjarn_open, sotjarn_turn, sotjarn_merge, sotjarn_make, sotjarn_grow},
-                   {plain_open, plain_turn, plain_merge, cpp_make, cpp_grow},
-                   {portable_open, portable_turn, portable_merge, portable_make, portable_grow}};
+    table_check *check;
+} calls[SQLITE] = {{sotjarn_open, sotjarn_turn, sotjarn_merge, sotjarn_make, sotjarn_grow, 0},
+                   {c_open, c_turn, c_merge, 0, 0, c_check},
+                   {plain_open, plain_turn, plain_merge, cpp_make, cpp_grow, plain_check},
+                   {portable_open, portable_turn, portable_merge, portable_make, portable_grow, 0}};
 
-#define TABLES rows, COLUMNS * COUNT, pos, COUNT, osp, COUNT
+#define TABLES rows, COLUMNS * count, pos, count, osp, count
 
 struct result {
     struct sotjarn_turned turned;
@@ -248,7 +259,7 @@ static double time_check(enum who w, const struct query *q, uint32_t quantum)
         found = run_sql("pragma integrity_check", 1, &sum);
         return now() - t;
     }
-    refused = w == PEER ? plain_check(TABLES) + 5 : calls[w].open(TABLES, 0, none, 1, state, SOTJARN_STATE_WORDS).refused;
+    refused = calls[w].check ? calls[w].check(TABLES) + 5 : calls[w].open(TABLES, 0, none, 1, state, SOTJARN_STATE_WORDS).refused;
     t = now() - t;
     if (refused != 5)
         fail("the tables are not accepted");
@@ -489,11 +500,9 @@ static void upload_walk(void)
 
 static double time_make(enum who w, const struct query *q, uint32_t quantum)
 {
-    struct made_tables *m = &made[w == SQLITE ? ENGINE : w];
+    struct made_tables *m = &made[w];
     double t;
     (void)q, (void)quantum;
-    if (w == SQLITE)
-        return 1e18;
     t = now();
     m->answer = calls[w].make(upload, COLUMNS * COUNT, m->rows, COLUMNS * COUNT, m->pos, COUNT, m->osp, COUNT, m->report, 2 * COUNT);
     t = now() - t;
@@ -505,12 +514,10 @@ static double time_make(enum who w, const struct query *q, uint32_t quantum)
 /* the same tables as of the wood's rows in their order, and no report */
 static double time_grow(enum who w, const struct query *q, uint32_t quantum)
 {
-    struct made_tables *m = &made[w == SQLITE ? ENGINE : w];
+    struct made_tables *m = &made[w];
     struct sotjarn_tables grown;
     double t;
     (void)q, (void)quantum;
-    if (w == SQLITE)
-        return 1e18;
     t = now();
     grown = calls[w].grow(1, STEMS, YEAR, m->rows, COLUMNS * COUNT, m->pos, COUNT, m->osp, COUNT);
     t = now() - t;
@@ -548,7 +555,8 @@ static void same_as(const struct result *a, const struct result *b, const char *
 
 static void same(void)
 {
-    same_as(&results[ENGINE], &results[PEER], "the engine and the C machine differ");
+    same_as(&results[ENGINE], &results[FLOOR], "the engine and the C floor differ");
+    same_as(&results[ENGINE], &results[PLAIN], "the engine and the plain C machine differ");
     if (WITH_PORTABLE)
         same_as(&results[ENGINE], &results[PORTABLE], "the proved and the portable engine differ");
 }
@@ -567,8 +575,8 @@ static uint64_t fields(const struct result *r, size_t g)
 static void same_merged(size_t words)
 {
     uint64_t all = 0;
-    if (memcmp(kept[ENGINE], kept[PEER], words * sizeof **kept))
-        fail("the engine and the C machine merge differently");
+    if (memcmp(kept[ENGINE], kept[FLOOR], words * sizeof **kept) || memcmp(kept[ENGINE], kept[PLAIN], words * sizeof **kept))
+        fail("the engine and a C machine merge differently");
     if (WITH_PORTABLE && memcmp(kept[ENGINE], kept[PORTABLE], words * sizeof **kept))
         fail("the proved and the portable engine merge differently");
     for (size_t i = 0; i < words; i++)
@@ -577,27 +585,41 @@ static void same_merged(size_t words)
         fail("SQLite merges to other rows");
 }
 
+/* whether one has what is measured */
+static int takes_part(enum who w, timer f)
+{
+    if (w == PORTABLE)
+        return WITH_PORTABLE;
+    if (f == time_make || f == time_grow)
+        return w != FLOOR && w != SQLITE;
+    return 1;
+}
+
+static void print_times(const char *name, uint32_t steps, timer f, const double *best)
+{
+    static const enum who COLUMN[ALL] = {ENGINE, FLOOR, PLAIN, SQLITE, PORTABLE};
+    printf("%s\t%s\t%u", of, name, steps);
+    for (int i = 0; i < ALL; i++)
+        if (takes_part(COLUMN[i], f))
+            printf("\t%.1f", best[COLUMN[i]]);
+        else
+            printf("\t-");
+    printf("\n");
+    fflush(stdout);
+}
+
 static void measure(const char *name, timer f, const struct query *q, uint32_t quantum)
 {
-    double best[ALL] = {1e18, 1e18, 1e18, 1e18}, start = now();
-    int least = seconds > 0 ? 12 : 1;
+    double best[ALL] = {1e18, 1e18, 1e18, 1e18, 1e18}, start = now();
+    int least = seconds > 0 ? 12 : 1, in_steps = f == time_turn || f == time_pairs || f == time_in_turns;
     for (int round = 0; round < least || (now() - start < seconds * 1e9 && round < 2000); round++)
         for (int i = 0; i < 2 * ALL; i++) { /* each twice, so that the second finds its own words in the caches */
             enum who w = (enum who)(i / 2);
-            double t = w == PORTABLE && !WITH_PORTABLE ? best[w] : f(w, q, quantum);
+            double t = takes_part(w, f) ? f(w, q, quantum) : best[w];
             if (t < best[w])
                 best[w] = t;
         }
-    printf("%s\t%s\t%u\t%.0f\t%.0f\t", of, name, f == time_turn || f == time_pairs || f == time_in_turns ? results[0].turned.steps : 0, best[ENGINE], best[PEER]);
-    if (f != time_make && f != time_grow)
-        printf("%.0f\t", best[SQLITE]);
-    else
-        printf("-\t");
-    if (WITH_PORTABLE)
-        printf("%.0f\n", best[PORTABLE]);
-    else
-        printf("-\n");
-    fflush(stdout);
+    print_times(name, in_steps ? results[0].turned.steps : 0, f, best);
 }
 
 static void measure_turn(const char *name, const struct query *q, uint32_t quantum, uint64_t expected)
@@ -636,7 +658,7 @@ static void measure_make(const char *name, timer f, void (*put)(void), size_t ke
     memset(made, 0, sizeof made);
     put();
     measure(name, f, 0, 0);
-    same_made(PEER, "the engine and C++ make different tables");
+    same_made(PLAIN, "the engine and C++ make different tables");
     if (WITH_PORTABLE)
         same_made(PORTABLE, "the proved and the portable engine make different tables");
     if (made[ENGINE].answer.pos_words != kept_rows || made[ENGINE].answer.report_words != 2 * (COUNT - kept_rows))
@@ -654,7 +676,7 @@ static void measure_early(void)
         if (t < best)
             best = t;
     }
-    printf("%s\ttop 10, SQLite by its index\t0\t-\t-\t%.0f\t-\n", of, best);
+    printf("%s\ttop 10, SQLite by its index\t0\t-\t-\t-\t%.1f\t-\n", of, best);
 }
 
 static void measure_wood(enum wood wood)
@@ -682,10 +704,10 @@ static void measure_wood(enum wood wood)
     of = "-";
 }
 
-int main(int count, char **words)
+int main(int words, char **word)
 {
-    if (count > 1)
-        seconds = atof(words[1]);
+    if (words > 1)
+        seconds = atof(word[1]);
     measure_wood(DENSE);
     make_lists();
     fill_lists();
