@@ -306,6 +306,39 @@ static double time_turn(enum who w, const struct query *q, uint32_t quantum)
     return t;
 }
 
+enum { CALLS = 1000 };
+
+/* one of many short calls: a turn from the same state again and again, which is put back before each */
+static double time_short_turn(enum who w, const struct query *q, uint32_t quantum)
+{
+    uint32_t start[SOTJARN_STATE_WORDS] = {0}, state[SOTJARN_STATE_WORDS];
+    size_t words = open_by(w, q, start).words;
+    struct result *r = &results[w];
+    double t = now();
+    for (int i = 0; i < CALLS; i++) {
+        memcpy(state, start, sizeof state);
+        r->turned = calls[w].turn(TABLES, 0, q->plan, q->words, state, SOTJARN_STATE_WORDS, words, quantum, state, 0, r->output, OUTPUT);
+    }
+    t = (now() - t) / CALLS;
+    if (r->turned.ending == SOTJARN_REFUSED)
+        fail("a turn is refused");
+    return t;
+}
+
+static double time_short_open(enum who w, const struct query *q, uint32_t quantum)
+{
+    uint32_t state[SOTJARN_STATE_WORDS];
+    struct sotjarn_written r = {0, 0};
+    double t = now();
+    (void)quantum;
+    for (int i = 0; i < CALLS; i++)
+        r = open_by(w, q, state);
+    t = (now() - t) / CALLS;
+    if (r.refused)
+        fail("an opening is refused");
+    return t;
+}
+
 /* the same number of pairs, gathered by SQLite */
 static double time_pairs(enum who w, const struct query *q, uint32_t quantum)
 {
@@ -592,7 +625,7 @@ static int takes_part(enum who w, timer f)
         return WITH_PORTABLE;
     if (f == time_make || f == time_grow)
         return w != FLOOR && w != SQLITE;
-    return 1;
+    return w != SQLITE || (f != time_short_turn && f != time_short_open);
 }
 
 static void print_times(const char *name, uint32_t steps, timer f, const double *best)
@@ -611,7 +644,7 @@ static void print_times(const char *name, uint32_t steps, timer f, const double 
 static void measure(const char *name, timer f, const struct query *q, uint32_t quantum)
 {
     double best[ALL] = {1e18, 1e18, 1e18, 1e18, 1e18}, start = now();
-    int least = seconds > 0 ? 12 : 1, in_steps = f == time_turn || f == time_pairs || f == time_in_turns;
+    int least = seconds > 0 ? 12 : 1, in_steps = f == time_turn || f == time_pairs || f == time_in_turns || f == time_short_turn;
     for (int round = 0; round < least || (now() - start < seconds * 1e9 && round < 2000); round++)
         for (int i = 0; i < 2 * ALL; i++) { /* each twice, so that the second finds its own words in the caches */
             enum who w = (enum who)(i / 2);
@@ -679,6 +712,15 @@ static void measure_early(void)
     printf("%s\ttop 10, SQLite by its index\t0\t-\t-\t-\t%.1f\t-\n", of, best);
 }
 
+/* over few rows, where the check of the tables does not hide what a call takes besides */
+static void measure_small(uint32_t stems, const char *turn, const char *opening)
+{
+    grow_stems(stems);
+    measure(turn, time_short_turn, &whole, 1);
+    same();
+    measure(opening, time_short_open, &whole, 0);
+}
+
 static void measure_wood(enum wood wood)
 {
     of = WOOD[wood];
@@ -719,6 +761,9 @@ int main(int words, char **word)
     measure_make("tables of 65,536 rows, sorted before", time_make, upload_sorted, COUNT);
     measure_make("tables of 65,536 rows, a fourth dropped", time_make, upload_walk, COUNT - COUNT / 4);
     measure_make("tables of 32,768 stems, grown", time_grow, upload_sorted, COUNT);
+    measure_small(0, "turn of 1 step over 0 rows", "opening over 0 rows");
+    measure_small(50, "turn of 1 step over 100 rows", "opening over 100 rows");
+    measure_small(500, "turn of 1 step over 1,000 rows", "opening over 1,000 rows");
     measure_wood(GAPS);
     measure_wood(FAR);
     return 0;

@@ -8,6 +8,7 @@ TARGETS = {'tables of ': 1.3, 'merge of ': 1.5, '': 1.0}  # times the plain C ma
 FIRST, OTHERS = 'dense', ('gaps', 'far cluster')          # woods
 ONE = 'turn of 1 step'
 MANY_TURNS = re.compile('in turns|pruned')                # measures that check the tables many times
+SMALL = re.compile(' over [0-9,]+ rows$')                 # measures without a target: no C machine tests a plan, which shows there
 BEGIN, END = '<!-- measured: begin -->\n', '<!-- measured: end -->\n'
 
 # One line of what was measured, in nanoseconds, None where there is nothing.
@@ -31,6 +32,8 @@ def read(path):
 def span(ns):
     if ns is None:
         return '–'
+    if ns < 1e4:
+        return f'{ns:,.0f} ns'
     if ns < 1e6:
         return f'{ns / 1e3:.1f} µs'
     return f'{ns / 1e6:.2f} ms'
@@ -148,7 +151,7 @@ def missed(wood, found):
     lines = []
     for m in found:
         alone = steps_alone(found, m)
-        if m.engine and m.plain and m.engine > target(m.name) * m.plain:
+        if m.engine and m.plain and not SMALL.search(m.name) and m.engine > target(m.name) * m.plain:
             lines.append(f'{wood}, {m.name}: {m.engine / m.plain:.2f} times that in plain C or C++')
         if alone and alone[0] > target(m.name) * alone[2]:
             lines.append(f'{wood}, {m.name}: its steps alone are {alone[0] / alone[2]:.2f} times those of the plain C machine')
