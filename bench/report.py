@@ -45,16 +45,17 @@ def ratio(a, b):
 
 def steps_alone(found, measure):
     """Nanoseconds a step of the engine, the floor and the plain machine: what a turn takes more than one of one step, by the further steps. None
-    where the steps are too few to tell, or are those of many turns."""
+    where the steps are too few to tell, or are those of many turns; so few steps of the floor's are lost in the check."""
     if measure.steps < 1000 or MANY_TURNS.search(measure.name):
         return None
     one = next(m for m in found if m.name == ONE)
-    return tuple((a - b) / (measure.steps - 1) for a, b in zip(measure[2:5], one[2:5]))
+    engine, floor, plain = ((a - b) / (measure.steps - 1) for a, b in zip(measure[2:5], one[2:5]))
+    return engine, floor if measure.steps > 1000 else None, plain
 
 
 def step_ratios(alone):
     """The engine's steps by the floor's, and by the plain machine's."""
-    return f'{alone[0] / alone[1]:.2f}, {alone[0] / alone[2]:.2f}' if alone else '–'
+    return f'{ratio(alone[0], alone[1])}, {ratio(alone[0], alone[2])}' if alone else '–'
 
 
 def row(cells):
@@ -66,7 +67,7 @@ def table(found):
                   'portable / Sotjarn', 'ns a step: Sotjarn, floor, plain', 'steps alone / floor, / plain']), '|' + '---|' * 13]
     for m in found:
         alone = steps_alone(found, m)
-        each = ', '.join(f'{ns:.1f}' for ns in alone) if alone else '–'
+        each = ', '.join('–' if ns is None else f'{ns:.1f}' for ns in alone) if alone else '–'
         lines.append(row([m.name, f'{m.steps:,}' if m.steps else '–', span(m.engine), span(m.floor), span(m.plain), span(m.sqlite), span(m.portable),
                           ratio(m.engine, m.floor), ratio(m.engine, m.plain), ratio(m.sqlite, m.engine), ratio(m.portable, m.engine), each,
                           step_ratios(alone)]))
