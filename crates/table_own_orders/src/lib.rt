@@ -1,104 +1,70 @@
-// The rows by themselves: tests 2, 23 and 3 in one pass, which says whether all of them pass.
-use tables::COLUMNS;
-use tables::OBJECT;
-use tables::Order;
-use tables::PREDICATE;
+// The rows by themselves: one pass over their order, test 3.
+use std::num::wrapping_add_u64;
 use tables::RowNumber;
-use tables::SUBJECT;
-use tables::YEAR;
-use tables::fields;
-use tables::part;
-use words::MOST_YEAR;
-use words::Term;
-use words::VALUES;
+use walks::KEYS;
+use walks::first_of;
+use walks::key_at;
+use walks::own_keys;
 ghost use mathlib.Core.Path.{_≡_};
-ghost use mathlib.Core.Bool.{true, cond};
+ghost use mathlib.Core.Bool.{true, false, cond};
+ghost use mathlib.Core.List.{[]};
 ghost use Prim.Native.Nat.{_*_, _<_};
 ghost use lib.Dec.{ltb};
-ghost use lib.ListN.{length};
+ghost use lib.ListN.{length, getD};
 ghost use Rattle.words.specs.Sequences.{lexBefore};
-ghost use Rattle.tables.specs.Tables.{columnCount};
-ghost use Rattle.walks.specs.Walk.{OneYear};
-ghost use Rattle.table_own_orders.specs.OwnOrder.{rowsFine, boundsFine};
+ghost use Rattle.tables.specs.declared.Order.the-variants.{Spo};
+ghost use Rattle.tables.specs.Tables.{tablesOf, columnCount, ascends};
+ghost use Rattle.walks.specs.Walk.{OneYear, mostLong};
+ghost use Rattle.table_own_orders.specs.OwnOrder.{rowsFine};
 
-// What one pass over the rows finds: whether they pass the tests that are made of them alone, and whether the first and the last have one year.
+// What one pass over the rows finds: whether they ascend, and whether the first and the last have one year.
 pub struct Found {
-    pub fine: bool,
+    pub up: bool,
     pub alike: bool,
 }
 
-// The greater of two words.
-fn greater(a: u32, b: u32) -> u32
-    ensures { λ r. ⌜ r ≡ cond (ltb a b) b a ⌝ }
+// 1 where a long word is less than another, else 0.
+fn one_if_less(a: u64, b: u64) -> u64
+    ensures { λ r. ⌜ r ≡ cond (ltb a b) 1 0 ⌝ }
 {
-    if a < b { b } else { a }
+    if a < b { 1 } else { 0 }
 }
 
-// Whether a row's words come before another's.
-fn words_before(a: [u32; COLUMNS], b: [u32; COLUMNS]) -> bool
-    ensures { λ r. ⌜ r ≡ lexBefore a b ⌝ }
+// Whether a row's two long words come before another's, by one comparison and no branch: the first is less than the other's, or than one more
+// than it where the second is less. Where the other's first is the greatest there is, which no right row has, the answer may be no.
+fn keys_before(a: [u64; KEYS], b: [u64; KEYS]) -> bool
+    ensures { λ r. ⌜ (r ≡ true → lexBefore a b ≡ true) ⌝ }
+    ensures { λ r. ⌜ (r ≡ false → getD b 0 0 < mostLong → lexBefore a b ≡ false) ⌝ }
 {
-    let mut column: usize = 0;
-    while column < COLUMNS {
-        let earlier = part(a, column);
-        let later = part(b, column);
-        if earlier < later {
-            return true;
-        }
-        if later < earlier {
-            return false;
-        }
-        column += 1;
-    }
-    false
+    let further = one_if_less(key_at(a, 1), key_at(b, 1));
+    key_at(a, 0) < wrapping_add_u64(key_at(b, 0), further)
 }
 
-// Whether the words of rows that ascend are right, by the first and the last year, the greatest name and the greatest object.
-fn bounds_right(first: u32, last: u32, name: u32, object: u32) -> bool
-    ensures { λ r. ⌜ r ≡ boundsFine first last name object ⌝ }
-{
-    if first < Term::NUMBER * VALUES + 1 {
-        return false;
-    }
-    if last > Term::NUMBER * VALUES + MOST_YEAR {
-        return false;
-    }
-    if name >= VALUES {
-        return false;
-    }
-    object < Term::VARIABLE * VALUES
-}
-
-// Whether the rows pass tests 2, 23 and 3, and whether the first and the last have one year. The greatest name and the greatest object
-// stand for all, and the years that ascend lie between the first and the last: nothing else is asked of a row than to come after the one
-// before it.
+// Whether the rows ascend, and whether the first and the last have one year. Rows that do not pass some test of 2, 23 and 3.
 pub fn rows_found(rows: &[u32], count: u32) -> Found
     requires { ⌜ count * columnCount ≡ length (now rows) ⌝ }
     requires { ⌜ 0 < count ⌝ }
-    ensures { λ r. ⌜ r .fine ≡ rowsFine (now (rows .entry)) ⌝ }
-    ensures { λ r. ⌜ (r .fine ≡ true → r .alike ≡ true → OneYear (now (rows .entry))) ⌝ }
+    ensures { λ r. ⌜ (r .up ≡ true → ascends Spo (tablesOf (now (rows .entry)) [] []) ≡ true) ⌝ }
+    ensures { λ r. ⌜ (r .up ≡ false → rowsFine (now (rows .entry)) ≡ false) ⌝ }
+    ensures { λ r. ⌜ (r .up ≡ true → r .alike ≡ true → OneYear (now (rows .entry))) ⌝ }
 {
-    let mut last = fields(rows, Order::Spo, RowNumber(0));
-    let first = part(last, YEAR);
-    let mut name = greater(part(last, SUBJECT), part(last, PREDICATE));
-    let mut object = part(last, OBJECT);
+    let mut last = own_keys(rows, RowNumber(0));
+    let first = first_of(key_at(last, 0));
     let mut place: u32 = 1;
     while place < count {
-        let next = fields(rows, Order::Spo, RowNumber(place));
-        if !words_before(last, next) {
+        let next = own_keys(rows, RowNumber(place));
+        if !keys_before(last, next) {
             return Found {
-                fine: false,
+                up: false,
                 alike: false,
             };
         }
-        name = greater(name, greater(part(next, SUBJECT), part(next, PREDICATE)));
-        object = greater(object, part(next, OBJECT));
         last = next;
         place += 1;
     }
-    let end = part(last, YEAR);
+    let end = first_of(key_at(last, 0));
     Found {
-        fine: bounds_right(first, end, name, object),
+        up: true,
         alike: first == end,
     }
 }

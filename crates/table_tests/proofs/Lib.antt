@@ -1,2 +1,4 @@
 pub mod RowKinds
 pub mod Refusing
+pub mod Covering
+pub mod Ends

@@ -6,9 +6,8 @@ use mathlib.Core.Bool.{Bool, true, cond, _&&_}
 use mathlib.Core.List.{List, []}
 use lib.ListN.{length, getD}
 use Rattle.words.specs.Sequences.{allBelow}
-use Rattle.tables.specs.Tables.{tablesOf, columnCount, yearColumn, fieldOf, rowRight, yearRight, kindsRight, yearsRight}
+use Rattle.tables.specs.Tables.{tablesOf, columnCount, yearColumn, fieldOf, rowRight, yearRight, kindsRight, yearsRight, ascends}
 use Rattle.tables.specs.declared.Order.the-variants.{Spo}
-use Rattle.walks.specs.Walk.{rightUpto, orderRight}
 use Rattle.table_own_orders.specs.OwnOrder.{rowsFine}
 use Rattle.table_tests.specs.Refusals.{rowsRefusal}
 
@@ -30,9 +29,13 @@ module _ (rows : List ℕ) where
 
   pub fine-alone : (pos osp : List ℕ) →
       let t = tablesOf rows pos osp in
-      rowsFine rows ≡ (kindsRight t && (yearsRight t && orderRight t Spo))
-  unfolding kindsRight yearsRight rightUpto
+      rowsFine rows ≡ (kindsRight t && (yearsRight t && ascends Spo t))
+  unfolding kindsRight yearsRight ascends
   fine-alone pos osp = refl
+
+  pub own-alone : (pos osp : List ℕ) → ascends Spo (tablesOf rows [] []) ≡ ascends Spo (tablesOf rows pos osp)
+  unfolding ascends
+  own-alone pos osp = refl
 
   pub kinds-none : true ≡ kindsUpto rows 0
   unfolding kindsUpto allBelow

@@ -13,3 +13,8 @@ refusalAfter zero = 3
 refusalAfter (suc zero) = 4
 refusalAfter (suc (suc zero)) = 4
 refusalAfter (suc (suc (suc n))) = 0
+
+-- the same where the rows by themselves fail a test, which comes before
+abbrev pub refusalWith : ℕ → ℕ → ℕ
+refusalWith zero orders = refusalAfter orders
+refusalWith (suc n) orders = suc n

@@ -3,17 +3,30 @@ use table_own_orders::rows_found;
 use table_walks::walk;
 use tables::COLUMNS;
 use tables::MOST_ROWS;
+use tables::OBJECT;
+use tables::PREDICATE;
+use tables::RowNumber;
+use tables::SUBJECT;
 use tables::YEAR;
 use tables::both;
+use tables::field;
 use tables::row_right;
 use tables::year_right;
+use words::MOST_YEAR;
+use words::Term;
+use words::VALUES;
 ghost use mathlib.Core.Path.{_≡_};
+ghost use mathlib.Core.Bool.{true, cond};
 ghost use mathlib.Core.List.{[]};
-ghost use Prim.Native.Nat.{_%_};
+ghost use Prim.Native.Nat.{_%_, _<_};
 ghost use lib.ListN.{length};
 ghost use Rattle.words.specs.Tests.{firstFailing, numberOf};
-ghost use Rattle.tables.specs.Tables.{tablesOf, columnCount, lengthsRight, tableTests};
-ghost use Rattle.table_tests.specs.Refusals.{rowsRefusal, refusalAfter};
+ghost use Rattle.tables.specs.declared.Order.the-variants.{Spo};
+ghost use Rattle.tables.specs.Tables.{tablesOf, columnCount, rowCount, lengthsRight, tableTests};
+ghost use Rattle.tables.specs.Right.{Sized};
+ghost use Rattle.walks.specs.Walk.{orderCount, orderRight, rightOrders};
+ghost use Rattle.table_tests.specs.Refusals.{rowsRefusal, refusalAfter, refusalWith};
+ghost use Rattle.table_tests.specs.Ends.{boundsFine, endsFine, LastNamed, Passing};
 
 // The numbers of the tests on tables.
 const WRONG_LENGTHS: u32 = 1;
@@ -27,6 +40,28 @@ const WRONG_ROWS: u32 = 3;
 const WRONG_LISTS: u32 = 4;
 
 const ACCEPTED: u32 = 0;
+
+// How many orders there are.
+const ALL_ORDERS: u32 = 3;
+
+// Whether the words of a year, a subject, a predicate and an object are right.
+fn bounds_right(year: u32, subject: u32, predicate: u32, object: u32) -> bool
+    ensures { λ r. ⌜ r ≡ boundsFine year subject predicate object ⌝ }
+{
+    if year < Term::NUMBER * VALUES + 1 {
+        return false;
+    }
+    if year > Term::NUMBER * VALUES + MOST_YEAR {
+        return false;
+    }
+    if subject >= VALUES {
+        return false;
+    }
+    if predicate >= VALUES {
+        return false;
+    }
+    object < Term::VARIABLE * VALUES
+}
 
 // Whether the lengths of lent tables fit each other and are not too great.
 fn lengths_right(rows: &[u32], pos: &[u32], osp: &[u32]) -> bool
@@ -80,6 +115,66 @@ fn refusal_after(orders: u32) -> u32
     }
 }
 
+// Whether the year of the last row and the greatest subject, predicate and object are right: where all orders are, these stand last in the rows,
+// in POS and in OSP.
+fn ends_right(rows: &[u32], pos: &[u32], osp: &[u32]) -> bool
+    requires { ⌜ Sized (tablesOf (now rows) (now pos) (now osp)) ⌝ }
+    requires { ⌜ 0 < rowCount (tablesOf (now rows) (now pos) (now osp)) ⌝ }
+    requires { ⌜ LastNamed (tablesOf (now rows) (now pos) (now osp)) ⌝ }
+    ensures { λ r. ⌜ r ≡ endsFine (tablesOf (now (rows .entry)) (now (pos .entry)) (now (osp .entry))) ⌝ }
+{
+    let last = pos.len() - 1;
+    let own = RowNumber(last as u32);
+    let by_predicate = RowNumber(pos[last]);
+    let by_object = RowNumber(osp[last]);
+    let year = field(rows, own, YEAR);
+    let subject = field(rows, own, SUBJECT);
+    let predicate = field(rows, by_predicate, PREDICATE);
+    let object = field(rows, by_object, OBJECT);
+    bounds_right(year, subject, predicate, object)
+}
+
+// Whether tables whose orders were walked pass by what stands last in them. Only where there is one year: else no is said, which says nothing.
+fn passes(rows: &[u32], pos: &[u32], osp: &[u32], alike: bool, orders: u32) -> bool
+    requires { ⌜ Sized (tablesOf (now rows) (now pos) (now osp)) ⌝ }
+    requires { ⌜ 0 < rowCount (tablesOf (now rows) (now pos) (now osp)) ⌝ }
+    requires { ⌜ (orders ≡ orderCount → LastNamed (tablesOf (now rows) (now pos) (now osp))) ⌝ }
+    ensures { λ r. ⌜ (r ≡ true → Passing alike orders (tablesOf (now (rows .entry)) (now (pos .entry)) (now (osp .entry)))) ⌝ }
+{
+    if !alike {
+        return false;
+    }
+    if orders != ALL_ORDERS {
+        return false;
+    }
+    ends_right(rows, pos, osp)
+}
+
+// The number of the test that fails first where so many orders are right: kinds and years are looked at by themselves, and come before.
+fn first_refusal(rows: &[u32], orders: u32) -> u32
+    requires { ⌜ length (now rows) % columnCount ≡ 0 ⌝ }
+    ensures { λ r. ⌜ r ≡ refusalWith (rowsRefusal (tablesOf (now (rows .entry)) [] [])) orders ⌝ }
+{
+    let refusal = rows_refusal(rows);
+    if refusal != ACCEPTED {
+        return refusal;
+    }
+    refusal_after(orders)
+}
+
+// How many orders are right before the first that is not, the rows' own first, of which it is known.
+fn orders_right(rows: &[u32], pos: &[u32], osp: &[u32], up: bool, alike: bool) -> u32
+    requires { ⌜ Sized (tablesOf (now rows) (now pos) (now osp)) ⌝ }
+    requires { ⌜ 0 < rowCount (tablesOf (now rows) (now pos) (now osp)) ⌝ }
+    requires { ⌜ (up ≡ true → orderRight alike (tablesOf (now rows) (now pos) (now osp)) Spo ≡ true) ⌝ }
+    ensures { λ r. ⌜ r ≡ cond up (rightOrders alike (tablesOf (now (rows .entry)) (now (pos .entry)) (now (osp .entry)))) 0 ⌝ }
+{
+    if !up {
+        return 0;
+    }
+    walk(rows, pos, osp, alike)
+}
+
 // The number of the first test that lent tables fail, 0 where they pass all.
 pub fn check(rows: &[u32], pos: &[u32], osp: &[u32]) -> u32
     ensures { λ r. ⌜ r ≡ numberOf (firstFailing (tableTests (tablesOf (now (rows .entry)) (now (pos .entry)) (now (osp .entry))))) ⌝ }
@@ -92,12 +187,9 @@ pub fn check(rows: &[u32], pos: &[u32], osp: &[u32]) -> u32
     }
     let count = pos.len() as u32;
     let found = rows_found(rows, count);
-    if found.fine {
-        return refusal_after(walk(rows, pos, osp, found.alike));
+    let orders = orders_right(rows, pos, osp, found.up, found.alike);
+    if passes(rows, pos, osp, found.alike, orders) {
+        return ACCEPTED;
     }
-    let refusal = rows_refusal(rows);
-    if refusal != ACCEPTED {
-        return refusal;
-    }
-    WRONG_ROWS
+    first_refusal(rows, orders)
 }

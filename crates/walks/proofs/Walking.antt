@@ -22,24 +22,15 @@ third-order zero n m = absurd (n refl)
 third-order (suc zero) n m = absurd (m refl)
 third-order (suc (suc k)) n m = refl
 
--- ---- the year that a row's own is compared with: where all are alike its own, else that of the row before it
-pub year-apart : (alike : Bool) (own before : ℕ) → (cond alike own before ≡ own → ⊥) → cond alike own before ≡ before
-year-apart true own before h = absurd (h refl)
-year-apart false own before h = refl
-
-pub year-same : (alike : Bool) (own before : ℕ) → cond alike own before ≡ own → (alike ≡ true → before ≡ own) → before ≡ own
-year-same true own before e f = f refl
-year-same false own before e f = e
-
-module _ (t : Tables) (o : Order) where
+module _ (alike : Bool) (t : Tables) (o : Order) where
   abbrev names : ℕ → Bool
   names place = ltb (rowAt o t place) (rowCount t)
 
   abbrev climbs : ℕ → Bool
-  climbs place = lexBefore (keysAt o t place) (keysAt o t (suc place))
+  climbs place = lexBefore (keysAt alike o t place) (keysAt alike o t (suc place))
 
   -- ---- a place that was read
-  module _ (place : ℕ) (r : Reading) (e : r ≡ readingAt t o place) where
+  module _ (place : ℕ) (r : Reading) (e : r ≡ readingAt alike t o place) where
     read-cases : (b : Bool) → names place ≡ b → r .named ≡ b
     read-cases true p = ap (λ x. x .named) e ∙ rw p
     read-cases false p = ap (λ x. x .named) e ∙ rw p
@@ -47,26 +38,26 @@ module _ (t : Tables) (o : Order) where
     pub read-row : r .named ≡ true → rowAt o t place < rowCount t
     read-row h = ltb-true _ _ (sym (read-cases (names place) refl) ∙ h)
 
-    pub read-keys : r .named ≡ true → r .keys ≡ keysAt o t place
+    pub read-keys : r .named ≡ true → r .keys ≡ keysAt alike o t place
     read-keys h = ap (λ x. x .keys) e ∙ rw (sym (read-cases (names place) refl) ∙ h)
 
     pub read-none : r .named ≡ false → rowCount t ≤ rowAt o t place
     read-none h = ltb-false _ _ (sym (read-cases (names place) refl) ∙ h)
 
   -- ---- what a place adds
-  pub upto-none : rightUpto t o 0 ≡ true
+  pub upto-none : rightUpto alike t o 0 ≡ true
   unfolding rightUpto allBelow
   upto-none = refl
 
-  pub upto-first : rowAt o t 0 < rowCount t → rightUpto t o 1 ≡ true
+  pub upto-first : rowAt o t 0 < rowCount t → rightUpto alike t o 1 ≡ true
   unfolding rightUpto allBelow
   upto-first h = rw (lt-ltb (rowAt o t 0) (rowCount t) h)
 
-  pub upto-named : (n : ℕ) → rightUpto t o n ≡ true → (p : ℕ) → p < n → rowAt o t p < rowCount t
+  pub upto-named : (n : ℕ) → rightUpto alike t o n ≡ true → (p : ℕ) → p < n → rowAt o t p < rowCount t
   unfolding rightUpto
   upto-named n e p h = ltb-true _ _ (all-at names n (and-left (allBelow names n) (allBelow climbs (n - 1)) e) p h)
 
-  upto-more : (p : ℕ) → rightUpto t o (suc p) ≡ true → names (suc p) ≡ true → climbs p ≡ true → rightUpto t o (suc (suc p)) ≡ true
+  upto-more : (p : ℕ) → rightUpto alike t o (suc p) ≡ true → names (suc p) ≡ true → climbs p ≡ true → rightUpto alike t o (suc (suc p)) ≡ true
   unfolding rightUpto allBelow
   upto-more p e n c =
       let a : suc p - 1 ≡ p = omega arith in
@@ -77,19 +68,19 @@ module _ (t : Tables) (o : Order) where
       (and-both (allBelow names (suc p)) (names (suc p)) (and-left (allBelow names (suc p)) (allBelow climbs p) e₁) n)
       (and-both (allBelow climbs p) (climbs p) (and-right (allBelow names (suc p)) (allBelow climbs p) e₁) c))
 
-  pub upto-next : (place : ℕ) → 1 ≤ place → rightUpto t o place ≡ true → rowAt o t place < rowCount t
-      → lexBefore (keysAt o t (place - 1)) (keysAt o t place) ≡ true → rightUpto t o (place + 1) ≡ true
+  pub upto-next : (place : ℕ) → 1 ≤ place → rightUpto alike t o place ≡ true → rowAt o t place < rowCount t
+      → lexBefore (keysAt alike o t (place - 1)) (keysAt alike o t place) ≡ true → rightUpto alike t o (place + 1) ≡ true
   upto-next zero h e n c = absurd (omega arith)
   upto-next (suc p) h e n c =
       let a : suc p - 1 ≡ p = omega arith in
       rw (add-one (suc p)) (upto-more p e (lt-ltb _ _ n) (rw a at c))
 
   -- ---- what a fault says
-  pub unnamed-fault : (place : ℕ) → place < rowCount t → rowCount t ≤ rowAt o t place → orderRight t o ≡ false
+  pub unnamed-fault : (place : ℕ) → place < rowCount t → rowCount t ≤ rowAt o t place → orderRight alike t o ≡ false
   unfolding rightUpto
   unnamed-fault place h n = rw (fails-below names (rowCount t) place h (le-ltb _ _ n))
 
-  climbs-not : (p : ℕ) → suc p < rowCount t → climbs p ≡ false → orderRight t o ≡ false
+  climbs-not : (p : ℕ) → suc p < rowCount t → climbs p ≡ false → orderRight alike t o ≡ false
   unfolding rightUpto
   climbs-not p h e = rw (fails-below climbs (rowCount t - 1) p (omega arith) e) (no-more (allBelow names (rowCount t)))
     where
@@ -98,45 +89,40 @@ module _ (t : Tables) (o : Order) where
       no-more false = refl
 
   pub descent-fault : (place : ℕ) → 1 ≤ place → place < rowCount t
-      → lexBefore (keysAt o t (place - 1)) (keysAt o t place) ≡ false → orderRight t o ≡ false
+      → lexBefore (keysAt alike o t (place - 1)) (keysAt alike o t place) ≡ false → orderRight alike t o ≡ false
   descent-fault zero l h e = absurd (omega arith)
   descent-fault (suc p) l h e = let a : suc p - 1 ≡ p = omega arith in climbs-not p h (rw a at e)
 
 -- ---- from order to order
-module _ (t : Tables) where
-  -- the rows' own is right by its test
-  pub order-rows : orderRight t Spo ≡ ascends Spo t
-  unfolding rightUpto ascends keysOf
-  order-rows = rw (at-all (λ place. ltb place (rowCount t)) (rowCount t) (λ i h. lt-ltb i (rowCount t) h))
-
+module _ (alike : Bool) (t : Tables) where
   -- the orders before a number are right
   pub record RightBefore (turn : ℕ) : Type 0 where
     pub known : turn ≤ orderCount
-    pub right : (k : ℕ) → k < turn → orderRight t (orderAt k) ≡ true
+    pub right : (k : ℕ) → k < turn → orderRight alike t (orderAt k) ≡ true
 
   pub orders-none : RightBefore 0
   orders-none = record { known = omega arith; right = λ k h. absurd (omega arith) }
 
-  pub orders-next : (turn : ℕ) → RightBefore turn → turn < orderCount → orderRight t (orderAt turn) ≡ true → RightBefore (turn + 1)
+  pub orders-next : (turn : ℕ) → RightBefore turn → turn < orderCount → orderRight alike t (orderAt turn) ≡ true → RightBefore (turn + 1)
   orders-next turn b h e =
       record {
         known = omega arith;
         right = λ k l.
             elim (decLt k turn) [
               | yes m ↦ b .right k m
-              | no m ↦ subst (λ n. orderRight t (orderAt n) ≡ true) (let x : turn ≡ k = omega arith in x) e
+              | no m ↦ subst (λ n. orderRight alike t (orderAt n) ≡ true) (let x : turn ≡ k = omega arith in x) e
             ];
       }
 
   -- the first order that is not right; none
-  pub orders-fault : (turn : ℕ) → RightBefore turn → turn < orderCount → orderRight t (orderAt turn) ≡ false → rightOrders t ≡ turn
+  pub orders-fault : (turn : ℕ) → RightBefore turn → turn < orderCount → orderRight alike t (orderAt turn) ≡ false → rightOrders alike t ≡ turn
   unfolding rightOrders
   orders-fault zero b h e = rw e
   orders-fault (suc zero) b h e = rw (b .right 0 (omega arith), e)
   orders-fault (suc (suc zero)) b h e = rw (b .right 0 (omega arith), b .right 1 (omega arith), e)
   orders-fault (suc (suc (suc n))) b h e = absurd (omega arith)
 
-  pub orders-all : (turn : ℕ) → RightBefore turn → orderCount ≤ turn → rightOrders t ≡ turn
+  pub orders-all : (turn : ℕ) → RightBefore turn → orderCount ≤ turn → rightOrders alike t ≡ turn
   unfolding rightOrders
   orders-all turn b h =
       let k = b .known in

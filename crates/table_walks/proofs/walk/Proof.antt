@@ -1,7 +1,7 @@
 -- `table_walks::walk` meets its contract. The invariants: the orders before `turn` are right; of this order the places before
 -- `place` are, and `last` has the keys of the one before it; those before `column` are the same in both rows.
 use Prim.Native.Nat.{ℕ, _+_, _-_, _≤_, _<_}
-use mathlib.Core.Path.{_≡_, sym, ap, ap₂, _∙_}
+use mathlib.Core.Path.{_≡_, refl, sym, ap, ap₂, _∙_}
 use mathlib.Core.Bool.{Bool, true, false}
 use mathlib.Core.List.{List}
 use mathlib.Core.Logic.{⊎-elim}
@@ -11,35 +11,34 @@ use lib.ListN.{length, drop, getD}
 use borrow.Author.Tests.{not-true, not-false}
 use Rattle.words.specs.Sequences.{lexBefore}
 use Rattle.tables.specs.declared.Order.{Order}
-use Rattle.tables.specs.Tables.{Tables, tablesOf, columnCount, rowCount, rowAt}
+use Rattle.tables.specs.Tables.{Tables, tablesOf, rowCount, rowAt}
 use Rattle.tables.proofs.Sides.{from-less, from-same, from-more, from-end}
-use Rattle.walks.specs.Walk.{orderCount, keysAt, orderRight, rightUpto, rightOrders}
-use Rattle.walks.proofs.Keys.{keys-length, key-year}
-use Rattle.walks.proofs.Walking.{read-row, read-keys, read-none, upto-first, upto-next, upto-named, unnamed-fault, descent-fault}
-use Rattle.walks.proofs.Walking.{year-apart, year-same}
+use Rattle.walks.specs.Walk.{orderCount, keyCount, keysAt, orderRight, rightUpto, rightOrders}
+use Rattle.walks.proofs.Keys.{keys-length}
+use Rattle.walks.proofs.Walking.{read-row, read-keys, read-none, upto-first, upto-next, unnamed-fault, descent-fault}
 use Rattle.walks.proofs.Walking.{RightBefore, orders-none, orders-next, orders-fault, orders-all}
 use Rattle.table_walks.proofs.walk.Statement.{statement}
 use Rattle.table_walks.proofs.walk.Tie as tie
 
 abbrev Inv-columns : tie.InvT-columns
-Inv-columns rows pos osp alike count turn order last place next after before column₀ column =
-    (column < columnCount) × (lexBefore last next ≡ lexBefore (drop column last) (drop column next))
+Inv-columns rows pos osp alike count turn order last place next column₀ column =
+    (column < keyCount) × (lexBefore last next ≡ lexBefore (drop column last) (drop column next))
 
 abbrev μ-columns : tie.MeasureT-columns
-μ-columns rows pos osp alike count turn order last place next after before column₀ column = columnCount - column
+μ-columns rows pos osp alike count turn order last place next column₀ column = keyCount - column
 
 abbrev Inv-places : tie.InvT-places
 Inv-places rows pos osp alike count turn order last₀ place₀ last place =
     (1 ≤ place)
     × (place ≤ count)
-    × (last ≡ keysAt order (tablesOf rows pos osp) (place - 1))
-    × (rightUpto (tablesOf rows pos osp) order place ≡ true)
+    × (last ≡ keysAt alike order (tablesOf rows pos osp) (place - 1))
+    × (rightUpto alike (tablesOf rows pos osp) order place ≡ true)
 
 abbrev μ-places : tie.MeasureT-places
 μ-places rows pos osp alike count turn order last₀ place₀ last place = count - place
 
 abbrev Inv-orders : tie.InvT-orders
-Inv-orders rows pos osp alike count turn₀ turn = RightBefore (tablesOf rows pos osp) turn
+Inv-orders rows pos osp alike count turn₀ turn = RightBefore alike (tablesOf rows pos osp) turn
 
 abbrev μ-orders : tie.MeasureT-orders
 μ-orders rows pos osp alike count turn₀ turn = orderCount - turn
@@ -62,6 +61,9 @@ order l = walked l .order-at .result
 abbrev tables : tie.At-places Inv-columns μ-columns Inv-places μ-places Inv-orders μ-orders → Tables
 tables l = lent (walked l .before .before)
 
+abbrev alike : tie.At-places Inv-columns μ-columns Inv-places μ-places Inv-orders μ-orders → Bool
+alike l = start (walked l .before .before) .args .alike
+
 -- the row after `last`, and what was read before it
 abbrev reading : tie.After-next Inv-columns μ-columns Inv-places μ-places Inv-orders μ-orders
     → tie.After-read2 Inv-columns μ-columns Inv-places μ-places Inv-orders μ-orders
@@ -79,7 +81,7 @@ next n = reading n .read2 .result .keys
 
 abbrev nexts : tie.At-columns Inv-columns μ-columns Inv-places μ-places Inv-orders μ-orders
     → tie.After-next Inv-columns μ-columns Inv-places μ-places Inv-orders μ-orders
-nexts c = c .before .before .before .before
+nexts c = c .before
 
 -- ---- what is known in them
 -- a place that the walk comes to is one of the tables'
@@ -90,24 +92,24 @@ next-named : (n : tie.After-next Inv-columns μ-columns Inv-places μ-places Inv
 next-named n = not-false _ (n .before .if2 .left)
 
 next-is : (n : tie.After-next Inv-columns μ-columns Inv-places μ-places Inv-orders μ-orders)
-    → next n ≡ keysAt (order (places n)) (tables (places n)) (places n .places .place)
+    → next n ≡ keysAt (alike (places n)) (order (places n)) (tables (places n)) (places n .places .place)
 next-is n =
     let l = places n in
-    read-keys (tables l) (order l) (l .places .place) (reading n .read2 .result) (reading n .read2 .ensures) (next-named n)
+    read-keys (alike l) (tables l) (order l) (l .places .place) (reading n .read2 .result) (reading n .read2 .ensures) (next-named n)
 
 -- both rows have all columns
-last-length : (n : tie.After-next Inv-columns μ-columns Inv-places μ-places Inv-orders μ-orders) → length (last n) ≡ columnCount
+last-length : (n : tie.After-next Inv-columns μ-columns Inv-places μ-places Inv-orders μ-orders) → length (last n) ≡ keyCount
 last-length n =
     let l = places n in
-    ap length (l .places .inv .2) ∙ keys-length (order l) (tables l .rows) (rowAt (order l) (tables l) (l .places .place - 1))
+    ap length (l .places .inv .2) ∙ keys-length (alike l) (order l) (tables l .rows) (rowAt (order l) (tables l) (l .places .place - 1))
 
-next-length : (n : tie.After-next Inv-columns μ-columns Inv-places μ-places Inv-orders μ-orders) → length (next n) ≡ columnCount
+next-length : (n : tie.After-next Inv-columns μ-columns Inv-places μ-places Inv-orders μ-orders) → length (next n) ≡ keyCount
 next-length n =
     let l = places n in
-    ap length (next-is n) ∙ keys-length (order l) (tables l .rows) (rowAt (order l) (tables l) (l .places .place))
+    ap length (next-is n) ∙ keys-length (alike l) (order l) (tables l .rows) (rowAt (order l) (tables l) (l .places .place))
 
 -- a column says which of the two comes first, or nothing
-module _ (n : tie.After-next Inv-columns μ-columns Inv-places μ-places Inv-orders μ-orders) (k : ℕ) (h : k < columnCount) where
+module _ (n : tie.After-next Inv-columns μ-columns Inv-places μ-places Inv-orders μ-orders) (k : ℕ) (h : k < keyCount) where
   first-less : getD (last n) k 0 < getD (next n) k 0 → lexBefore (drop k (last n)) (drop k (next n)) ≡ true
   first-less = from-less (last n) (next n) k (omega (arith, last-length n)) (omega (arith, next-length n))
 
@@ -121,35 +123,35 @@ module _ (n : tie.After-next Inv-columns μ-columns Inv-places μ-places Inv-ord
 -- what the rows' keys say of their places
 rows-say : (n : tie.After-next Inv-columns μ-columns Inv-places μ-places Inv-orders μ-orders) (b : Bool)
     → lexBefore (last n) (next n) ≡ b → let l = places n in
-    lexBefore (keysAt (order l) (tables l) (l .places .place - 1)) (keysAt (order l) (tables l) (l .places .place)) ≡ b
+    lexBefore (keysAt (alike l) (order l) (tables l) (l .places .place - 1)) (keysAt (alike l) (order l) (tables l) (l .places .place)) ≡ b
 rows-say n b e = sym (ap₂ lexBefore (places n .places .inv .2) (next-is n)) ∙ e
 
 -- a row that comes after the one before it is one place more
 goes-on : (n : tie.After-next Inv-columns μ-columns Inv-places μ-places Inv-orders μ-orders) → lexBefore (last n) (next n) ≡ true → let l = places n in
-    (next n ≡ keysAt (order l) (tables l) (l .places .place + 1 - 1)) × (rightUpto (tables l) (order l) (l .places .place + 1) ≡ true)
+    (next n ≡ keysAt (alike l) (order l) (tables l) (l .places .place + 1 - 1)) × (rightUpto (alike l) (tables l) (order l) (l .places .place + 1) ≡ true)
 goes-on n e =
     let l = places n in
     let p = l .places .place in
     let r = reading n in
     let back : p + 1 - 1 ≡ p = omega arith in
-    let row = read-row (tables l) (order l) p (r .read2 .result) (r .read2 .ensures) (next-named n) in
-    (rw back (next-is n), upto-next (tables l) (order l) p (l .places .inv .0) (l .places .inv .3) row (rows-say n true e))
+    let row = read-row (alike l) (tables l) (order l) p (r .read2 .result) (r .read2 .ensures) (next-named n) in
+    (rw back (next-is n), upto-next (alike l) (tables l) (order l) p (l .places .inv .0) (l .places .inv .3) row (rows-say n true e))
 
 -- an order with a fault is where the walk stops
 stops : (c : tie.After-order-at Inv-columns μ-columns Inv-places μ-places Inv-orders μ-orders) →
     let l = c .before .before in
-    orderRight (lent l) (c .order-at .result) ≡ false → l .orders .turn ≡ rightOrders (lent l)
+    orderRight (start l .args .alike) (lent l) (c .order-at .result) ≡ false → l .orders .turn ≡ rightOrders (start l .args .alike) (lent l)
 stops c e =
     let l = c .before .before in
-    sym (orders-fault (lent l) (l .orders .turn) (l .orders .inv) (omega arith) (rw (c .order-at .ensures) at e))
+    sym (orders-fault (start l .args .alike) (lent l) (l .orders .turn) (l .orders .inv) (omega arith) (rw (c .order-at .ensures) at e))
 
 descends : (n : tie.After-next Inv-columns μ-columns Inv-places μ-places Inv-orders μ-orders) → lexBefore (last n) (next n) ≡ false
     → let l = walked (places n) .before .before in
-    l .orders .turn ≡ rightOrders (lent l)
+    l .orders .turn ≡ rightOrders (start l .args .alike) (lent l)
 descends n e =
     let l = places n in
     stops (walked l)
-    (descent-fault (tables l) (order l) (l .places .place) (l .places .inv .0) (below (reading n .before)) (rows-say n false e))
+    (descent-fault (alike l) (tables l) (order l) (l .places .place) (l .places .inv .0) (below (reading n .before)) (rows-say n false e))
 
 -- ---- the needs
 cast-count : tie.Need-cast-count Inv-columns μ-columns Inv-places μ-places Inv-orders μ-orders
@@ -159,7 +161,7 @@ orders-holds : tie.Need-orders-holds Inv-columns μ-columns Inv-places μ-places
 orders-holds c =
     let a = c .before .before .before .args in
     let t = tablesOf (a .rows .now) (a .pos .now) (a .osp .now) in
-    orders-next t 0 (orders-none t) (omega arith) (c .before .before .before .pre .1 .1 .0)
+    orders-next (a .alike) t 0 (orders-none (a .alike) t) (omega arith) (c .before .before .before .pre .1 .1)
 
 order-at-requires : tie.Need-order-at-requires Inv-columns μ-columns Inv-places μ-places Inv-orders μ-orders
 order-at-requires c κs = tt
@@ -172,79 +174,26 @@ places-holds c =
     let r = c .before .before .before in
     let a = r .before in
     let t = lent (a .before .before) in
+    let y = start (a .before .before) .args .alike in
+    let o = a .order-at .result in
     let n : r .read .result .named ≡ true = not-false _ (c .before .if1 .left) in (
       omega arith,
       omega arith,
-      read-keys t (a .order-at .result) 0 (r .read .result) (r .read .ensures) n,
-      upto-first t (a .order-at .result) (read-row t (a .order-at .result) 0 (r .read .result) (r .read .ensures) n),
+      read-keys y t o 0 (r .read .result) (r .read .ensures) n,
+      upto-first y t o (read-row y t o 0 (r .read .result) (r .read .ensures) n),
     )
 
 read-requires-2 : tie.Need-read-requires-2 Inv-columns μ-columns Inv-places μ-places Inv-orders μ-orders
 read-requires-2 c κs = (start (walked (c .before) .before .before) .pre .0, below c)
 
-part-requires : tie.Need-part-requires Inv-columns μ-columns Inv-places μ-places Inv-orders μ-orders
-part-requires c κs = omega arith
-
-year-before-requires : tie.Need-year-before-requires Inv-columns μ-columns Inv-places μ-places Inv-orders μ-orders
-year-before-requires c κs = tt
-
-add-place : tie.Need-add-place Inv-columns μ-columns Inv-places μ-places Inv-orders μ-orders
-add-place c = omega arith
-
-places-less : tie.Need-places-less Inv-columns μ-columns Inv-places μ-places Inv-orders μ-orders
-places-less c = omega arith
-
--- a year that is not the row's own is that of the row before it
-year-is : (b : tie.After-year-before Inv-columns μ-columns Inv-places μ-places Inv-orders μ-orders)
-    → (b .year-before .result ≡ b .before .part .result → ⊥)
-    → b .year-before .result ≡ getD (last (b .before .before)) 0 0
-year-is b h =
-    let l = walked (places (b .before .before)) .before .before in
-    let e = b .year-before .ensures in
-    e ∙ year-apart (start l .args .alike) (b .before .part .result) (getD (last (b .before .before)) 0 0) (λ k. h (e ∙ k))
-
--- where all years are alike, that one's is the row's own
-years-alike : (n : tie.After-next Inv-columns μ-columns Inv-places μ-places Inv-orders μ-orders)
-    → start (walked (places n) .before .before) .args .alike ≡ true
-    → getD (last n) 0 0 ≡ getD (next n) 0 0
-years-alike n a =
-    let l = places n in
-    let t = tables l in
-    let p = l .places .place in
-    let r = reading n in
-    ap (λ z. getD z 0 0) (l .places .inv .2)
-    ∙ key-year (order l) (t .rows) (rowAt (order l) t (p - 1))
-    ∙ start (walked l .before .before) .pre .1 .1 .1 a (rowAt (order l) t (p - 1)) (rowAt (order l) t p)
-    (upto-named t (order l) p (l .places .inv .3) (p - 1) (omega (arith, l .places .inv .0)))
-    (read-row t (order l) p (r .read2 .result) (r .read2 .ensures) (next-named n))
-    ∙ sym (key-year (order l) (t .rows) (rowAt (order l) t p))
-    ∙ sym (ap (λ z. getD z 0 0) (next-is n))
-
--- a later year
-places-again : tie.Need-places-again Inv-columns μ-columns Inv-places μ-places Inv-orders μ-orders
-places-again c =
-    let b = c .before .before in
-    let n = b .before .before in
-    let y = year-is b (c .before .if3 .taken) in
-    let g = goes-on n (first-less n 0 (omega arith) (omega (arith, b .before .part .ensures, y, c .before .if3 .taken, c .if4 .left))) in
-    (omega arith, omega (arith, reading n .before .places-test .taken), g .0, g .1)
-
--- the same year
 columns-holds : tie.Need-columns-holds Inv-columns μ-columns Inv-places μ-places Inv-orders μ-orders
-columns-holds c =
-    let b = c .before in
-    let n = b .before .before in
-    let l = walked (places n) .before .before in
-    let own = b .before .part .ensures in
-    let y = year-same (start l .args .alike) (b .before .part .result) (getD (last n) 0 0) (sym (b .year-before .ensures) ∙ c .if3 .left)
-    (λ a. years-alike n a ∙ sym own) in
-    (omega arith, first-same n 0 (omega arith) (y ∙ own))
+columns-holds c = (omega arith, refl)
 
-part-requires-2 : tie.Need-part-requires-2 Inv-columns μ-columns Inv-places μ-places Inv-orders μ-orders
-part-requires-2 c κs = c .columns .inv .0
+key-at-requires : tie.Need-key-at-requires Inv-columns μ-columns Inv-places μ-places Inv-orders μ-orders
+key-at-requires c κs = c .columns .inv .0
 
-part-requires-3 : tie.Need-part-requires-3 Inv-columns μ-columns Inv-places μ-places Inv-orders μ-orders
-part-requires-3 c κs = c .before .columns .inv .0
+key-at-requires-2 : tie.Need-key-at-requires-2 Inv-columns μ-columns Inv-places μ-places Inv-orders μ-orders
+key-at-requires-2 c κs = c .before .columns .inv .0
 
 add-column : tie.Need-add-column Inv-columns μ-columns Inv-places μ-places Inv-orders μ-orders
 add-column c = omega arith
@@ -253,36 +202,36 @@ columns-less : tie.Need-columns-less Inv-columns μ-columns Inv-places μ-places
 columns-less c = omega arith
 
 -- a column in which both rows are the same
-same-so-far : (c : tie.After-part3 Inv-columns μ-columns Inv-places μ-places Inv-orders μ-orders) → c .before .part2 .result ≡ c .part3 .result →
+same-so-far : (c : tie.After-key-at2 Inv-columns μ-columns Inv-places μ-places Inv-orders μ-orders) → c .before .key-at .result ≡ c .key-at2 .result →
     let d = c .before .before in
     let n = nexts d in
     lexBefore (last n) (next n) ≡ lexBefore (drop (d .columns .column + 1) (last n)) (drop (d .columns .column + 1) (next n))
 same-so-far c e =
     let d = c .before .before in
     d .columns .inv .1
-    ∙ first-same (nexts d) (d .columns .column) (d .columns .inv .0) (sym (c .before .part2 .ensures) ∙ e ∙ c .part3 .ensures)
+    ∙ first-same (nexts d) (d .columns .column) (d .columns .inv .0) (sym (c .before .key-at .ensures) ∙ e ∙ c .key-at2 .ensures)
 
 columns-again : tie.Need-columns-again Inv-columns μ-columns Inv-places μ-places Inv-orders μ-orders
-columns-again c = (omega arith, same-so-far (c .before .before) (c .if7 .left))
+columns-again c = (omega arith, same-so-far (c .before .before) (c .if5 .left))
 
-add-place-2 : tie.Need-add-place-2 Inv-columns μ-columns Inv-places μ-places Inv-orders μ-orders
-add-place-2 c =
+add-place : tie.Need-add-place Inv-columns μ-columns Inv-places μ-places Inv-orders μ-orders
+add-place c =
     let n = nexts (c .before .before .before) in
     omega (arith, below (reading n .before), start (walked (places n) .before .before) .pre .0 .few)
 
-places-less-2 : tie.Need-places-less-2 Inv-columns μ-columns Inv-places μ-places Inv-orders μ-orders
-places-less-2 c = omega arith
+places-less : tie.Need-places-less Inv-columns μ-columns Inv-places μ-places Inv-orders μ-orders
+places-less c = omega arith
 
 -- a greater key, the last or one before it
-places-again-2 : tie.Need-places-again-2 Inv-columns μ-columns Inv-places μ-places Inv-orders μ-orders
-places-again-2 c =
+places-again : tie.Need-places-again Inv-columns μ-columns Inv-places μ-places Inv-orders μ-orders
+places-again c =
     let b = c .before in
     let d = b .before .before in
     let n = nexts d in
-    let less : b .before .part2 .result < b .part3 .result =
-    ⊎-elim (λ x. omega (arith, x .1 .left)) (λ x. omega (arith, x .1 .taken, x .2 .left)) (c .if5 .came) in
+    let less : b .before .key-at .result < b .key-at2 .result =
+    ⊎-elim (λ x. omega (arith, x .1 .left)) (λ x. omega (arith, x .1 .taken, x .2 .left)) (c .if3 .came) in
     let g = goes-on n (d .columns .inv .1 ∙ first-less n (d .columns .column) (d .columns .inv .0)
-    (omega (arith, b .before .part2 .ensures, b .part3 .ensures, less))) in
+    (omega (arith, b .before .key-at .ensures, b .key-at2 .ensures, less))) in
     (omega arith, omega (arith, reading n .before .places-test .taken), g .0, g .1)
 
 add-turn : tie.Need-add-turn Inv-columns μ-columns Inv-places μ-places Inv-orders μ-orders
@@ -296,39 +245,32 @@ orders-again c =
     let l = c .before in
     let d = walked l .before .before in
     let whole : l .places .place ≡ rowCount (tables l) = omega (arith, start d .pre .0 .pos-length, l .places .inv .1, c .places-test .left) in
-    orders-next (lent d) (d .orders .turn) (d .orders .inv) (omega (arith, walked l .before .orders-test .taken))
+    orders-next (start d .args .alike) (lent d) (d .orders .turn) (d .orders .inv) (omega (arith, walked l .before .orders-test .taken))
     (rw (← walked l .order-at .ensures) (rw whole at (l .places .inv .3)))
 
 returns : tie.Need-returns Inv-columns μ-columns Inv-places μ-places Inv-orders μ-orders
 returns c =
     let l = c .before in
-    sym (orders-all (lent l) (l .orders .turn) (l .orders .inv) (omega arith))
+    sym (orders-all (start l .args .alike) (lent l) (l .orders .turn) (l .orders .inv) (omega arith))
 
 returns-2 : tie.Need-returns-2 Inv-columns μ-columns Inv-places μ-places Inv-orders μ-orders
 returns-2 c =
     let r = c .before .before in
     let a = r .before in
     let t = lent (a .before .before) in
-    stops a (unnamed-fault t (a .order-at .result) 0 (omega arith)
-    (read-none t (a .order-at .result) 0 (r .read .result) (r .read .ensures) (not-true _ (c .if1 .taken))))
+    stops a (unnamed-fault (start (a .before .before) .args .alike) t (a .order-at .result) 0 (omega arith)
+    (read-none (start (a .before .before) .args .alike) t (a .order-at .result) 0 (r .read .result) (r .read .ensures) (not-true _ (c .if1 .taken))))
 
 returns-3 : tie.Need-returns-3 Inv-columns μ-columns Inv-places μ-places Inv-orders μ-orders
 returns-3 c =
     let r = c .before .before in
     let l = r .before .before in
-    stops (walked l) (unnamed-fault (tables l) (order l) (l .places .place) (below (r .before))
-    (read-none (tables l) (order l) (l .places .place) (r .read2 .result) (r .read2 .ensures) (not-true _ (c .if2 .taken))))
-
-returns-4 : tie.Need-returns-4 Inv-columns μ-columns Inv-places μ-places Inv-orders μ-orders
-returns-4 c =
-    let b = c .before .before in
-    let n = b .before .before in
-    let y = year-is b (c .before .if3 .taken) in
-    descends n (first-more n 0 (omega arith) (omega (arith, b .before .part .ensures, y, c .if4 .taken)))
+    stops (walked l) (unnamed-fault (alike l) (tables l) (order l) (l .places .place) (below (r .before))
+    (read-none (alike l) (tables l) (order l) (l .places .place) (r .read2 .result) (r .read2 .ensures) (not-true _ (c .if2 .taken))))
 
 -- the last key is not greater
 last-not : (n : tie.After-next Inv-columns μ-columns Inv-places μ-places Inv-orders μ-orders) (k : ℕ)
-    → k + 1 ≡ columnCount → getD (next n) k 0 ≤ getD (last n) k 0
+    → k + 1 ≡ keyCount → getD (next n) k 0 ≤ getD (last n) k 0
     → lexBefore (drop k (last n)) (drop k (next n)) ≡ false
 last-not n k e h =
     elim (decLt (getD (next n) k 0) (getD (last n) k 0)) [
@@ -336,21 +278,21 @@ last-not n k e h =
       | no m ↦ first-same n k (omega arith) (omega arith) ∙ from-end (last n) (next n) (k + 1) (omega (arith, next-length n))
     ]
 
-returns-5 : tie.Need-returns-5 Inv-columns μ-columns Inv-places μ-places Inv-orders μ-orders
-returns-5 c =
+returns-4 : tie.Need-returns-4 Inv-columns μ-columns Inv-places μ-places Inv-orders μ-orders
+returns-4 c =
     let b = c .before .before in
     let d = b .before .before in
     let n = nexts d in
-    descends n (d .columns .inv .1 ∙ last-not n (d .columns .column) (omega (arith, c .before .if5 .taken))
-    (omega (arith, b .before .part2 .ensures, b .part3 .ensures, c .if6 .taken)))
+    descends n (d .columns .inv .1 ∙ last-not n (d .columns .column) (omega (arith, c .before .if3 .taken))
+    (omega (arith, b .before .key-at .ensures, b .key-at2 .ensures, c .if4 .taken)))
 
-returns-6 : tie.Need-returns-6 Inv-columns μ-columns Inv-places μ-places Inv-orders μ-orders
-returns-6 c =
+returns-5 : tie.Need-returns-5 Inv-columns μ-columns Inv-places μ-places Inv-orders μ-orders
+returns-5 c =
     let b = c .before .before .before in
     let d = b .before .before in
     let n = nexts d in
     descends n (d .columns .inv .1 ∙ first-more n (d .columns .column) (d .columns .inv .0)
-    (omega (arith, b .before .part2 .ensures, b .part3 .ensures, c .if8 .taken)))
+    (omega (arith, b .before .key-at .ensures, b .key-at2 .ensures, c .if6 .taken)))
 
 pub walk-spec : {M : Type 1} → statement M
 walk-spec =
@@ -368,20 +310,15 @@ walk-spec =
     read-requires
     places-holds
     read-requires-2
-    part-requires
-    year-before-requires
-    add-place
-    places-less
-    places-again
     columns-holds
-    part-requires-2
-    part-requires-3
+    key-at-requires
+    key-at-requires-2
     add-column
     columns-less
     columns-again
-    add-place-2
-    places-less-2
-    places-again-2
+    add-place
+    places-less
+    places-again
     add-turn
     orders-less
     orders-again
@@ -389,5 +326,4 @@ walk-spec =
     returns-2
     returns-3
     returns-4
-    returns-5
-    returns-6)
+    returns-5)
