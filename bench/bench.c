@@ -229,18 +229,17 @@ enum { WITH_PORTABLE = 0 };
 #define portable_grow 0
 #endif
 
-/* The calls of those that have them; C++ makes tables in the plain machine's place. A check of its own has no plan to be refused. */
+/* The calls of those that have them; C++ makes tables in the plain machine's place. */
 static const struct {
     __typeof__(sotjarn_open) *open;
     __typeof__(sotjarn_turn) *turn;
     __typeof__(sotjarn_merge) *merge;
     __typeof__(sotjarn_make) *make;
     __typeof__(sotjarn_grow) *grow;
-    table_check *check;
-} calls[SQLITE] = {{sotjarn_open, sotjarn_turn, sotjarn_merge, sotjarn_make, sotjarn_grow, 0},
-                   {c_open, c_turn, c_merge, 0, 0, c_check},
-                   {plain_open, plain_turn, plain_merge, cpp_make, cpp_grow, plain_check},
-                   {portable_open, portable_turn, portable_merge, portable_make, portable_grow, 0}};
+} calls[SQLITE] = {{sotjarn_open, sotjarn_turn, sotjarn_merge, sotjarn_make, sotjarn_grow},
+                   {c_open, c_turn, c_merge, 0, 0},
+                   {plain_open, plain_turn, plain_merge, cpp_make, cpp_grow},
+                   {portable_open, portable_turn, portable_merge, portable_make, portable_grow}};
 
 #define TABLES rows, COLUMNS * count, pos, count, osp, count
 
@@ -257,7 +256,7 @@ static struct sotjarn_written open_by(enum who w, const struct query *q, uint32_
     return calls[w].open(TABLES, 0, q->plan, q->words, state, SOTJARN_STATE_WORDS);
 }
 
-/* the check alone: the engine refuses a plan of one word 0 after it has checked the tables */
+/* the check alone: a plan of one word 0 is refused after the tables were checked */
 static double time_check(enum who w, const struct query *q, uint32_t quantum)
 {
     static const uint32_t none[1] = {0};
@@ -268,7 +267,7 @@ static double time_check(enum who w, const struct query *q, uint32_t quantum)
         found = run_sql("pragma integrity_check", 1, &sum);
         return now() - t;
     }
-    refused = calls[w].check ? calls[w].check(TABLES) + 5 : calls[w].open(TABLES, 0, none, 1, state, SOTJARN_STATE_WORDS).refused;
+    refused = calls[w].open(TABLES, 0, none, 1, state, SOTJARN_STATE_WORDS).refused;
     t = now() - t;
     if (refused != 5)
         fail("the tables are not accepted");

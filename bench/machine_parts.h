@@ -1,5 +1,5 @@
-/* What both C machines have alike: the words, the tests of tables in the order of their numbers, a plan's outline, comparisons of terms,
- * lists, and merging. It is included, not linked, so that each machine is compiled whole. */
+/* What both C machines have alike: the words, the tests of tables in the order of their numbers, a plan's outline and its tests, which are one pass over
+ * its words, comparisons of terms, lists, and merging. It is included, not linked, so that each machine is compiled whole. */
 #ifndef MACHINE_PARTS_H
 #define MACHINE_PARTS_H
 
@@ -17,12 +17,14 @@ enum truth { NO, YES, ERROR };
 #define UNBOUND 0xC0000000u
 #define NUMBER_WORD 0x40000000u
 #define SIGN 0x20000000u /* of a number's 30 bits */
+#define WORD(kind, low) ((uint32_t)(kind) << 28 | (low))
 #define LOW(w) ((w) & 0x0FFFFFFFu)
 #define KIND(w) ((w) >> 28)
 #define TERM_KIND(w) ((w) >> 30)
 #define IS_VARIABLE(w) (TERM_KIND(w) == 3)
 
-enum { COLUMNS = 4, MOST_YEAR = 9999, MOST_BRANCHES = 4, MOST_PATTERNS = 8, MOST_KEYS = 4, VARIABLES = 16 };
+enum { COLUMNS = 4, MOST_YEAR = 9999, MOST_PLAN_WORDS = 256, MOST_BRANCHES = 4, MOST_PATTERNS = 8, VARIABLES = 16, MOST_NODES = 31, MOST_DEPTH = 8 };
+enum { COMPARISONS = 6, MOST_BEST = 64, MOST_KEYS = 4, MOST_GROUPED = 4 };
 
 /* ---- tables */
 
@@ -102,53 +104,142 @@ struct outline {
     struct ending ending;
 };
 
-static inline const uint32_t *past_condition(const uint32_t *w)
+/* Plans are read and tested in one pass. A part without its form (test 5) ends the reading; that a variable is wrong (test 6) is remembered, since the form
+ * of the whole plan comes first, and a year (test 23) is tested last. Sets of variables are bits; a variable's word is above those of all other terms. */
+
+/* whether a variable is in a set, and so none above ?15 */
+static inline int is_one_of(uint32_t set, uint32_t variable)
 {
-    for (uint32_t open = 1; open > 0; open--) {
-        uint32_t kind = KIND(*w);
-        open += kind == AND || kind == OR ? 2 : kind == NOT;
-        w += kind == COMPARISON ? 3 : 1;
-    }
-    return w;
+    return variable <= (UNBOUND | (VARIABLES - 1)) && set >> (variable & (VARIABLES - 1)) & 1;
 }
 
-static inline void read_ending(struct ending *e, const uint32_t *w, const uint32_t *end)
+/* the word behind a condition, of a branch that binds a set of variables, or 0 where it has not the form; `waiting` has a bit for each depth at which a
+ * second operand is still to be read: there is one at most */
+static inline const uint32_t *read_condition(const uint32_t *w, const uint32_t *end, uint32_t set, int *wrong)
 {
+    uint32_t depth = 1, waiting = 0;
+    for (uint32_t nodes = 1; w < end && depth <= MOST_DEPTH && nodes <= MOST_NODES; nodes++) {
+        uint32_t word = *w++;
+        if (word == WORD(AND, 0) || word == WORD(OR, 0) || word == WORD(NOT, 0)) {
+            depth++;
+            waiting |= (uint32_t)(word != WORD(NOT, 0)) << depth;
+            continue;
+        }
+        if (word - WORD(COMPARISON, 0) < COMPARISONS && end - w >= 2) {
+            *wrong |= (IS_VARIABLE(w[0]) && !is_one_of(set, w[0])) || (IS_VARIABLE(w[1]) && !is_one_of(set, w[1]));
+            w += 2;
+        } else if (word != WORD(TRUE_, 0)) {
+            return 0;
+        }
+        if (waiting == 0)
+            return w;
+        depth = 31 - (uint32_t)__builtin_clz(waiting);
+        waiting ^= 1u << depth;
+    }
+    return 0;
+}
+
+/* the word behind a branch, whose variables join those of all, or 0 */
+static inline const uint32_t *read_patterns(const uint32_t *w, const uint32_t *end, uint32_t *all, int *wrong)
+{
+    uint32_t count = *w - WORD(BRANCH, 0), set = 0, greatest = 0;
+    if (count - 1 >= MOST_PATTERNS || (size_t)(end - w) <= 1 + 3 * count)
+        return 0;
+    const uint32_t *past = ++w + 3 * count;
+    for (; w < past; w++) {
+        set |= (uint32_t)IS_VARIABLE(*w) << (*w & (VARIABLES - 1));
+        greatest = *w > greatest ? *w : greatest;
+    }
+    *wrong |= greatest > (UNBOUND | (VARIABLES - 1));
+    *all |= set;
+    return read_condition(w, end, set, wrong);
+}
+
+/* whether words are an ending and nothing more, after branches that bind a set of variables */
+static inline int read_ending(struct ending *e, const uint32_t *w, const uint32_t *end, uint32_t all, int *wrong)
+{
+    uint32_t set = 0, least, most;
+    if (w == end)
+        return 0;
     e->kind = KIND(*w);
     e->k = 0;
     e->key_count = 0;
     if (e->kind == TOP) {
         e->k = LOW(*w) ? LOW(*w) : DEFAULT_BEST;
-        w++;
+        if (e->k > MOST_BEST || ++w == end || KIND(*w) != ROWS)
+            return 0;
     }
-    e->width = e->kind == REGISTERS ? 1 : LOW(*w);
-    w++;
-    for (uint32_t i = 0; i < e->width; i++)
-        e->variable[i] = *w++ & 15;
-    if (e->kind == GROUP)
-        e->measured = *w++ & 15;
-    while (w < end) {
+    e->width = LOW(*w++);
+    least = most = e->width;
+    switch (e->kind) {
+    case ROWS:
+    case TOP:
+        if (e->width - 1 >= VARIABLES)
+            return 0;
+        least += e->kind == TOP;
+        most += e->kind == TOP ? MOST_KEYS : 0;
+        break;
+    case GROUP:
+        if (e->width > MOST_GROUPED)
+            return 0;
+        least = most = e->width + 1;
+        break;
+    case REGISTERS:
+        if (e->width != 0)
+            return 0;
+        least = most = e->width = 1;
+        break;
+    default:
+        return 0;
+    }
+    if ((size_t)(end - w) - least > most - least)
+        return 0;
+    for (uint32_t i = 0; i < e->width; i++, w++) {
+        if (!IS_VARIABLE(*w))
+            return 0;
+        *wrong |= !is_one_of(all & ~set, *w);
+        e->variable[i] = *w & (VARIABLES - 1);
+        set |= 1u << e->variable[i];
+    }
+    if (e->kind == GROUP) {
+        e->measured = *w & (VARIABLES - 1);
+        *wrong |= !is_one_of(all, *w);
+        return IS_VARIABLE(*w);
+    }
+    for (; w < end; w++) {
         uint32_t i = 0;
-        while (e->variable[i] != LOW(*w))
+        if (KIND(*w) != RISING && KIND(*w) != FALLING)
+            return 0;
+        while (i < e->width && e->variable[i] != LOW(*w))
             i++;
+        *wrong |= i == e->width;
         e->key_column[e->key_count] = i;
-        e->falling[e->key_count++] = KIND(*w++) == FALLING;
+        e->falling[e->key_count++] = KIND(*w) == FALLING;
     }
+    return 1;
 }
 
-static inline void read_outline(struct outline *q, const uint32_t *w, size_t words)
+/* 0, or the number of the first of tests 5, 6 and 23 that a plan fails; the outline is whole where none does */
+static inline uint32_t read_outline(struct outline *q, const uint32_t *w, size_t words)
 {
     const uint32_t *end = w + words;
-    int said = KIND(*w) == YEAR;
+    uint32_t all = 0;
+    int wrong = 0, said = words > 0 && KIND(*w) == YEAR;
+    if (words > MOST_PLAN_WORDS || words <= (size_t)said)
+        return 5;
     q->year = said ? LOW(*w) : 0;
     q->every = said && q->year == 0;
     w += said;
-    q->branches = LOW(*w++);
+    q->branches = *w++ - WORD(HEAD, 0);
+    if (q->branches - 1 >= MOST_BRANCHES)
+        return 5;
     for (uint32_t b = 0; b < q->branches; b++) {
         q->branch[b] = w;
-        w = past_condition(w + 1 + 3 * LOW(*w));
+        w = w < end ? read_patterns(w, end, &all, &wrong) : 0;
+        if (!w)
+            return 5;
     }
-    read_ending(&q->ending, w, end);
+    return !read_ending(&q->ending, w, end, all, &wrong) ? 5 : wrong ? 6 : q->year > MOST_YEAR ? 23 : 0;
 }
 
 /* the words that an output has at least */
