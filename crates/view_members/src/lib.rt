@@ -1,6 +1,6 @@
 // Membership: which rows say of their subject that it belongs to something granted. In each year they are the range of the year and the
 // membership predicate in POS, where their objects ascend, so that the grant is walked beside them once a year.
-use table_ends::end_apart;
+use table_ends::end_from;
 use table_ranges::halved;
 use tables::COLUMNS;
 use tables::OBJECT;
@@ -51,7 +51,7 @@ fn flag_year(
         words: [year, membership, 0, 0],
     };
     let start = halved(rows, pos, osp, members);
-    let end = end_apart(rows, pos, osp, members, start);
+    let end = end_from(rows, pos, osp, members, start);
     let last = words::wide(end.0);
     let mut place: usize = words::wide(start.0);
     let mut from: usize = 0;
@@ -88,6 +88,6 @@ pub fn flag_members(
             count: 1,
             words: [year, 0, 0, 0],
         };
-        row = end_apart(rows, pos, osp, whole, Place(row)).0;
+        row = end_from(rows, pos, osp, whole, Place(row)).0;
     }
 }

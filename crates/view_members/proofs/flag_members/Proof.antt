@@ -84,8 +84,8 @@ asked : (c : tie.After-field Inv-loop μ-loop) → let l = c .before .before in
     rangeEnd (tables (start l)) (yearPrefix Spo (c .field .result)) ≡ end l
 asked c = let l = c .before .before in ap (λ y. rangeEnd (tables (start l)) (yearPrefix Spo y)) (c .field .ensures)
 
-end-apart-requires : tie.Need-end-apart-requires Inv-loop μ-loop
-end-apart-requires c κs =
+end-from-requires : tie.Need-end-from-requires Inv-loop μ-loop
+end-from-requires c κs =
     let f = c .before .before .before .before in
     let i = f .before in
     let s = start (i .before) in
@@ -95,7 +95,7 @@ loop-less : tie.Need-loop-less Inv-loop μ-loop
 loop-less c =
     let f = c .before .before .before .before .before in
     let i = f .before in
-    omega (arith, ahead i, asked f, c .end-apart .ensures, there i)
+    omega (arith, ahead i, asked f, c .end-from .ensures, there i)
 
 loop-again : tie.Need-loop-again Inv-loop μ-loop
 loop-again c =
@@ -104,7 +104,7 @@ loop-again c =
     let i = f .before in
     let l = i .before in
     let s = start l in
-    let e : c .end-apart .result .0 ≡ end l = c .end-apart .ensures ∙ asked f in
+    let e : c .end-from .result .0 ≡ end l = c .end-from .ensures ∙ asked f in
     let flags = y .flag-year .last .1 .1 .1 .1 .1 .1 .0 in (
       omega arith,
       omega (arith, e, end-le-count (tables s) (yearPrefix Spo (yearWord l))),
@@ -132,7 +132,7 @@ flag-members-spec =
     loop-holds
     field-requires
     flag-year-requires
-    end-apart-requires
+    end-from-requires
     loop-less
     loop-again
     same-length

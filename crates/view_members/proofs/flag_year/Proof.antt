@@ -67,8 +67,8 @@ long l = omega (arith, start l .pre .1 .1 .long, l .loop .inv .0)
 halved-requires : tie.Need-halved-requires Inv-loop μ-loop
 halved-requires c κs = (c .before .before .before .before .before .pre .0, omega arith)
 
-end-apart-requires : tie.Need-end-apart-requires Inv-loop μ-loop
-end-apart-requires c κs =
+end-from-requires : tie.Need-end-from-requires Inv-loop μ-loop
+end-from-requires c κs =
     let s = c .before .before .before .before .before .before in
     let e = start-le-end (tables s) (membersOf (s .args .year) (s .args .membership)) in
     (s .pre .0, (omega arith, omega (arith, c .halved .ensures)))
@@ -88,7 +88,7 @@ loop-holds c =
     let m = membersOf (s .args .year) (s .args .membership) in
     let b = start-le-end (tables s) m in
     let e : c .wide2 .result ≡ rangeStart (tables s) m = c .wide2 .ensures ∙ h .halved .ensures in
-    let g : w .wide .result ≡ rangeEnd (tables s) m = w .wide .ensures ∙ f .end-apart .ensures in (
+    let g : w .wide .result ≡ rangeEnd (tables s) m = w .wide .ensures ∙ f .end-from .ensures in (
       refl,
       omega arith,
       omega arith,
@@ -177,7 +177,7 @@ flag-year-spec =
     Inv-loop
     μ-loop
     halved-requires
-    end-apart-requires
+    end-from-requires
     wide-requires
     wide-requires-2
     loop-holds
