@@ -1,17 +1,13 @@
 // Conditions evaluated in code: true, false or error, and how many comparisons were read.
-mod lefts;
-mod values;
-
 use condition_comparisons::compared;
+use condition_joins::is_short;
+use condition_joins::joined;
+use condition_joins::negated;
 use condition_truths::is_false;
 use condition_truths::is_true;
 use conditions::Evaluated;
 use conditions::Truth;
-pub use lefts::find_lefts;
 use plans::Node;
-use values::is_short;
-use values::joined;
-use values::negated;
 ghost use mathlib.Core.Path.{_≡_};
 ghost use mathlib.Core.Bool.{true};
 ghost use Rattle.conditions.specs.Truth.{keepsRow};

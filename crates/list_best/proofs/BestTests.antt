@@ -10,7 +10,7 @@ use Rattle.words.specs.Sequences.{neighbours}
 use Rattle.lists.specs.Rows.{rowBefore}
 use Rattle.lists.specs.Gathering.{recordsIn}
 use Rattle.lists.proofs.Records.{length-records}
-use Rattle.list_best.proofs.RowWords.{rowAt, next-row, row-length, rest-whole, row-records}
+use Rattle.list_best_places.proofs.RowWords.{rowAt, next-row, row-length, rest-whole, row-records}
 
 abbrev pub inOrder : List ℕ → List ℕ → List ℕ → Bool
 inOrder vs keys ws = neighbours (λ x y. not (rowBefore vs keys y x)) (recordsIn (length vs) ws)

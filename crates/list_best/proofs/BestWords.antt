@@ -12,14 +12,15 @@ use Rattle.words.specs.Sorting.{insertBy}
 use Rattle.lists.specs.Rows.{rowBefore}
 use Rattle.lists.specs.Gathering.{recordsIn}
 use Rattle.lists.specs.Delivering.{withBest}
-use Rattle.list_best.specs.BestLists.{BestList, placeIn}
+use Rattle.list_best_places.specs.Places.{placeIn}
+use Rattle.list_best.specs.BestLists.{BestList}
 use Rattle.words.proofs.Each.{each-take, each-drop}
 use Rattle.lists.proofs.Records.{Wide, wide-insert, wide-records, length-records, count-flatten, records-flatten, flatten-records, whole-flatten}
 use Rattle.lists.proofs.Records.{flatten-append}
 use Rattle.words.proofs.Sorting.{Sorted, sorted-take, sorted-insert}
-use Rattle.list_best.proofs.Placing.{place-le, insert-place, sorted-neighbours}
+use Rattle.list_best_places.proofs.Placing.{place-le, insert-place, sorted-neighbours}
 use Rattle.lists.proofs.RowOrder.{rows-ordered}
-use Rattle.list_best.proofs.RowWords.{flatten-take, flatten-drop}
+use Rattle.list_best_places.proofs.RowWords.{flatten-take, flatten-drop}
 use Rattle.lists.proofs.TopValid.{neighbours-sorted}
 
 module _ (k : ℕ) (vs keys : List ℕ) (some : 0 < length vs) where

@@ -12,10 +12,11 @@ use Rattle.lists.specs.Rows.{rowBefore}
 use Rattle.lists.specs.Gathering.{recordsIn}
 use Rattle.lists.specs.Delivering.{withBest}
 use Rattle.lists.specs.Moves.{inserted}
-use Rattle.list_best.specs.BestLists.{TopParts, Searchable, Insertable, rowPlace}
+use Rattle.list_best_places.specs.Places.{Searchable, rowPlace}
+use Rattle.list_best.specs.BestLists.{TopParts, Insertable}
 use Rattle.lists.proofs.Moving.{insert-over, part-of-front}
 use Rattle.lists.proofs.Records.{length-records}
-use Rattle.list_best.proofs.Placing.{place-le}
+use Rattle.list_best_places.proofs.Placing.{place-le}
 use Rattle.list_best.proofs.BestWords.{stays, put-in}
 
 -- k rows of an accepted ending are not many words

@@ -1,5 +1,3 @@
-pub mod Placing
-pub mod RowWords
 pub mod BestWords
 pub mod InsertingBest
 pub mod DeliveringBest
@@ -8,4 +6,3 @@ pub mod MergingBest
 pub mod MergingOn
 pub mod BestTests
 pub mod RightLists
-pub mod BestSearching

@@ -16,9 +16,9 @@ use Rattle.lists.specs.Delivering.{withBest}
 use Rattle.list_best.specs.BestLists.{BestList}
 use Rattle.lists.proofs.Records.{wide-append, wide-records, wide-best, length-records, length-flatten, flatten-records, records-nil}
 use Rattle.words.proofs.Sorting.{Sorted, take-insertAll, sort-append, sort-stays, sorted-insert, sorted-take}
-use Rattle.list_best.proofs.Placing.{length-insert}
+use Rattle.list_best_places.proofs.Placing.{length-insert}
 use Rattle.lists.proofs.RowOrder.{rows-ordered}
-use Rattle.list_best.proofs.RowWords.{records-cons}
+use Rattle.list_best_places.proofs.RowWords.{records-cons}
 use Rattle.lists.proofs.TopLists.{merged-top}
 use Rattle.list_best.proofs.BestWords.{best-sorted, best-few, records-new, with-best}
 use Rattle.words.proofs.Orders.{Ordered}

@@ -12,7 +12,7 @@ use Rattle.plans.specs.Endings.{top}
 use Rattle.lists.specs.Gathering.{merged}
 use Rattle.lists.specs.Delivering.{withBest}
 use Rattle.list_best.specs.BestLists.{BestList, Insertable, Mergeable}
-use Rattle.list_best.proofs.RowWords.{rowAt, row-split, next-row, row-length, rest-whole}
+use Rattle.list_best_places.proofs.RowWords.{rowAt, row-split, next-row, row-length, rest-whole}
 use Rattle.list_best.proofs.BestWords.{with-best}
 use Rattle.list_best.proofs.MergingBest.{merged-nil, merged-cons, merged-longer, with-longer}
 

@@ -1,8 +1,8 @@
--- Best-of lists as words: what insertion into one starts from, and where a row is put. Assumes nothing: these are definitions.
-use Prim.Native.Nat.{ℕ, suc, _/_, _%_, _≤_, _<_}
+-- Best-of lists as words: what insertion into one starts from. Assumes nothing: these are definitions.
+use Prim.Native.Nat.{ℕ, _/_, _%_, _≤_, _<_}
 use mathlib.Core.Path.{_≡_}
-use mathlib.Core.Bool.{Bool, true, cond, not}
-use mathlib.Core.List.{List, [], _∷_}
+use mathlib.Core.Bool.{true, not}
+use mathlib.Core.List.{List}
 use lib.ListN.{length, take}
 use Rattle.words.specs.Sequences.{all, neighbours}
 use Rattle.plans.specs.Endings.{top, mostRowVariables, mostBest, keyAmong}
@@ -22,14 +22,6 @@ pub record BestList (k : ℕ) (vs keys ws : List ℕ) : Type 0 where
   pub whole : length ws % length vs ≡ 0
   pub few : length ws / length vs ≤ k
   pub rising : neighbours (λ x y. not (rowBefore vs keys y x)) (recordsIn (length vs) ws) ≡ true
-
--- a row has a place among those of a list that does not descend, by keys among the variables
-pub record Searchable (vs keys row list : List ℕ) : Type 0 where
-  pub some : 0 < length vs
-  pub among : all (keyAmong vs) keys ≡ true
-  pub width : length row ≡ length vs
-  pub whole : length list % length vs ≡ 0
-  pub rising : neighbours (λ x y. not (rowBefore vs keys y x)) (recordsIn (length vs) list) ≡ true
 
 -- a row may be put in among the best k that are the first words of a buffer, so many: the buffer has room for the list with it
 pub record Insertable (k : ℕ) (vs keys row buffer : List ℕ) (used : ℕ) : Type 0 where
@@ -54,18 +46,3 @@ pub record Mergeable (k : ℕ) (vs keys buffer : List ℕ) (used : ℕ) (list : 
   pub kept : BestList k vs keys (take used buffer)
   pub whole : length list % length vs ≡ 0
   pub room : length (merged (top k vs keys) (take used buffer) list) ≤ length buffer
-
--- how many elements stand in front of the first that x comes before: where x is put in
-unfoldable pub placeIn : {A : Type 0} → (A → A → Bool) → A → List A → ℕ
-placeIn before x [] = 0
-placeIn before x (y ∷ ys) = cond (before x y) 0 (suc (placeIn before x ys))
-
--- the place of a row among those of a list
-abbrev pub rowPlace : List ℕ → List ℕ → List ℕ → List ℕ → ℕ
-rowPlace vs keys row list = placeIn (rowBefore vs keys) row (recordsIn (length vs) list)
-
--- up to some words, of whole rows: the place is that among these rows
-pub record Placed (vs keys row list : List ℕ) (at : ℕ) : Type 0 where
-  pub up-to : at ≤ length list
-  pub whole : at % length vs ≡ 0
-  pub same : rowPlace vs keys row list ≡ rowPlace vs keys row (take at list)

@@ -1,21 +1,17 @@
--- The ending of an accepted plan: its pieces are right, and it is made of those that were read.
+-- The ending of an accepted plan: its pieces are right.
 use Prim.Native.Nat.{ℕ}
-use mathlib.Core.Path.{_≡_, sym, _∙_}
+use mathlib.Core.Path.{_≡_}
 use mathlib.Core.Bool.{Bool, true}
 use mathlib.Core.Option.{none}
 use mathlib.Core.List.{List}
 use Rattle.words.specs.Sequences.{all}
 use Rattle.words.specs.Tests.{firstFailing}
 use Rattle.words.proofs.Booleans.{and-right}
-use Rattle.plans.specs.declared.Last.{Last}
-use Rattle.plans.specs.declared.Last.the-variants.{Rows, Top, Group, Registers}
 use Rattle.plans.specs.Branches.{branchRight, binds}
 use Rattle.plans.specs.Endings.{Ending, rows, top, group, registers, endingRight}
 use Rattle.plans.specs.Plans.{readPlan, planOf, planTests}
-use Rattle.plans.specs.Reading.{lastIn, variablesIn, keysIn, bestIn, measuredIn}
 use Rattle.plans.proofs.Bounds.{EndingForm, plan-form, was-read}
 use Rattle.plan_tests.proofs.Checked.{accepted}
-use Rattle.plans.proofs.EndingRead.{is-rows, is-top, is-group, is-registers}
 use Rattle.list_best.proofs.DeliveredBest.{top-parts}
 use Rattle.merge_lists.specs.Answering.{PiecesRight}
 
@@ -31,17 +27,3 @@ pieces-right plan h =
     let q = planOf plan in
     pieces (binds (q .branches)) (q .ending) (plan-form plan q (was-read (readPlan plan) (a .0)) .ending)
     (and-right (all branchRight (q .branches)) _ (a .1))
-
--- ---- by what was read of it
-module _ (e : Ending) {t : Last} (et : t ≡ lastIn e) where
-  pub rows-of : t ≡ Rows → e ≡ rows (variablesIn e)
-  rows-of h = is-rows e (sym et ∙ h)
-
-  pub top-of : t ≡ Top → {k : ℕ} {vs keys : List ℕ} → k ≡ bestIn e → vs ≡ variablesIn e → keys ≡ keysIn e → e ≡ top k vs keys
-  top-of h ek ev es = rw (ek, ev, es) (is-top e (sym et ∙ h))
-
-  pub group-of : t ≡ Group → {vs : List ℕ} → vs ≡ variablesIn e → e ≡ group vs (measuredIn e)
-  group-of h ev = rw ev (is-group e (sym et ∙ h))
-
-  pub registers-of : t ≡ Registers → e ≡ registers (measuredIn e)
-  registers-of h = is-registers e (sym et ∙ h)

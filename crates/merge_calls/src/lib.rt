@@ -1,7 +1,5 @@
 // Merging a turn's list into a kept one, which is the first words of its buffer, as many as the call gives.
-mod by_ending;
-
-use by_ending::merge_ending;
+use merge_endings::merge_ending;
 use merges::LISTS;
 use words::Written;
 ghost use mathlib.Core.Path.{_≡_};

@@ -4,10 +4,11 @@ mod branches;
 use plan_ending_forms::ending_form;
 use plan_ending_variables::ending_right;
 use plan_nodes::both;
+use plan_numbers::FORM;
+use plan_numbers::number_of;
 use plans::Years;
 use plans::year_allowed;
 ghost use mathlib.Core.Path.{_≡_};
-ghost use mathlib.Core.List.{_∷_, []};
 ghost use Rattle.words.specs.Tests.{firstFailing, numberOf};
 ghost use Rattle.plans.specs.Branches.{readBranches};
 ghost use Rattle.plans.specs.Plans.{withEnding, planTests};
@@ -15,33 +16,13 @@ ghost use Rattle.plan_tests.specs.Testing.{planNumber};
 
 pub const MOST_WORDS: usize = 256;
 
-// The tests of a plan, by their numbers.
-pub const FORM: u32 = 5;
-
-pub const VARIABLES: u32 = 6;
-
-pub const YEAR: u32 = 23;
+// The number of the test of a plan's variables.
+pub const VARIABLES: u32 = plan_numbers::VARIABLES;
 
 // A part of a plan that was read: its words, and whether its variables are right; or no such part.
 pub enum Part {
     Ends { words: usize, right: bool },
     Broken,
-}
-
-// The number of the first of tests 5, 6 and 23 that fails, or 0.
-fn number_of(form: bool, variables: bool, year: bool) -> u32
-    ensures { λ r. ⌜ r ≡ numberOf (firstFailing ((5, form) ∷ (6, variables) ∷ (23, year) ∷ [])) ⌝ }
-{
-    if form {
-        if variables {
-            if year {
-                return 0;
-            }
-            return YEAR;
-        }
-        return VARIABLES;
-    }
-    FORM
 }
 
 // The check of a plan of some years from the word after its head on, where so many branches and one ending are to stand.

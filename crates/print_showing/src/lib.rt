@@ -38,7 +38,7 @@ pub fn print_shown(bytes: &[u8], number: u64, turned: Turned, list: &[u32], list
     requires { ⌜ (isServed (turned .ending) ≡ true → TurnShown (now bytes) number turned (now list)) ⌝ }
 {
     let ending = turned.ending;
-    if query_turns::is_served(ending) {
+    if query_answers::is_served(ending) {
         print_turn(bytes, number, turned, list);
         print_delivered(lists, list);
     }

@@ -1,8 +1,22 @@
-// What a play answers, by how its query went on after the last turn.
+// Whether a turn was served, by its ending; and what a play answers, by how its query went on after the last turn.
 use queries::Played;
 use queries::Went;
+use turns::TurnEnding;
 ghost use mathlib.Core.Path.{_≡_};
+ghost use Rattle.queries.specs.Stepping.{isServed};
 ghost use Rattle.queries.specs.Rounds.{playAnswer};
+
+// Whether a turn with this ending was served.
+pub fn is_served(ending: TurnEnding) -> bool
+    ensures { λ r. ⌜ r ≡ isServed ending ⌝ }
+{
+    match ending {
+        TurnEnding::Done => true,
+        TurnEnding::Spent => true,
+        TurnEnding::Full => true,
+        TurnEnding::Refused(_) => false,
+    }
+}
 
 // The answer of a play whose last turn left its query so.
 pub fn play_answer(went: Went) -> Played

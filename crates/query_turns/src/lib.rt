@@ -2,25 +2,14 @@
 use queries::Keeping;
 use queries::Step;
 use queries::Went;
+use query_answers::is_served;
 use turns::TurnEnding;
 use words::Written;
 ghost use mathlib.Core.Path.{_≡_};
 ghost use mathlib.Core.List.{[]};
 ghost use Rattle.turns.specs.Turns.{turnInput};
-ghost use Rattle.queries.specs.Stepping.{isServed, takeTurnOf, wentOf};
+ghost use Rattle.queries.specs.Stepping.{takeTurnOf, wentOf};
 ghost use Rattle.queries.specs.Rounds.{buffers, advanced};
-
-// Whether a turn with this ending was served.
-pub fn is_served(ending: TurnEnding) -> bool
-    ensures { λ r. ⌜ r ≡ isServed ending ⌝ }
-{
-    match ending {
-        TurnEnding::Done => true,
-        TurnEnding::Spent => true,
-        TurnEnding::Full => true,
-        TurnEnding::Refused(_) => false,
-    }
-}
 
 // Runs one turn, with no threshold, and takes its list into the kept one, which is the first words of its buffer, so many.
 pub fn take_turn(

@@ -24,7 +24,7 @@ ghost use Rattle.turns.specs.Opening.{openOf};
 ghost use Rattle.turns.specs.Turns.{turnOf, turnInput};
 ghost use Rattle.merges.specs.Merging.{mergeInput, mergeOf};
 ghost use Rattle.registers.specs.Reporting.{reportInput, reportOf};
-ghost use Rattle.list_endings.specs.PlanOutputs.{planOutput};
+ghost use Rattle.list_limits.specs.PlanOutputs.{planOutput};
 ghost use Rattle.uploads.specs.Making.{makeInput, makeOf};
 ghost use Rattle.views.specs.Viewing.{viewInput, viewCallOf};
 ghost use Rattle.woods.specs.Growing.{growInput, growOf};
@@ -118,7 +118,7 @@ pub extern "C" fn sotjarn_report(kept: &[u32], given: usize, report: &mut [u32])
 pub extern "C" fn sotjarn_least_output(plan: &[u32]) -> WrittenNumbers
     ensures { λ r. ⌜ r ≡ writtenNumbers (planOutput (now (plan .entry))) ⌝ }
 {
-    written_numbers(list_endings::plan_output(plan))
+    written_numbers(list_limits::plan_output(plan))
 }
 
 // Makes tables from an upload, and a report of the rows that it drops, or refuses.

@@ -23,7 +23,7 @@ use Rattle.turns.specs.Opening.{Opened, ownOpenTests, openTests, startWords, op
 use Rattle.turns.specs.Refusals.{OpenAnswers}
 use Rattle.turns.proofs.Refusals.{open-refusals}
 use Rattle.words.proofs.Numbering.{one-fails, none-fails, front-fails, rest-decides}
-use Rattle.turn_tests.specs.Testing.{startNumber}
+use Rattle.turn_sizes.specs.Testing.{startNumber}
 use Rattle.turn_tests.proofs.Numbering.{earlyTests, early-pass}
 
 module _ (v : Survey) (plan state : List ℕ) where

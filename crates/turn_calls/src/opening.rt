@@ -1,7 +1,7 @@
 // Opening a query: the words of its start state.
+use turn_sizes::start;
 use turn_tests::ACCEPTED;
 use turn_tests::check;
-use turn_tests::start;
 use words::Term;
 use words::Written;
 ghost use mathlib.Core.Path.{_≡_};

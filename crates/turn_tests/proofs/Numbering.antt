@@ -23,7 +23,7 @@ use Rattle.plan_tests.proofs.Checked as checked
 use Rattle.steps.specs.Saved.{leastStateWords, shapeRight, numberRight, surveyRight, placesRight}
 use Rattle.lists.specs.Gathering.{leastOutput, thresholdRight}
 use Rattle.turns.specs.Turns.{TurnInput, mostSteps, givenState, givenPlan, ownTests, turnTests}
-use Rattle.turn_tests.specs.Testing.{sizeNumber, lateNumber}
+use Rattle.turn_sizes.specs.Testing.{sizeNumber, lateNumber}
 
 -- ---- the tests of a turn
 -- what a turn has that passes all of its tests

@@ -4,4 +4,3 @@ mod testing;
 pub use testing::ACCEPTED;
 pub use testing::check;
 pub use testing::prepare;
-pub use testing::start;

@@ -1,10 +1,8 @@
 // The tests of opening and of a turn, in their order.
-use list_endings::least_output;
-use list_endings::threshold_right;
-use state_forms::number_right;
+use list_limits::threshold_right;
 use state_loading::Loaded;
 use state_loading::refused;
-use steps::STATE_WORDS;
+use turn_sizes::sizes;
 ghost use mathlib.Core.Path.{_≡_};
 ghost use mathlib.Core.Bool.{true, _&&_};
 ghost use mathlib.Core.List.{_++_};
@@ -13,27 +11,17 @@ ghost use lib.ListN.{length, take};
 ghost use Rattle.words.specs.Tests.{firstFailing, numberOf};
 ghost use Rattle.tables.specs.Tables.{tablesOf, tableTests};
 ghost use Rattle.tables.specs.Right.{Right};
-ghost use Rattle.plans.specs.Endings.{endingForm, endingAt};
 ghost use Rattle.plans.specs.Plans.{readPlan, hasForm, planOf, planTests};
-ghost use Rattle.steps.specs.Saved.{stateIn, leastStateWords, shapeRight, numberRight, surveyRight, placesRight};
+ghost use Rattle.steps.specs.Saved.{stateIn, shapeRight, surveyRight, placesRight};
 ghost use Rattle.step_cursors.specs.Held.{stateOf, currentBranch, Held, EndsHeld};
-ghost use Rattle.lists.specs.Gathering.{leastOutput, thresholdRight};
-ghost use Rattle.turns.specs.Turns.{mostSteps, turnTests, turnInput};
-ghost use Rattle.turn_tests.specs.Testing.{sizeNumber, lateNumber, startNumber};
+ghost use Rattle.lists.specs.Gathering.{thresholdRight};
+ghost use Rattle.turns.specs.Turns.{turnTests, turnInput};
+ghost use Rattle.turn_sizes.specs.Testing.{lateNumber};
 
-// The most steps of a turn.
-pub const MOST_STEPS: u32 = 1000000;
-
-// The tests of room, quantum, state, threshold and survey, by their numbers; and that all pass.
-pub const ROOM: u32 = 7;
-
-pub const QUANTUM: u32 = 8;
-
+// The tests of state and threshold, by their numbers; and that all pass.
 pub const STATE: u32 = 9;
 
 pub const THRESHOLD: u32 = 11;
-
-pub const SURVEY: u32 = 22;
 
 pub const ACCEPTED: u32 = 0;
 
@@ -47,41 +35,6 @@ pub fn check(rows: &[u32], pos: &[u32], osp: &[u32], plan: &[u32]) -> u32
         return number;
     }
     plan_tests::check(plan)
-}
-
-// Tests 7 and 8: 0, or the number of the first that the buffers and the quantum fail.
-fn sizes(ending: &[u32], state: &[u32], quantum: u32, output: &[u32]) -> u32
-    requires { ⌜ endingForm (now ending) ≡ true ⌝ }
-    ensures { λ r. ⌜ r ≡ sizeNumber
-        (leb leastStateWords (length (now (state .entry))) && leb (leastOutput (endingAt (now (ending .entry)))) (length (now (output .entry))))
-        (leb 1 quantum && leb quantum mostSteps) ⌝ }
-{
-    if state.len() < STATE_WORDS {
-        return ROOM;
-    }
-    if output.len() < least_output(ending) {
-        return ROOM;
-    }
-    if quantum == 0 {
-        return QUANTUM;
-    }
-    if quantum > MOST_STEPS {
-        return QUANTUM;
-    }
-    ACCEPTED
-}
-
-// Tests 7 and 22 of an opening: 0, or the number of the first that its buffer and its survey's number fail.
-pub fn start(survey: u32, state: &[u32]) -> u32
-    ensures { λ r. ⌜ r ≡ startNumber (leb leastStateWords (length (now (state .entry)))) (numberRight survey) ⌝ }
-{
-    if STATE_WORDS > state.len() {
-        return ROOM;
-    }
-    if !number_right(survey) {
-        return SURVEY;
-    }
-    ACCEPTED
 }
 
 // Tests 9, 22, 10 and 11: the cursor of the state, or the number of the first test that fails.

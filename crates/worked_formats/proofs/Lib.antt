@@ -1,2 +1,1 @@
-pub mod ConditionsHold
 pub mod FormatsHold

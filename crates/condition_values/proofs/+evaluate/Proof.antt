@@ -38,9 +38,9 @@ use Rattle.conditions.proofs.Evaluating.{
   joins,
 }
 use Rattle.condition_comparisons.proofs.compared.Reads as compared-reads
-use Rattle.condition_values.proofs.values.negated.Reads as negated-reads
-use Rattle.condition_values.proofs.values.is_short.Reads as is-short-reads
-use Rattle.condition_values.proofs.values.joined.Reads as joined-reads
+use Rattle.condition_joins.proofs.negated.Reads as negated-reads
+use Rattle.condition_joins.proofs.is_short.Reads as is-short-reads
+use Rattle.condition_joins.proofs.joined.Reads as joined-reads
 use Rattle.condition_values.proofs.evaluate.Reads as evaluate
 use Rattle.condition_values.proofs.evaluate.Kinds as evaluate-kinds
 use Rattle.condition_values.proofs.+evaluate.Lts-evaluate as evaluate-lts

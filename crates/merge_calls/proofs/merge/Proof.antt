@@ -4,7 +4,7 @@ use mathlib.Core.Path.{refl, sym, _∙_, subst}
 use Rattle.plan_tests.proofs.Checked.{check-passes, check-refuses, accepted}
 use Rattle.merge_lists.specs.Answering.{PiecesRight}
 use Rattle.merges.proofs.Refusals.{merge-told}
-use Rattle.merge_calls.proofs.Tested.{plan-refused, given-long}
+use Rattle.merge_endings.proofs.Tested.{plan-refused, given-long}
 use Rattle.merge_calls.proofs.Pieces.{pieces-right}
 use Rattle.merge_calls.proofs.merge.Statement.{statement}
 use Rattle.merge_calls.proofs.merge.Tie as tie

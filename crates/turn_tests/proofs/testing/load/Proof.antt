@@ -8,7 +8,7 @@ use Rattle.tables.specs.Tables.{tablesOf}
 use Rattle.plans.specs.Plans.{planOf}
 use Rattle.steps.specs.Saved.{shapeRight, surveyRight, placesRight}
 use Rattle.lists.specs.Gathering.{thresholdRight}
-use Rattle.turn_tests.proofs.Sizing.{not-given, state-fails, threshold-passes, threshold-fails}
+use Rattle.turn_sizes.proofs.Sizing.{not-given, state-fails, threshold-passes, threshold-fails}
 use Rattle.turn_tests.proofs.testing.load.Statement.{statement}
 use Rattle.turn_tests.proofs.testing.load.Tie as tie
 

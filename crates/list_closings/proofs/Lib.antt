@@ -1,0 +1,2 @@
+pub mod ClosedGroups
+pub mod ByClosing

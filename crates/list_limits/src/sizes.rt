@@ -1,0 +1,37 @@
+// The words that test 7 asks of a turn's output: of an ending, and of a plan.
+use plans::Last;
+use words::Written;
+ghost use mathlib.Core.Path.{_≡_};
+ghost use mathlib.Core.Bool.{true};
+ghost use Rattle.plans.specs.Endings.{endingForm, endingAt};
+ghost use Rattle.lists.specs.Gathering.{leastOutput};
+ghost use Rattle.list_limits.specs.PlanOutputs.{planOutput};
+
+// That a plan passes its tests.
+pub const ACCEPTED: u32 = 0;
+
+// The words that an output has at least: one row, k rows, one record, all registers.
+pub fn least_output(ending: &[u32]) -> usize
+    requires { ⌜ endingForm (now ending) ≡ true ⌝ }
+    ensures { λ r. ⌜ r ≡ leastOutput (endingAt (now (ending .entry))) ⌝ }
+{
+    let width = plan_ending_parts::variables(ending).len();
+    match plan_ending_kinds::ending_kind(ending) {
+        Last::Rows => width,
+        Last::Top => plan_ending_kinds::best_count(ending) * width,
+        Last::Group => width + list_group_totals::TOTALS,
+        Last::Registers => list_registers::REGISTERS,
+        Last::Neither => 0,
+    }
+}
+
+// The words that an output has at least for a plan, or the number of the test that refuses the plan.
+pub fn plan_output(plan: &[u32]) -> Written
+    ensures { λ r. ⌜ r ≡ planOutput (now (plan .entry)) ⌝ }
+{
+    let number = plan_tests::check(plan);
+    if number != ACCEPTED {
+        return Written::Refused(number);
+    }
+    Written::Words(least_output(plan_parts::ending_part(plan)))
+}
