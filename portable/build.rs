@@ -29,8 +29,9 @@ const TOOLCHAIN: [&str; 3] = ["io", "os", "libc"];
 /// The library's name, for paths from the program.
 const LIBRARY: &str = "sotjarn_portable";
 
-/// The crates whose functions are put where they are called: what a step goes through, and the loops of the check and of merges.
-const PUT_IN: [&str; 18] = [
+/// The crates whose functions are put where they are called: what a step goes through, and the loops of the check, of merges and
+/// of views.
+const PUT_IN: [&str; 22] = [
     "list_group_merges",
     "list_group_totals",
     "list_longs",
@@ -49,6 +50,10 @@ const PUT_IN: [&str; 18] = [
     "turn_attempts",
     "turn_runs",
     "turn_savings",
+    "view_grants",
+    "view_marks",
+    "view_members",
+    "view_writes",
 ];
 /// Those whose functions may be, also in a program that compiles the library in several units and does not optimise it as a whole. The
 /// searches of table_starts and table_ends stay calls: put where they are called before those are optimised, they are slower.

@@ -14,21 +14,6 @@ pub struct Sought {
     pub found: bool,
 }
 
-// Whether each word of a grant is a name.
-fn names_only(grant: &[u32]) -> bool
-    ensures { λ r. ⌜ r ≡ all isName (now (grant .entry)) ⌝ }
-{
-    let mut at: usize = 0;
-    while at < grant.len() {
-        let word = grant[at];
-        if Term(word).kind() != Term::NAME {
-            return false;
-        }
-        at += 1;
-    }
-    true
-}
-
 // Whether the words of a grant ascend strictly.
 fn ascends(grant: &[u32]) -> bool
     ensures { λ r. ⌜ r ≡ neighbours ltb (now (grant .entry)) ⌝ }
@@ -45,14 +30,27 @@ fn ascends(grant: &[u32]) -> bool
     true
 }
 
+// Whether each word of a grant that ascends is a name: names are the least words, so the last tells.
+fn last_named(grant: &[u32]) -> bool
+    requires { ⌜ neighbours ltb (now grant) ≡ true ⌝ }
+    ensures { λ r. ⌜ r ≡ all isName (now (grant .entry)) ⌝ }
+{
+    let count = grant.len();
+    if count == 0 {
+        return true;
+    }
+    let last = grant[count - 1];
+    Term(last).kind() == Term::NAME
+}
+
 // Whether a grant is right: names alone, strictly ascending.
 pub fn grant_right(grant: &[u32]) -> bool
     ensures { λ r. ⌜ r ≡ grantRight (now (grant .entry)) ⌝ }
 {
-    if !names_only(grant) {
+    if !ascends(grant) {
         return false;
     }
-    ascends(grant)
+    last_named(grant)
 }
 
 // Looks for a word in a grant, from a place on that is not past the first word that is not less.

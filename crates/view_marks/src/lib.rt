@@ -35,10 +35,7 @@ pub struct Seeing {
 fn either(seen: bool, flag: u8) -> bool
     ensures { λ r. ⌜ r ≡ (seen || eqb flag 1) ⌝ }
 {
-    if seen {
-        return true;
-    }
-    flag == ADMITS
+    seen | (flag == ADMITS)
 }
 
 // Whether a row is of a subject in a year.
@@ -46,10 +43,10 @@ fn is_of(rows: &[u32], row: u32, year: u32, subject: u32) -> bool
     requires { ⌜ row * columnCount + columnCount ≤ length (now rows) ⌝ }
     ensures { λ r. ⌜ r ≡ isOf (now (rows .entry)) year subject row ⌝ }
 {
-    if field(rows, RowNumber(row), YEAR) != year {
+    if field(rows, RowNumber(row), SUBJECT) != subject {
         return false;
     }
-    field(rows, RowNumber(row), SUBJECT) == subject
+    field(rows, RowNumber(row), YEAR) == year
 }
 
 // Whether a subject that is granted or not is seen: its rows of the year, from the first on, are looked at for a flag.
@@ -130,7 +127,7 @@ fn one_more(seen: bool, number: u32) -> u32
     requires { ⌜ number ≤ mostRows ⌝ }
     ensures { λ r. ⌜ r ≡ cond seen (number + 1) number ⌝ }
 {
-    if seen { number + 1 } else { number }
+    number + seen as u32
 }
 
 // Marks each row, and tells how many are visible.

@@ -10,8 +10,10 @@ ghost use mathlib.Core.Bool.{true, cond};
 ghost use Prim.Native.Nat.{_+_, _*_, _/_, _≤_};
 ghost use lib.Dec.{ltb};
 ghost use lib.ListN.{length};
+ghost use lib.Seq.{paste};
 ghost use Rattle.words.specs.Sequences.{all, over};
-ghost use Rattle.tables.specs.Tables.{columnCount, mostRows};
+ghost use Rattle.tables.specs.Tables.{columnCount, mostRows, fieldsOf};
+ghost use Rattle.tables.specs.declared.Order.the-variants.{Spo};
 ghost use Rattle.views.specs.Renumbered.{passedBefore};
 ghost use Rattle.view_marks.specs.Marks.{hiddenMark};
 ghost use Rattle.view_writes.specs.Writing.{shownBy, shownWords, shownNumbers};
@@ -22,6 +24,25 @@ fn one_more(mark: u32, used: usize) -> usize
     ensures { λ r. ⌜ r ≡ cond (ltb mark hiddenMark) (used + 1) used ⌝ }
 {
     if mark < HIDDEN { used + 1 } else { used }
+}
+
+// The words of a row, read from a part that is theirs: where indices are tested, one test does for all.
+fn row_words(rows: &[u32], row: u32) -> [u32; COLUMNS]
+    requires { ⌜ row * columnCount + columnCount ≤ length (now rows) ⌝ }
+    ensures { λ r. ⌜ r ≡ fieldsOf Spo (now (rows .entry)) row ⌝ }
+{
+    let from = words::wide(row) * COLUMNS;
+    let end = from + COLUMNS;
+    fields(&rows[from..end], Order::Spo, RowNumber(0))
+}
+
+// Puts a row's words where they belong. They are copied to a part as long as they are: where indices are tested, one test does for all.
+fn put_row(view: &mut [u32], at: usize, words: &[u32])
+    requires { ⌜ at + length (now words) ≤ length (now view) ⌝ }
+    ensures { λ _. ⌜ now (view .exit) ≡ paste (now (view .entry)) at (now (words .entry)) (length (now (words .entry))) ⌝ }
+{
+    let end = at + words.len();
+    copy_in(&mut view[at..end], 0, words);
 }
 
 // Writes the rows that are not marked as hidden, so many of them. A hidden row is written too where the next one belongs, and then written
@@ -35,8 +56,8 @@ pub fn write_rows(rows: &[u32], marks: &[u32], seen: usize, view: &mut [u32])
     let mut row: u32 = 0;
     while used < seen {
         let mark = marks[words::wide(row)];
-        let words = fields(rows, Order::Spo, RowNumber(row));
-        copy_in(view, used * COLUMNS, &words);
+        let words = row_words(rows, row);
+        put_row(view, used * COLUMNS, &words);
         used = one_more(mark, used);
         row += 1;
     }

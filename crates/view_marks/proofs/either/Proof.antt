@@ -6,8 +6,5 @@ use Rattle.view_marks.proofs.either.Tie as tie
 returns : tie.Need-returns
 returns c = search needs
 
-returns-2 : tie.Need-returns-2
-returns-2 c = rw (c .if1 .left)
-
 pub either-spec : {M : Type 1} → statement M
-either-spec = tie.close (tie.spec returns returns-2)
+either-spec = tie.close (tie.spec returns)

@@ -91,19 +91,19 @@ shared-slice-read-mark c =
     let l = c .before .before .before in
     omega (arith, c .before .wide .ensures, left l (omega arith), start l .pre .0 .1)
 
-fields-requires : tie.Need-fields-requires Inv-loop μ-loop
-fields-requires c κs = let h = left (c .before .before .before) (omega arith) in omega arith
+row-words-requires : tie.Need-row-words-requires Inv-loop μ-loop
+row-words-requires c κs = let h = left (c .before .before .before) (omega arith) in omega arith
 
-mul-copy-in : tie.Need-mul-copy-in Inv-loop μ-loop
-mul-copy-in c = omega (arith, few (c .before .before .before .before .before))
+mul-put-row : tie.Need-mul-put-row Inv-loop μ-loop
+mul-put-row c = omega (arith, few (c .before .before .before .before .before))
 
-slice-aggregate-copy-in : tie.Need-slice-aggregate-copy-in Inv-loop μ-loop
-slice-aggregate-copy-in c = omega arith
+slice-aggregate-put-row : tie.Need-slice-aggregate-put-row Inv-loop μ-loop
+slice-aggregate-put-row c = omega arith
 
-copy-in-requires : tie.Need-copy-in-requires Inv-loop μ-loop
-copy-in-requires c κs =
+put-row-requires : tie.Need-put-row-requires Inv-loop μ-loop
+put-row-requires c κs =
     let l = c .before .before .before .before .before .before in
-    omega (arith, room l (omega arith), ap length (c .before .before .fields .ensures), fields-length Spo (rows l) (l .loop .row))
+    omega (arith, room l (omega arith), ap length (c .before .before .row-words .ensures), fields-length Spo (rows l) (l .loop .row))
 
 one-more-requires : tie.Need-one-more-requires Inv-loop μ-loop
 one-more-requires c κs = omega (arith, few (c .before .before .before .before .before .before .before .before .before))
@@ -124,20 +124,20 @@ loop-again c =
     let used = l .loop .used in
     let row = l .loop .row in
     let seen = s .args .seen in
-    let x = f .fields .result in
-    let wide : length x ≡ columnCount = ap length (f .fields .ensures) ∙ fields-length Spo (rows l) row in
+    let x = f .row-words .result in
+    let wide : length x ≡ columnCount = ap length (f .row-words .ensures) ∙ fields-length Spo (rows l) row in
     let h = left l (omega arith) in
     let r = room l (omega arith) in
     let fits : used * columnCount + length x ≤ length (l .loop .view) = omega (arith, wide, r) in
     let u : c .one-more .result ≡ cond (shownBy (marks l) row) (used + 1) used =
     c .one-more .ensures ∙ ap (λ n. cond (ltb (getD (marks l) n 0) hiddenMark) (used + 1) used) (w .wide .ensures) in (
       omega (arith, h),
-      ap length (p .copy-in .ensures) ∙ length-paste (l .loop .view) (used * columnCount) x (length x) fits (omega arith) ∙ l .loop .inv .1,
+      ap length (p .put-row .ensures) ∙ length-paste (l .loop .view) (used * columnCount) x (length x) fits (omega arith) ∙ l .loop .inv .1,
       u ∙ ap (λ k. cond (shownBy (marks l) row) (k + 1) k) (l .loop .inv .2) ∙ number-next (shownBy (marks l)) row,
       subst (λ k. k ≤ seen) (sym u) (more-most (shownBy (marks l) row) used seen (omega arith)),
-      ap₂ (λ k v. take (k * columnCount) v) u (p .copy-in .ensures)
-          ∙ front-row (rows l) (marks l) (l .loop .view) x used row (f .fields .ensures) r (l .loop .inv .4),
-      ap (drop (seen * columnCount)) (p .copy-in .ensures)
+      ap₂ (λ k v. take (k * columnCount) v) u (p .put-row .ensures)
+          ∙ front-row (rows l) (marks l) (l .loop .view) x used row (f .row-words .ensures) r (l .loop .inv .4),
+      ap (drop (seen * columnCount)) (p .put-row .ensures)
           ∙ put-rest (l .loop .view) x (used * columnCount) fits (seen * columnCount) (omega (arith, wide))
           ∙ l .loop .inv .5,
     )
@@ -167,10 +167,10 @@ write-rows-spec =
     wide-requires
     mul-mark
     shared-slice-read-mark
-    fields-requires
-    mul-copy-in
-    slice-aggregate-copy-in
-    copy-in-requires
+    row-words-requires
+    mul-put-row
+    slice-aggregate-put-row
+    put-row-requires
     one-more-requires
     add-row
     loop-less
