@@ -58,7 +58,9 @@ static uint32_t *put_tree(uint32_t *w, enum tree tree, uint32_t first, uint32_t 
 {
     uint32_t under = tree == MIXED ? 9 - kind : kind, left = tree == CHAIN ? leaves - 1 : leaves - leaves / 2;
     if (leaves == 1)
-        return tree == ORS ? put_comparison(w, 0, 20 + 41 * first) : tree == MIXED ? put_comparison(w, first % 6, 20 + 40 * first) : put_comparison(w, 5, first);
+        return tree == ORS     ? put_comparison(w, 0, 20 + 41 * first)
+               : tree == MIXED ? put_comparison(w, first % 6, 20 + 40 * first)
+                               : put_comparison(w, 5, first);
     *w++ = W(kind, 0);
     w = put_tree(w, tree, first, left, under);
     return put_tree(w, tree, first + left, leaves - left, under);

@@ -39,7 +39,8 @@ static void put(struct sotjarn_entry *entries, int count, uint32_t first, uint64
 /* The calls: each answers whether it was served. */
 static int serve(int waiting, int resting)
 {
-    return sotjarn_serve(rows, SOTJARN_ROW_WORDS, numbers, 1, numbers, 1, 0, line, ROOM, (size_t)waiting, aside, ROOM, (size_t)resting, 1, numbers, 0, output, 1)
+    return sotjarn_serve(rows, SOTJARN_ROW_WORDS, numbers, 1, numbers, 1, 0, line, ROOM, (size_t)waiting, aside, ROOM, (size_t)resting, 1, numbers, 0,
+                         output, 1)
                .ending == SOTJARN_SPENT;
 }
 

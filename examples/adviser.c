@@ -1,7 +1,7 @@
 /* An adviser who is let in to one stand of a wood: the service makes tables of the survey, writes the adviser's view of them, and runs the adviser's
  * query on the view. Between two turns a stand that the adviser does not see is measured anew: one stem of it is gone, one has grown, and one is new.
- * The view is the same word for word, so it keeps its number, and the query goes on from its saved state. Then a stem of the adviser's own stand is remeasured, and the
- * view is another one.
+ * The view is the same word for word, so it keeps its number, and the query goes on from its saved state. Then a stem of the adviser's own stand is
+ * remeasured, and the view is another one.
  *
  *     rt staticlib sotjarn
  *     cc -Ibindings/c examples/adviser.c target/staticlib/libsotjarn.a -o adviser && ./adviser

@@ -1,6 +1,7 @@
 /* The three-stem wood from C: tables made from an upload and the report of what was dropped, a row query in turns of four steps, a best-of
- * list with a threshold, totals merged turn by turn, the total of nothing, registers and a report on them, two owners on the line, an adviser's view, a state after the next upload, two years, a wood grown
- * from a seed, and refused calls. Each buffer comes from malloc with exactly the words it needs, so that a memory checker sees every word beside it.
+ * list with a threshold, totals merged turn by turn, the total of nothing, registers and a report on them, two owners on the line, an adviser's view, a
+ * state after the next upload, two years, a wood grown from a seed, and refused calls. Each buffer comes from malloc with exactly the words
+ * it needs, so that a memory checker sees every word beside it.
  * Compiles as C99 and as C++. Prints what it does; exits with 1 where something is not as the rules say. */
 #include "sotjarn.h"
 #include "sotjarn_words.h"

@@ -1,9 +1,9 @@
 //! Sotjarn's calls as Rust, made at build time from the proved source: contracts and ghost lines left out, crates as modules, all
 //! else as it stands there (build.rs says how). The translation and rustc are not proved; index and overflow checks stay on.
 //!
-//! `sotjarn_make`, `sotjarn_view`, `sotjarn_grow`, `sotjarn_open`, `sotjarn_turn`, `sotjarn_merge` and `sotjarn_report` take slices, and so do `sotjarn_join`, `sotjarn_serve` and `sotjarn_top_up`, of words
-//! and of each [`Entry`]. With the feature `exports` they are there for C too, in the module of that name, the only one with unsafe code. Nothing here
-//! needs Rust's standard library. bindings/rust has a client's side.
+//! `sotjarn_make`, `sotjarn_view`, `sotjarn_grow`, `sotjarn_open`, `sotjarn_turn`, `sotjarn_merge` and `sotjarn_report` take slices, and so do
+//! `sotjarn_join`, `sotjarn_serve` and `sotjarn_top_up`, of words and of each [`Entry`]. With the feature `exports` they are there for C
+//! too, in the module of that name, the only one with unsafe code. Nothing here needs Rust's standard library. bindings/rust has a client's side.
 //!
 //! ```
 //! use sotjarn_portable::{sotjarn_make, sotjarn_open, sotjarn_turn, DONE};

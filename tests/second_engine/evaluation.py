@@ -82,7 +82,8 @@ class Evaluation(Running, Lists):
 
     def state_tests(self, tables, survey, words, plan, state):
         """Tests 9, 22 and 10 of a state's words; none stand for words that are not there."""
-        return [(9, lambda: state is not None and state_right(plan, state) and self.year_read(tables, plan, state)), (22, lambda: self.survey_right(survey, state)),
+        return [(9, lambda: state is not None and state_right(plan, state) and self.year_read(tables, plan, state)),
+                (22, lambda: self.survey_right(survey, state)),
                 (10, lambda: self.accepts(tables, words, state_of(state)))]
 
     def room_right(self, state):

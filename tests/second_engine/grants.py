@@ -152,7 +152,8 @@ class Grants:
     def largest(self):
         """The most rows and one more; nothing, a few stems, a stand and all stands are granted."""
         for count in (MOST_ROWS - 1, MOST_ROWS, MOST_ROWS + 1):
-            rows = [(number(2025 + row % 4 // 2), name(row // 2), name(10 + row % 2), name(200 + row % 7) if row % 2 == 0 else number(row % 1000)) for row in range(count)]
+            rows = [(number(2025 + row % 4 // 2), name(row // 2), name(10 + row % 2), name(200 + row % 7) if row % 2 == 0 else number(row % 1000))
+                    for row in range(count)]
             tables = tables_of(rows)
             for grant in [(), (name(0), name(7), name(count // 2 - 1)), (name(203),), tuple(map(name, range(200, 207)))]:
                 if count <= MOST_ROWS:

@@ -185,5 +185,5 @@ class TailsCleared(Making):
 
 ALL_MAKING_MISREADINGS = [
     RepeatIsWrong, LastKept, ReportSorted, ReportByReason, OneWordARow, OneWordCounted, PlacesFromOne, PlacesOfKinds, RepeatsFirst,
-    NeighboursAlone, FirstPairUnread, SecondsDropped, TextsNoObjects, PredicateUntested, YearsUntested, YearKindUntested, OspAsPos, PlacesForNumbers, RowsAsUploaded,
-    RowsBeforeRoom, RoomForAll, RoomPastWords, RoomFirst, RestForgiven, TailsCleared]
+    NeighboursAlone, FirstPairUnread, SecondsDropped, TextsNoObjects, PredicateUntested, YearsUntested, YearKindUntested, OspAsPos, PlacesForNumbers,
+    RowsAsUploaded, RowsBeforeRoom, RoomForAll, RoomPastWords, RoomFirst, RestForgiven, TailsCleared]

@@ -894,5 +894,5 @@ ALL_MISREADINGS = [
     CarryDropped, SingleFloats, TextsCounted, NoNumberNoRow, UnboundLeftOut, NoTotal, TotalOfUnfinished, TotalOfWholeAlone,
     TotalFromStart, TotalWithKey, NothingIsZero, NothingIsARow, NothingRefused, NothingWithKeyPasses, NothingNotMerged, FullTakesStep,
     FullLosesRow, FullKnownGroup, FullAtOnce, DoneTakesStep, SavedEarly, BelowEnd, NumberNotCompared, NumberCut, NumberAfterPlaces,
-    NumberBeforeShape, SavedUnderZero, TenWords, NumberBeforeRoom, SixBeforeFive, EqualRowsPass, RefusalWrites, HighByteFirst, MultipliedFirst, RankWithoutOne, UnboundCounted, TouchedAlone,
-    SumForGreater, SixtyTwoPasses, NoneKeptRefused, NoneMadeTaken, NoneUncounted, ListBeforeRoom]
+    NumberBeforeShape, SavedUnderZero, TenWords, NumberBeforeRoom, SixBeforeFive, EqualRowsPass, RefusalWrites, HighByteFirst, MultipliedFirst,
+    RankWithoutOne, UnboundCounted, TouchedAlone, SumForGreater, SixtyTwoPasses, NoneKeptRefused, NoneMadeTaken, NoneUncounted, ListBeforeRoom]

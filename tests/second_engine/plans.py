@@ -101,7 +101,8 @@ def large_plan():
 # Patterns.
 
 class Draft:
-    """A plan in the making: the wood's rows and terms, and the numbers of the plan's variables. Short sides and registers have draws of their own, or there are none."""
+    """A plan in the making: the wood's rows and terms, and the numbers of the plan's variables. Short sides and registers have draws of their own, or
+    there are none."""
 
     def __init__(self, rng, rows, sides=None):
         self.rng, self.sides = rng, sides

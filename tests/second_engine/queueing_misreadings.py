@@ -259,5 +259,5 @@ class BehindTheLists(Queueing):
 ALL_QUEUEING_MISREADINGS = [
     PastTheAllowance, BackToTheFront, StepsNotDeducted, LeftBefore, DoneHasNothingLeft, CountStale, StateZeroed, StaysInTheLine, DoneStays,
     AsideToTheFront, ToppedUpToTheFront, LineAlone, AsideAlone, NewcomerAlone, First32, StepsOfTheLine, StepsSetAside, RoomFirst, EmptyFirst,
-    ListsBeforeTheQuery, ListsBeforeTheFront, RoomFor31, RoomFor33, RoomAsNeeded, EachList32, QuantumOfTheTurn, EmptyLineUntested, EmptyLineOfAnyNumber, JoinsAnySurvey,
-    RefusedRotates, ZeroJoinsTheLine, ArraysKept, TopUpOfNothing, BehindTheLists]
+    ListsBeforeTheQuery, ListsBeforeTheFront, RoomFor31, RoomFor33, RoomAsNeeded, EachList32, QuantumOfTheTurn, EmptyLineUntested, EmptyLineOfAnyNumber,
+    JoinsAnySurvey, RefusedRotates, ZeroJoinsTheLine, ArraysKept, TopUpOfNothing, BehindTheLists]

@@ -11,7 +11,7 @@
 //!
 //! | you have | use |
 //! |---|---|
-//! | words in buffers of your own | [`make`], [`open`], [`turn`], [`merge`], [`report`], [`least_output`]; [`join`], [`serve`], [`top_up`]; [`view`]; [`grow`] |
+//! | words in your own buffers | [`make`], [`open`], [`turn`], [`merge`], [`report`], [`least_output`]; [`join`], [`serve`], [`top_up`]; [`view`]; [`grow`] |
 //! | rows in any order | [`TableWords::make`], [`TableWords::from_rows`]; [`Dropped`] |
 //! | an adviser's grant | [`TableWords::view`] |
 //! | a seed, for trials | [`TableWords::grow`] |

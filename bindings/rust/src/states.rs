@@ -16,7 +16,8 @@ const DEPTHS: u32 = 16;
 #[derive(Clone, Copy, Debug, PartialEq, Eq, PartialOrd, Ord, Hash)]
 pub struct Place(pub u32);
 
-/// Where a query stands: its survey, the year that it reads, its branch, its depth, and a place for each level down to there, the last being the next to look at.
+/// Where a query stands: its survey, the year that it reads, its branch, its depth, and a place for each level down to there, the last being the
+/// next to look at.
 ///
 /// ```
 /// use sotjarn::{Place, State};

@@ -16,7 +16,7 @@ use Rattle.lists.specs.Gathering.{recordsIn, merged}
 use Rattle.lists.proofs.Records.{records-zero}
 use Rattle.lists.proofs.TopLists.{merged-top}
 use Rattle.late.specs.Apart.{Apart}
-use Rattle.late.specs.Ways.{Way, empty, turn, into, turnsOf, isMerge, given, rowsMerged}
+use Rattle.late.specs.Ways.{Way, empty, turn, into, turnsAlong, isMerge, given, rowsMerged}
 use Rattle.late.specs.AnyOrder.{Reordered, SameEnd, AnyOrder}
 use Rattle.late.proofs.Served.{merged-given, next-some}
 use Rattle.late.proofs.TopWays as tops
@@ -46,14 +46,14 @@ module _ (plan : List ℕ) (lists : List (List ℕ)) where
       ∙ no-columns k keys (p .0) (q .0)
 
   top-ends : (k : ℕ) (vs keys : List ℕ) → planOf plan .ending ≡ top k vs keys → (v w : Way) → Reordered v w
-      → Apart (rowBefore vs keys) (rowsMerged (length vs) lists (turnsOf v)) → SameEnd plan lists v w
+      → Apart (rowBefore vs keys) (rowsMerged (length vs) lists (turnsAlong v)) → SameEnd plan lists v w
   top-ends k [] keys ending v w r h a b e f =
       nothing-given k keys ending v (r .first) a e ∙ sym (nothing-given k keys ending w (r .second) b f)
   top-ends k (x ∷ vs) keys ending v w r h a b e f =
       tops.any-order plan lists k (x ∷ vs) keys ending (omega arith) v w (r .first) (r .second) (r .turns) h a b e f
 
   grouped-ends : (k : ℕ) (vs keys : List ℕ) → planOf plan .ending ≡ top k vs keys → (v w : Way) → isMerge v ≡ true → isMerge w ≡ true
-      → turnsOf v ≡ turnsOf w → SameEnd plan lists v w
+      → turnsAlong v ≡ turnsAlong w → SameEnd plan lists v w
   grouped-ends k [] keys ending v w i j p a b e f = nothing-given k keys ending v i a e ∙ sym (nothing-given k keys ending w j b f)
   grouped-ends k (x ∷ vs) keys ending v w i j p a b e f =
       tops.way-gives plan lists k (x ∷ vs) keys ending (omega arith) v a i e

@@ -25,7 +25,7 @@ use Rattle.lists.proofs.Wrapping.{wrapped-all}
 use Rattle.late.proofs.GroupsPermuted.{together-comm}
 use Rattle.lists.proofs.GroupRows.{RightKeyed}
 use Rattle.lists.proofs.GroupValid.{AllRight, right-records, right-ascending}
-use Rattle.late.specs.Ways.{Way, empty, turn, into, turnsOf, isMerge, mergedBy, given}
+use Rattle.late.specs.Ways.{Way, empty, turn, into, turnsAlong, isMerge, mergedBy, given}
 use Rattle.late.proofs.Permuted.{joined-permuted}
 use Rattle.late.proofs.Served.{merged-given, next-some, served-passes}
 
@@ -66,14 +66,14 @@ module _ (plan : List ℕ) (lists : List (List ℕ)) (vs : List ℕ) (m : ℕ) (
   all-append (i ∷ is) js = ap (λ l. recordsOf i ++ l) (all-append is js) ∙ sym (append-assoc (recordsOf i) (allOf is) (allOf js))
 
   pub record Stands (w : Way) (a : List ℕ) : Type 0 where
-    pub right : Each (RightKeyed n) (allOf (turnsOf w))
-    pub records : groupsIn vs a ≡ plain n (sumOf (turnsOf w))
+    pub right : Each (RightKeyed n) (allOf (turnsAlong w))
+    pub records : groupsIn vs a ≡ plain n (sumOf (turnsAlong w))
 
   no-records : groupsIn vs [] ≡ []
   no-records = ap (map _) (records-nil _)
 
   turn-stands : (i : ℕ) → listRight (group vs m) (getD lists i []) ≡ true → Stands (turn i) (getD lists i [])
-  unfolding turnsOf flatten
+  unfolding turnsAlong flatten
   turn-stands i r =
       let gs = groupsIn vs (getD lists i []) in
       let h = have-keys-in vs (getD lists i []) in
@@ -90,24 +90,24 @@ module _ (plan : List ℕ) (lists : List (List ℕ)) (vs : List ℕ) (m : ℕ) (
 
   -- the sum of two
   both-sum : (a b : Way) (behind x y : List ℕ) → Stands a x → Stands b y
-      → addGroups (groupsIn vs x) (groupsIn vs y) ≡ plain n (sumOf (turnsOf (into a behind b)))
-  unfolding turnsOf
+      → addGroups (groupsIn vs x) (groupsIn vs y) ≡ plain n (sumOf (turnsAlong (into a behind b)))
+  unfolding turnsAlong
   both-sum a b behind x y s u =
       ap₂ addGroups (s .records) (u .records)
-      ∙ sym (plain-addAll n (sumOf (turnsOf a)) (sumOf (turnsOf b)))
+      ∙ sym (plain-addAll n (sumOf (turnsAlong a)) (sumOf (turnsAlong b)))
       ∙ ap (plain n)
-      (sym (add-parts (keyed-joins n) (allOf (turnsOf a)) (allOf (turnsOf b)))
-      ∙ ap (addAllBy (keyedBefore n) (keyedTogether n) []) (sym (all-append (turnsOf a) (turnsOf b))))
+      (sym (add-parts (keyed-joins n) (allOf (turnsAlong a)) (allOf (turnsAlong b)))
+      ∙ ap (addAllBy (keyedBefore n) (keyedTogether n) []) (sym (all-append (turnsAlong a) (turnsAlong b))))
 
   both-given : (a b : Way) (behind x y c : List ℕ) → Stands a x → Stands b y → mergedBy plan x behind y ≡ some c
-      → c ≡ flatten (map groupWords (plain n (sumOf (turnsOf (into a behind b)))))
+      → c ≡ flatten (map groupWords (plain n (sumOf (turnsAlong (into a behind b)))))
   unfolding merged
   both-given a b behind x y c s u e =
       merged-given plan x behind y c e ∙ ap (λ d. merged d x y) ending
       ∙ ap (λ g. flatten (map groupWords g)) (both-sum a b behind x y s u)
 
   pub way-stands : (w : Way) (a : List ℕ) → given plan lists w ≡ some a → listRight (group vs m) a ≡ true → Stands w a
-  unfolding given turnsOf flatten addAllBy
+  unfolding given turnsAlong flatten addAllBy
   way-stands empty a e r = record { right = tt; records = ap (groupsIn vs) (sym (some-injective e)) ∙ no-records }
   way-stands (turn i) a e r =
       subst (Stands (turn i)) (some-injective e) (turn-stands i (ap (listRight (group vs m)) (some-injective e) ∙ r))
@@ -118,8 +118,8 @@ module _ (plan : List ℕ) (lists : List (List ℕ)) (vs : List ℕ) (m : ℕ) (
       let s = way-stands a (p .0) (p .1) (sym (ap (λ d. keptRight d (p .0)) ending) ∙ t .0) in
       let u = way-stands b (q .0) (q .1) (sym (ap (λ d. listRight d (q .0)) ending) ∙ t .1) in
       record {
-        right = subst (Each (RightKeyed n)) (sym (all-append (turnsOf a) (turnsOf b)))
-            (each-append (RightKeyed n) (allOf (turnsOf a)) (allOf (turnsOf b)) (s .right) (u .right));
+        right = subst (Each (RightKeyed n)) (sym (all-append (turnsAlong a) (turnsAlong b)))
+            (each-append (RightKeyed n) (allOf (turnsAlong a)) (allOf (turnsAlong b)) (s .right) (u .right));
         records =
             ap (groupsIn vs) (merged-given plan (p .0) behind (q .0) c (q .2) ∙ ap (λ d. merged d (p .0) (q .0)) ending)
             ∙ read-back vs m (p .0) (q .0) (sym (ap (λ d. totalsFit d (p .0) (q .0)) ending) ∙ t .2)
@@ -128,8 +128,8 @@ module _ (plan : List ℕ) (lists : List (List ℕ)) (vs : List ℕ) (m : ℕ) (
 
   -- a merge gives the sum of its lists' records, each of which is right
   pub way-gives : (w : Way) (a : List ℕ) → isMerge w ≡ true → given plan lists w ≡ some a
-      → (a ≡ flatten (map groupWords (plain n (sumOf (turnsOf w))))) × Each (RightKeyed n) (allOf (turnsOf w))
-  unfolding given turnsOf
+      → (a ≡ flatten (map groupWords (plain n (sumOf (turnsAlong w))))) × Each (RightKeyed n) (allOf (turnsAlong w))
+  unfolding given turnsAlong
   way-gives empty a i e = absurd-true i refl
   way-gives (turn j) a i e = absurd-true i refl
   way-gives (into a behind b) c i e =
@@ -139,12 +139,12 @@ module _ (plan : List ℕ) (lists : List (List ℕ)) (vs : List ℕ) (m : ℕ) (
       let s = way-stands a (p .0) (p .1) (sym (ap (λ d. keptRight d (p .0)) ending) ∙ t .0) in
       let u = way-stands b (q .0) (q .1) (sym (ap (λ d. listRight d (q .0)) ending) ∙ t .1) in (
         both-given a b behind (p .0) (q .0) c s u (q .2),
-        subst (Each (RightKeyed n)) (sym (all-append (turnsOf a) (turnsOf b)))
-            (each-append (RightKeyed n) (allOf (turnsOf a)) (allOf (turnsOf b)) (s .right) (u .right)),
+        subst (Each (RightKeyed n)) (sym (all-append (turnsAlong a) (turnsAlong b)))
+            (each-append (RightKeyed n) (allOf (turnsAlong a)) (allOf (turnsAlong b)) (s .right) (u .right)),
       )
 
   -- in every order and grouping, with the same end
-  pub any-order : (v w : Way) → isMerge v ≡ true → isMerge w ≡ true → List·Permᴰ (turnsOf v) (turnsOf w)
+  pub any-order : (v w : Way) → isMerge v ≡ true → isMerge w ≡ true → List·Permᴰ (turnsAlong v) (turnsAlong w)
       → (a b : List ℕ) → given plan lists v ≡ some a → given plan lists w ≡ some b → a ≡ b
   any-order v w i j p a b e f =
       let x = way-gives v a i e in

@@ -9,12 +9,12 @@ use Rattle.lists.specs.Computing as lists
 use Rattle.merges.specs.Computing as merges
 use Rattle.words.specs.Sequences.{numbers}
 use Rattle.words.specs.Words.{variable, word, fallingKind}
-use Rattle.late.specs.Ways.{empty, turn, into, turnsOf, given}
+use Rattle.late.specs.Ways.{empty, turn, into, turnsAlong, given}
 use Rattle.late.specs.Needed.{recordOf}
-use Rattle.late.specs.Meeting.{inTurn, turned, behind, bestTwo, PremisesMet, Told, words16, RegistersMet}
+use Rattle.late.specs.Meeting.{inTurn, turned, behind, bestPair, PremisesMet, AnyOrderTold, words16, RegistersMet}
 
 unfoldable computing : Unit {0}
-unfolding words.computing plans.computing registers.computing lists.computing merges.computing flatten given turnsOf numbers
+unfolding words.computing plans.computing registers.computing lists.computing merges.computing flatten given turnsAlong numbers
 computing = tt
 
 pub premises-met : PremisesMet
@@ -32,18 +32,18 @@ premises-met =
       nothing = (refl, refl);
     }
 
-pub told : Told
+pub told : AnyOrderTold
 unfolding computing
 told =
     let vs = variable 0 ∷ variable 1 ∷ [] in
     let keys = word fallingKind 1 ∷ [] in
     record {
-      best = λ o a e. sym (o .tops 2 vs keys refl inTurn turned (premises-met .reordered) (premises-met .apart) bestTwo a (premises-met .best .0) e);
+      best = λ o a e. sym (o .tops 2 vs keys refl inTurn turned (premises-met .reordered) (premises-met .apart) bestPair a (premises-met .best .0) e);
       total = λ o a e.
           sym (o .groups [] (variable 1) refl inTurn turned (premises-met .reordered) (recordOf 1 0) a (premises-met .total .0) e);
       grouped = λ o a e.
           sym
-          (o .grouped 2 vs keys refl inTurn (into (turn 0) behind (into (turn 1) behind (turn 2))) refl refl refl bestTwo a (premises-met .best .0) e);
+          (o .grouped 2 vs keys refl inTurn (into (turn 0) behind (into (turn 1) behind (turn 2))) refl refl refl bestPair a (premises-met .best .0) e);
     }
 
 pub registers-met : RegistersMet

@@ -24,7 +24,7 @@ use Rattle.lists.proofs.GroupsAdded.{Keyed, keyed-joins, keyed, plain, plain-ke
 use Rattle.lists.proofs.GroupRows.{RightKeyed}
 use Rattle.lists.proofs.RowOrder.{rows-ordered}
 use Rattle.late.specs.Apart.{Apart}
-use Rattle.late.specs.Ways.{Way, turnsOf, isMerge, given, EachOnce}
+use Rattle.late.specs.Ways.{Way, turnsAlong, isMerge, given, EachOnce}
 use Rattle.late.proofs.Permuted.{joined-permuted}
 use Rattle.late.proofs.Reordering.{best-permuted}
 use Rattle.late.proofs.AddingPermuted.{addAll-permuted}
@@ -63,7 +63,7 @@ module _ (plan : List ℕ) (lists : List (List ℕ)) (k : ℕ) (vs keys : List �
       ∙ sym (merged-all k vs keys some-vs lists)
 
   -- grouping alone, in the order of turns, needs no distinct keys
-  pub top-grouped : (w : Way) → isMerge w ≡ true → turnsOf w ≡ numbers (length lists)
+  pub top-grouped : (w : Way) → isMerge w ≡ true → turnsAlong w ≡ numbers (length lists)
       → (a : List ℕ) → given plan lists w ≡ some a → a ≡ mergedAll (top k vs keys) lists
   top-grouped w m p a e =
       tops.way-gives plan lists k vs keys ending some-vs w a m e
@@ -105,7 +105,7 @@ pub register-once : (plan : List ℕ) (lists : List (List ℕ)) (v : ℕ) → pl
     → Each (λ l. length l ≡ registerCount) lists → (w : Way) → isMerge w ≡ true → EachOnce lists w
     → (a : List ℕ) → given plan lists w ≡ some a → a ≡ mergedAll (registers v) lists
 register-once plan [] v ending h w i p a e =
-    absurd (registering.some-turn plan [] v ending w a i e (none-left (subst (λ l. List·Permᴰ l (turnsOf w)) (sym numbers-none) p)))
+    absurd (registering.some-turn plan [] v ending w a i e (none-left (subst (λ l. List·Permᴰ l (turnsAlong w)) (sym numbers-none) p)))
 register-once plan (l ∷ ls) v ending h w i p a e =
     registering.way-gives plan (l ∷ ls) v ending w a i e .0
     ∙ sym (registering.greatest-permuted (λ k. getD (l ∷ ls) k []) p)

@@ -18,7 +18,7 @@ use Rattle.registers.proofs.Reports.{some-right}
 use Rattle.lists.specs.Gathering.{merged, listRight, keptRight}
 use Rattle.lists.specs.Thresholds.{chosenFrom}
 use Rattle.lists.proofs.RegisterLists.{registers-in, right-length, right-kept}
-use Rattle.late.specs.Ways.{Way, empty, turn, into, turnsOf, isMerge, mergedBy, given}
+use Rattle.late.specs.Ways.{Way, empty, turn, into, turnsAlong, isMerge, mergedBy, given}
 use Rattle.late.proofs.Served.{merged-given, next-some, served-passes}
 
 -- ---- the greatest of some lists, each of which may be empty
@@ -74,23 +74,23 @@ module _ (plan : List ℕ) (lists : List (List ℕ)) (v : ℕ) (ending : planOf 
 
   -- where what each side gives stands for the greatest of its turns' lists, so does what the merge gives, which has all registers
   both-given : (a b : Way) (behind x y c : List ℕ) → mergedBy plan x behind y ≡ some c
-      → registersIn x ≡ greatestAt (turnsOf a) → registersIn y ≡ greatestAt (turnsOf b)
-      → (c ≡ greatestAt (turnsOf (into a behind b))) × (length c ≡ registerCount)
-  unfolding merged turnsOf
+      → registersIn x ≡ greatestAt (turnsAlong a) → registersIn y ≡ greatestAt (turnsAlong b)
+      → (c ≡ greatestAt (turnsAlong (into a behind b))) × (length c ≡ registerCount)
+  unfolding merged turnsAlong
   both-given a b behind x y c e s u =
       let r = both-right x behind y c e in
       let m = merged-given plan x behind y c e ∙ ap (λ d. merged d x y) ending in
       let n = right-length y (r .1) in
       let z = sym (right-in y (r .1)) ∙ u in (
         m ∙ ap₂ greaterOf s z
-            ∙ greatest-append (chosenFrom lists (turnsOf a)) (chosenFrom lists (turnsOf b)) (sym (ap length z) ∙ n)
-            ∙ ap greatestOf (sym (map-append (λ j. getD lists j []) (turnsOf a) (turnsOf b))),
+            ∙ greatest-append (chosenFrom lists (turnsAlong a)) (chosenFrom lists (turnsAlong b)) (sym (ap length z) ∙ n)
+            ∙ ap greatestOf (sym (map-append (λ j. getD lists j []) (turnsAlong a) (turnsAlong b))),
         ap length m ∙ greater-length (registersIn x) y (kept-length x (r .0) ∙ sym n) ∙ kept-length x (r .0),
       )
 
   -- what a way gives, if it is right for a kept list, are the greatest of its turns' lists
-  way-stands : (w : Way) (a : List ℕ) → given plan lists w ≡ some a → keptRegisters a ≡ true → registersIn a ≡ greatestAt (turnsOf w)
-  unfolding given turnsOf
+  way-stands : (w : Way) (a : List ℕ) → given plan lists w ≡ some a → keptRegisters a ≡ true → registersIn a ≡ greatestAt (turnsAlong w)
+  unfolding given turnsAlong
   way-stands empty a e r = ap registersIn (sym (some-injective e))
   way-stands (turn j) a e r =
       ap registersIn (sym (some-injective e)) ∙ sym (alone (getD lists j []) (ap keptRegisters (some-injective e) ∙ r))
@@ -104,7 +104,7 @@ module _ (plan : List ℕ) (lists : List (List ℕ)) (v : ℕ) (ending : planOf 
 
   -- a merge gives them as they are, all of them
   pub way-gives : (w : Way) (a : List ℕ) → isMerge w ≡ true → given plan lists w ≡ some a
-      → (a ≡ greatestAt (turnsOf w)) × (length a ≡ registerCount)
+      → (a ≡ greatestAt (turnsAlong w)) × (length a ≡ registerCount)
   unfolding given
   way-gives empty a i e = absurd-true i refl
   way-gives (turn j) a i e = absurd-true i refl
@@ -115,26 +115,26 @@ module _ (plan : List ℕ) (lists : List (List ℕ)) (v : ℕ) (ending : planOf 
       both-given a b behind (p .0) (q .0) c (q .2) (way-stands a (p .0) (p .1) (t .0)) (way-stands b (q .0) (q .1) (right-kept (q .0) (t .1)))
 
   -- in every order and grouping, with the same end
-  pub any-order : (x y : Way) → isMerge x ≡ true → isMerge y ≡ true → List·Permᴰ (turnsOf x) (turnsOf y)
+  pub any-order : (x y : Way) → isMerge x ≡ true → isMerge y ≡ true → List·Permᴰ (turnsAlong x) (turnsAlong y)
       → (a b : List ℕ) → given plan lists x ≡ some a → given plan lists y ≡ some b → a ≡ b
   any-order x y i j p a b e f =
       way-gives x a i e .0 ∙ greatest-permuted (λ k. getD lists k []) p ∙ sym (way-gives y b j f .0)
 
   -- it is of some turn: an empty list is no turn's
-  no-list : (w : Way) (a : List ℕ) → given plan lists w ≡ some a → areRegisters a ≡ true → turnsOf w ≡ [] → ⊥
-  unfolding given turnsOf
+  no-list : (w : Way) (a : List ℕ) → given plan lists w ≡ some a → areRegisters a ≡ true → turnsAlong w ≡ [] → ⊥
+  unfolding given turnsAlong
   no-list empty a e r h = absurd-true refl (sym (ap areRegisters (some-injective e) ∙ r))
   no-list (turn j) a e r h = let z : _≡_ {A = ℕ} 0 1 = cc in omega arith
   no-list (into a behind b) c e r h =
       let p = next-some (given plan lists a) _ c e in
       let q = next-some (given plan lists b) _ c (p .2) in
-      no-list b (q .0) (q .1) (both-right (p .0) behind (q .0) c (q .2) .1) (append-none (turnsOf a) (turnsOf b) h)
+      no-list b (q .0) (q .1) (both-right (p .0) behind (q .0) c (q .2) .1) (append-none (turnsAlong a) (turnsAlong b) h)
 
-  pub some-turn : (w : Way) (a : List ℕ) → isMerge w ≡ true → given plan lists w ≡ some a → turnsOf w ≡ [] → ⊥
-  unfolding given turnsOf
+  pub some-turn : (w : Way) (a : List ℕ) → isMerge w ≡ true → given plan lists w ≡ some a → turnsAlong w ≡ [] → ⊥
+  unfolding given turnsAlong
   some-turn empty a i e h = absurd-true i refl
   some-turn (turn j) a i e h = absurd-true i refl
   some-turn (into a behind b) c i e h =
       let p = next-some (given plan lists a) _ c e in
       let q = next-some (given plan lists b) _ c (p .2) in
-      no-list b (q .0) (q .1) (both-right (p .0) behind (q .0) c (q .2) .1) (append-none (turnsOf a) (turnsOf b) h)
+      no-list b (q .0) (q .1) (both-right (p .0) behind (q .0) c (q .2) .1) (append-none (turnsAlong a) (turnsAlong b) h)

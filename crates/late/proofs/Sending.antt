@@ -13,7 +13,7 @@ use Rattle.lists.specs.Rows.{rowBefore}
 use Rattle.lists.specs.Gathering.{recordsIn, merged}
 use Rattle.lists.specs.Thresholds.{mergedAll, lastRow, chosenFrom, row}
 use Rattle.lists.proofs.FullLists.{merged-all}
-use Rattle.late.specs.Ways.{Way, turnsOf, isMerge, given}
+use Rattle.late.specs.Ways.{Way, turnsAlong, isMerge, given}
 use Rattle.late.specs.Sending.{MayBeSent}
 use Rattle.late.proofs.TopWays as tops
 use Rattle.late.proofs.InOrder.{map-twice}
@@ -26,20 +26,20 @@ none-merged k keys (l ∷ ls) = ap (λ a. foldl (merged (top k [] keys)) a ls) (
 module _ (plan : List ℕ) (lists : List (List ℕ)) where
   -- in the order of a way's turns from left to right, whatever its grouping
   as-merged : (k : ℕ) (vs keys : List ℕ) → planOf plan .ending ≡ top k vs keys → (w : Way) → isMerge w ≡ true
-      → (a : List ℕ) → given plan lists w ≡ some a → a ≡ mergedAll (top k vs keys) (chosenFrom lists (turnsOf w))
-  as-merged k [] keys e w m a g = nothing-given plan lists k keys e w m a g ∙ sym (none-merged k keys (chosenFrom lists (turnsOf w)))
+      → (a : List ℕ) → given plan lists w ≡ some a → a ≡ mergedAll (top k vs keys) (chosenFrom lists (turnsAlong w))
+  as-merged k [] keys e w m a g = nothing-given plan lists k keys e w m a g ∙ sym (none-merged k keys (chosenFrom lists (turnsAlong w)))
   as-merged k (x ∷ vs) keys e w m a g =
       tops.way-gives plan lists k (x ∷ vs) keys e (omega arith) w a m g
       ∙ ap (λ l. flatten (bestBy (rowBefore (x ∷ vs) keys) k (flatten l)))
-      (map-twice (λ i. getD lists i []) (recordsIn (length (x ∷ vs))) (turnsOf w))
-      ∙ sym (merged-all k (x ∷ vs) keys (omega arith) (chosenFrom lists (turnsOf w)))
+      (map-twice (λ i. getD lists i []) (recordsIn (length (x ∷ vs))) (turnsAlong w))
+      ∙ sym (merged-all k (x ∷ vs) keys (omega arith) (chosenFrom lists (turnsAlong w)))
 
   pub may-be-sent : MayBeSent plan lists
   may-be-sent k vs keys e w m s a g full =
       let same = as-merged k vs keys e w m a g in
       row
       (record {
-        chosen = turnsOf w;
+        chosen = turnsAlong w;
         there = s .there;
         once = s .once;
         full = ap length (sym same) ∙ full;

@@ -18,7 +18,7 @@ use Rattle.lists.proofs.RowOrder.{rows-ordered}
 use Rattle.lists.proofs.TopLists.{merged-top}
 use Rattle.late.proofs.Reordering.{best-permuted}
 use Rattle.late.specs.Apart.{Apart}
-use Rattle.late.specs.Ways.{Way, empty, turn, into, turnsOf, isMerge, mergedBy, given}
+use Rattle.late.specs.Ways.{Way, empty, turn, into, turnsAlong, isMerge, mergedBy, given}
 use Rattle.late.proofs.Permuted.{joined-permuted}
 use Rattle.late.proofs.Served.{merged-given, next-some}
 
@@ -46,36 +46,36 @@ module _ (plan : List ℕ) (lists : List (List ℕ)) (k : ℕ) (vs keys : List �
 
   -- what a way gives stands for its rows, before and behind others
   pub record Stands (w : Way) (a : List ℕ) : Type 0 where
-    pub left : (ys : List (List ℕ)) → bestBy before k (recordsIn (length vs) a ++ ys) ≡ bestBy before k (rowsOf (turnsOf w) ++ ys)
-    pub right : (xs : List (List ℕ)) → bestBy before k (xs ++ recordsIn (length vs) a) ≡ bestBy before k (xs ++ rowsOf (turnsOf w))
+    pub left : (ys : List (List ℕ)) → bestBy before k (recordsIn (length vs) a ++ ys) ≡ bestBy before k (rowsOf (turnsAlong w) ++ ys)
+    pub right : (xs : List (List ℕ)) → bestBy before k (xs ++ recordsIn (length vs) a) ≡ bestBy before k (xs ++ rowsOf (turnsAlong w))
 
-  same-stands : (w : Way) (a : List ℕ) → recordsIn (length vs) a ≡ rowsOf (turnsOf w) → Stands w a
+  same-stands : (w : Way) (a : List ℕ) → recordsIn (length vs) a ≡ rowsOf (turnsAlong w) → Stands w a
   same-stands w a e =
       record { left = λ ys. ap (λ r. bestBy before k (r ++ ys)) e; right = λ xs. ap (λ r. bestBy before k (xs ++ r)) e }
 
-  best-stands : (w : Way) → Stands w (flatten (bestBy before k (rowsOf (turnsOf w))))
+  best-stands : (w : Way) → Stands w (flatten (bestBy before k (rowsOf (turnsAlong w))))
   best-stands w =
-      let r = records-flatten (length vs) some-vs (bestBy before k (rowsOf (turnsOf w)))
-      (wide-best (length vs) before k (rowsOf (turnsOf w)) (wide-rows (turnsOf w))) in
+      let r = records-flatten (length vs) some-vs (bestBy before k (rowsOf (turnsAlong w)))
+      (wide-best (length vs) before k (rowsOf (turnsAlong w)) (wide-rows (turnsAlong w))) in
       record {
-        left = λ ys. ap (λ l. bestBy before k (l ++ ys)) r ∙ best-left before (rows-ordered vs keys) k (rowsOf (turnsOf w)) ys;
-        right = λ xs. ap (λ l. bestBy before k (xs ++ l)) r ∙ best-right before (rows-ordered vs keys) k xs (rowsOf (turnsOf w));
+        left = λ ys. ap (λ l. bestBy before k (l ++ ys)) r ∙ best-left before (rows-ordered vs keys) k (rowsOf (turnsAlong w)) ys;
+        right = λ xs. ap (λ l. bestBy before k (xs ++ l)) r ∙ best-right before (rows-ordered vs keys) k xs (rowsOf (turnsAlong w));
       }
 
   both-given : (a b : Way) (behind x y c : List ℕ) → Stands a x → Stands b y → mergedBy plan x behind y ≡ some c
-      → c ≡ flatten (bestBy before k (rowsOf (turnsOf (into a behind b))))
-  unfolding turnsOf
+      → c ≡ flatten (bestBy before k (rowsOf (turnsAlong (into a behind b))))
+  unfolding turnsAlong
   both-given a b behind x y c s u e =
       merged-given plan x behind y c e
       ∙ ap (λ d. merged d x y) ending
       ∙ merged-top k vs keys x y
       ∙ ap flatten
       (s .left (recordsIn (length vs) y)
-      ∙ u .right (rowsOf (turnsOf a))
-      ∙ ap (bestBy before k) (sym (rows-append (turnsOf a) (turnsOf b))))
+      ∙ u .right (rowsOf (turnsAlong a))
+      ∙ ap (bestBy before k) (sym (rows-append (turnsAlong a) (turnsAlong b))))
 
   pub way-stands : (w : Way) (a : List ℕ) → given plan lists w ≡ some a → Stands w a
-  unfolding given turnsOf flatten
+  unfolding given turnsAlong flatten
   way-stands empty a e = same-stands empty a (ap (recordsIn (length vs)) (sym (some-injective e)) ∙ records-nil (length vs))
   way-stands (turn i) a e =
       same-stands (turn i) a (ap (recordsIn (length vs)) (sym (some-injective e)) ∙ sym (append-nil (recordsIn (length vs) (getD lists i []))))
@@ -86,7 +86,7 @@ module _ (plan : List ℕ) (lists : List (List ℕ)) (k : ℕ) (vs keys : List �
       (best-stands (into a behind b))
 
   -- a merge gives the best of its lists' rows
-  pub way-gives : (w : Way) (a : List ℕ) → isMerge w ≡ true → given plan lists w ≡ some a → a ≡ flatten (bestBy before k (rowsOf (turnsOf w)))
+  pub way-gives : (w : Way) (a : List ℕ) → isMerge w ≡ true → given plan lists w ≡ some a → a ≡ flatten (bestBy before k (rowsOf (turnsAlong w)))
   unfolding given
   way-gives empty a m e = absurd-true m refl
   way-gives (turn i) a m e = absurd-true m refl
@@ -96,8 +96,8 @@ module _ (plan : List ℕ) (lists : List (List ℕ)) (k : ℕ) (vs keys : List �
       both-given a b behind (p .0) (r .0) c (way-stands a (p .0) (p .1)) (way-stands b (r .0) (r .1)) (r .2)
 
   -- in every order and grouping, with the same end
-  pub any-order : (v w : Way) → isMerge v ≡ true → isMerge w ≡ true → List·Permᴰ (turnsOf v) (turnsOf w) → Apart before (rowsOf (turnsOf v))
-      → (a b : List ℕ) → given plan lists v ≡ some a → given plan lists w ≡ some b → a ≡ b
+  pub any-order : (v w : Way) → isMerge v ≡ true → isMerge w ≡ true → List·Permᴰ (turnsAlong v) (turnsAlong w)
+      → Apart before (rowsOf (turnsAlong v)) → (a b : List ℕ) → given plan lists v ≡ some a → given plan lists w ≡ some b → a ≡ b
   any-order v w m n p h a b e f =
       way-gives v a m e
       ∙ ap flatten (best-permuted before (rows-ordered vs keys) k (joined-permuted (λ i. recordsIn (length vs) (getD lists i [])) p) h)

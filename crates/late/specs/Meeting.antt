@@ -7,7 +7,7 @@ use mathlib.Core.List.{List, [], _∷_}
 use Rattle.words.specs.Words.{name, number, variable, word, rowsKind, topKind, fallingKind, registersKind, unbound}
 use Rattle.lists.specs.Rows.{rowBefore}
 use Rattle.late.specs.Apart.{Apart}
-use Rattle.late.specs.Ways.{Way, empty, turn, into, turnsOf, given, EachOnce, rowsMerged}
+use Rattle.late.specs.Ways.{Way, empty, turn, into, turnsAlong, given, EachOnce, rowsMerged}
 use Rattle.late.specs.AnyOrder.{Reordered, AnyOrder}
 use Rattle.late.specs.Sending.{SomeOnce}
 use Rattle.late.specs.Needed.{planTo, sumPlan, recordOf}
@@ -29,8 +29,8 @@ twoPlan = planTo (word topKind 2 ∷ word rowsKind 2 ∷ variable 0 ∷ variable
 abbrev pub bestLists : List (List ℕ)
 bestLists = (name 1 ∷ number 300 ∷ []) ∷ [] ∷ (name 3 ∷ number 310 ∷ name 2 ∷ number 45 ∷ []) ∷ []
 
-abbrev pub bestTwo : List ℕ
-bestTwo = name 3 ∷ number 310 ∷ name 1 ∷ number 300 ∷ []
+abbrev pub bestPair : List ℕ
+bestPair = name 3 ∷ number 310 ∷ name 1 ∷ number 300 ∷ []
 
 -- ---- one group measuring ?1: a record, an empty list, and the record of no rows
 abbrev pub nothingWords : List ℕ
@@ -64,15 +64,15 @@ pub record PremisesMet : Type 0 where
   pub reordered : Reordered inTurn turned
   pub once : EachOnce bestLists turned
   pub some-once : SomeOnce bestLists (into (turn 2) behind (turn 0))
-  pub apart : Apart (rowBefore (variable 0 ∷ variable 1 ∷ []) (word fallingKind 1 ∷ [])) (rowsMerged 2 bestLists (turnsOf inTurn))
-  pub best : (given twoPlan bestLists inTurn ≡ some bestTwo) × (given twoPlan bestLists turned ≡ some bestTwo)
+  pub apart : Apart (rowBefore (variable 0 ∷ variable 1 ∷ []) (word fallingKind 1 ∷ [])) (rowsMerged 2 bestLists (turnsAlong inTurn))
+  pub best : (given twoPlan bestLists inTurn ≡ some bestPair) × (given twoPlan bestLists turned ≡ some bestPair)
   pub total : (given sumPlan sumLists inTurn ≡ some (recordOf 1 0)) × (given sumPlan sumLists turned ≡ some (recordOf 1 0))
   pub nothing : (given sumPlan sumLists (into (turn 1) behind (turn 2)) ≡ some nothingWords)
       × (given sumPlan sumLists (into (turn 2) behind (turn 1)) ≡ some nothingWords)
 
 -- and what any order says of them: the other way, if it is not refused, gives these words and no others
-pub record Told : Type 0 where
-  pub best : AnyOrder twoPlan bestLists → (a : List ℕ) → given twoPlan bestLists turned ≡ some a → a ≡ bestTwo
+pub record AnyOrderTold : Type 0 where
+  pub best : AnyOrder twoPlan bestLists → (a : List ℕ) → given twoPlan bestLists turned ≡ some a → a ≡ bestPair
   pub total : AnyOrder sumPlan sumLists → (a : List ℕ) → given sumPlan sumLists turned ≡ some a → a ≡ recordOf 1 0
   pub grouped : AnyOrder twoPlan bestLists → (a : List ℕ) → given twoPlan bestLists (into (turn 0) behind (into (turn 1) behind (turn 2))) ≡ some a
-      → a ≡ bestTwo
+      → a ≡ bestPair

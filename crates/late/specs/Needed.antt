@@ -15,14 +15,14 @@ planTo ending = word headKind 1 ∷ word branchKind 1 ∷ variable 0 ∷ name 12
 abbrev pub bestPlan : List ℕ
 bestPlan = planTo (word topKind 1 ∷ word rowsKind 2 ∷ variable 0 ∷ variable 1 ∷ word fallingKind 1 ∷ [])
 
-abbrev pub tied : List (List ℕ)
-tied = (name 2 ∷ number 310 ∷ []) ∷ (name 3 ∷ number 310 ∷ []) ∷ []
+abbrev pub tiedRows : List (List ℕ)
+tiedRows = (name 2 ∷ number 310 ∷ []) ∷ (name 3 ∷ number 310 ∷ []) ∷ []
 
 -- in either order the row that was kept stays, so the ends differ
 pub record TiedDiffer : Type 0 where
-  pub inOrder : given bestPlan tied (into (turn 0) [] (turn 1)) ≡ some (name 2 ∷ number 310 ∷ [])
-  pub turned : given bestPlan tied (into (turn 1) [] (turn 0)) ≡ some (name 3 ∷ number 310 ∷ [])
-  pub differ : ¬ (given bestPlan tied (into (turn 0) [] (turn 1)) ≡ given bestPlan tied (into (turn 1) [] (turn 0)))
+  pub inOrder : given bestPlan tiedRows (into (turn 0) [] (turn 1)) ≡ some (name 2 ∷ number 310 ∷ [])
+  pub turned : given bestPlan tiedRows (into (turn 1) [] (turn 0)) ≡ some (name 3 ∷ number 310 ∷ [])
+  pub differ : ¬ (given bestPlan tiedRows (into (turn 0) [] (turn 1)) ≡ given bestPlan tiedRows (into (turn 1) [] (turn 0)))
 
 -- ---- one group measuring ?1: the records of three turns, whose sums are 2^63 - 1, 1 and -1
 abbrev pub sumPlan : List ℕ

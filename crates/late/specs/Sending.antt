@@ -11,12 +11,12 @@ use Rattle.plans.specs.Endings.{top}
 use Rattle.plans.specs.Plans.{planOf}
 use Rattle.lists.specs.Gathering.{leastOutput}
 use Rattle.lists.specs.Thresholds.{lastRow, Sent}
-use Rattle.late.specs.Ways.{Way, turnsOf, isMerge, given}
+use Rattle.late.specs.Ways.{Way, turnsAlong, isMerge, given}
 
 -- a way merges some of the turns, none of them twice
 pub record SomeOnce (lists : List (List ℕ)) (w : Way) : Type 0 where
-  pub there : all (λ i. ltb i (length lists)) (turnsOf w) ≡ true
-  pub once : distinct (turnsOf w) ≡ true
+  pub there : all (λ i. ltb i (length lists)) (turnsAlong w) ≡ true
+  pub once : distinct (turnsAlong w) ≡ true
 
 -- the last row of a full best-of list that such a way gives, in whatever order and grouping, may be sent as a threshold
 abbrev pub MayBeSent : List ℕ → List (List ℕ) → Type 0

@@ -19,10 +19,10 @@ pub data Way : Type 0 where
   into : Way → List ℕ → Way → Way
 
 -- the turns whose lists are merged, from left to right
-unfoldable pub turnsOf : Way → List ℕ
-turnsOf empty = []
-turnsOf (turn i) = i ∷ []
-turnsOf (into a behind b) = turnsOf a ++ turnsOf b
+unfoldable pub turnsAlong : Way → List ℕ
+turnsAlong empty = []
+turnsAlong (turn i) = i ∷ []
+turnsAlong (into a behind b) = turnsAlong a ++ turnsAlong b
 
 abbrev pub isMerge : Way → Bool
 isMerge empty = false
@@ -47,7 +47,7 @@ given plan lists (into a behind b) = next (given plan lists a) (λ kept. next (g
 
 -- each of the lists is merged once
 abbrev pub EachOnce : List (List ℕ) → Way → Type 0
-EachOnce lists w = List·Permᴰ (numbers (length lists)) (turnsOf w)
+EachOnce lists w = List·Permᴰ (numbers (length lists)) (turnsAlong w)
 
 -- the rows, of so many words, of the lists that a way merges, from left to right
 abbrev pub rowsMerged : ℕ → List (List ℕ) → List ℕ → List (List ℕ)

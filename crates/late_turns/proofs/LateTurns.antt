@@ -35,7 +35,7 @@ use Rattle.cuts.proofs.Chains.{Chain, piece-adds, kept-some, chain-placed, sent
 use Rattle.cuts.proofs.Keeping.{Kept, end-later, whole}
 use Rattle.cuts.proofs.AnyCut.{history-keeps, fresh-keeps}
 use Rattle.late.specs.Apart.{Apart}
-use Rattle.late.specs.Ways.{Way, turnsOf, isMerge, EachOnce}
+use Rattle.late.specs.Ways.{Way, turnsAlong, isMerge, EachOnce}
 use Rattle.late.proofs.ApartParts.{apart-lists}
 use Rattle.late.proofs.ApartSome.{apart-merged}
 use Rattle.late.proofs.AnyOrder.{any-order}
@@ -131,7 +131,7 @@ module _ (v : Survey) (plan : List ℕ) (a : Accepted (v .tables) plan) (h : Pho
         listed = listed;
         some-turns = λ j vs keys e d x y r o.
             any-order plan (listsIn (servedIn h)) .tops j vs keys e x y r
-            (apart-merged vs keys (listsIn (servedIn h)) (turnsOf x) o (lists-apart j vs keys e d));
+            (apart-merged vs keys (listsIn (servedIn h)) (turnsAlong x) o (lists-apart j vs keys e d));
         grouped = λ j vs keys e w i p b f.
             top-grouped plan (listsIn (servedIn h)) j vs keys e (some-row j vs keys e) w i p b f ∙ top-taken j vs keys e;
         finished = λ d.

@@ -29,22 +29,22 @@ use Rattle.cuts.specs.Histories.{afterTaking, mergeInputOf, afterMerge, afterMe
 use Rattle.cuts.specs.Premises.{listsIn}
 use Rattle.cuts.specs.Uncut.{MergesLists}
 use Rattle.cuts.proofs.Keeping.{served-more, same-served}
-use Rattle.late.specs.Ways.{Way, empty, turn, into, turnsOf, writtenIn, mergedBy, given}
+use Rattle.late.specs.Ways.{Way, empty, turn, into, turnsAlong, writtenIn, mergedBy, given}
 use Rattle.late_turns.specs.OwnWay.{OwnWay}
 
 -- ---- lists behind those that a way merges change nothing
-given-more : (plan : List ℕ) (lists more : List (List ℕ)) (w : Way) → Each (λ i. i < length lists) (turnsOf w)
+given-more : (plan : List ℕ) (lists more : List (List ℕ)) (w : Way) → Each (λ i. i < length lists) (turnsAlong w)
     → given plan (lists ++ more) w ≡ given plan lists w
-unfolding given turnsOf
+unfolding given turnsAlong
 given-more plan lists more empty h = refl
 given-more plan lists more (turn i) h = ap some (List·getD-append lists more [] i (h .0))
 given-more plan lists more (into a behind b) h =
     ap₂ (λ (x : Option (List ℕ)) (y : Option (List ℕ)). next x (λ kept. next y (λ list. mergedBy plan kept behind list)))
-    (given-more plan lists more a (each-left (λ i. i < length lists) (turnsOf a) (turnsOf b) h))
-    (given-more plan lists more b (each-right (λ i. i < length lists) (turnsOf a) (turnsOf b) h))
+    (given-more plan lists more a (each-left (λ i. i < length lists) (turnsAlong a) (turnsAlong b) h))
+    (given-more plan lists more b (each-right (λ i. i < length lists) (turnsAlong a) (turnsAlong b) h))
 
 -- ---- the phone's numbers of turns
-below : (h : Phone) (w : Way) → turnsOf w ≡ numbers (length (h .taken)) → Each (λ i. i < length (listsIn (servedIn h))) (turnsOf w)
+below : (h : Phone) (w : Way) → turnsAlong w ≡ numbers (length (h .taken)) → Each (λ i. i < length (listsIn (servedIn h))) (turnsAlong w)
 below h w e =
     let m = length-map (servedIn h) (λ (x : ServedTurn). x .list) in
     let l : length (h .taken) ≤ length (listsIn (servedIn h)) = omega (arith, m, length-append (h .taken) (h .waiting)) in
@@ -87,7 +87,7 @@ module _ (v : Survey) (plan : List ℕ) (merging : MergesLists (planOf plan .end
   merging-one : (h : Phone) (behind : List ℕ) (x : ServedTurn) (rest : List ServedTurn) → h .waiting ≡ x ∷ rest → OwnWay plan h
       → (w : Written) → mergeOf (mergeInputOf plan h behind x) .answer ≡ w
       → OwnWay plan (afterMerge h x rest (mergeOf (mergeInputOf plan h behind x)) w)
-  unfolding given turnsOf
+  unfolding given turnsAlong
   merging-one h behind x rest waits o (Refused y) e = o
   merging-one h behind x rest waits o (Words n) e =
       record {
@@ -133,5 +133,5 @@ module _ (v : Survey) (plan : List ℕ) (merging : MergesLists (planOf plan .end
 
   -- from a fresh opening, with no premise
   pub own-way : (o : Opened) (es : List Event) → OwnWay plan (history v plan (fresh o) es)
-  unfolding given turnsOf
+  unfolding given turnsAlong
   own-way o es = own-from (fresh o) es (record { way = empty; turns = numbers-none; gives = refl })

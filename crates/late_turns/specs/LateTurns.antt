@@ -19,7 +19,7 @@ use Rattle.cuts.specs.Premises.{listsIn}
 use Rattle.cuts.specs.Uncut.{EndsAt, Placed, keptAfter, runList}
 use Rattle.cuts.specs.Unsent.{Unsent}
 use Rattle.late.specs.Apart.{Apart}
-use Rattle.late.specs.Ways.{Way, turnsOf, isMerge, given, EachOnce}
+use Rattle.late.specs.Ways.{Way, turnsAlong, isMerge, given, EachOnce}
 use Rattle.late.specs.AnyOrder.{Reordered, SameEnd}
 
 -- the lists of a history's served turns, merged by a way no merge of which is refused, give the uncut run's list up to a position of it
@@ -48,10 +48,10 @@ pub record LateAsUncut (v : Survey) (plan : List ℕ) (h : Phone) : Type 0 where
   -- of some turns alone, each once: two ways that merge the same of them end alike where no two delivered rows are equal in all keys
   pub some-turns : (k : ℕ) (vs keys : List ℕ) → planOf plan .ending ≡ top k vs keys
       → Apart (rowBefore vs keys) (map (project vs) (after (v .tables) (planOf plan) reached .delivered))
-      → (x y : Way) → Reordered x y → distinct (turnsOf x) ≡ true → SameEnd plan (listsIn (servedIn h)) x y
+      → (x y : Way) → Reordered x y → distinct (turnsAlong x) ≡ true → SameEnd plan (listsIn (servedIn h)) x y
   -- in whatever grouping, but in the order of turns, with no such premise
   pub grouped : (k : ℕ) (vs keys : List ℕ) → planOf plan .ending ≡ top k vs keys
-      → (w : Way) → isMerge w ≡ true → turnsOf w ≡ numbers (length (listsIn (servedIn h))) → GivesUncut v plan h reached w
+      → (w : Way) → isMerge w ≡ true → turnsAlong w ≡ numbers (length (listsIn (servedIn h))) → GivesUncut v plan h reached w
   -- where done was answered these are all of the query's turns, and the list is the whole uncut run's
   pub finished : doneIn (servedIn h) ≡ true
       → EndsAt (v .tables) (planOf plan) reached

@@ -7,10 +7,10 @@ use lib.ListN.{length}
 use Rattle.words.specs.Sequences.{numbers}
 use Rattle.cuts.specs.Histories.{Phone, servedIn}
 use Rattle.cuts.specs.Premises.{listsIn}
-use Rattle.late.specs.Ways.{Way, turnsOf, given}
+use Rattle.late.specs.Ways.{Way, turnsAlong, given}
 
 -- a way of merging the lists that the phone has taken, no merge of which is refused, gives the list that it keeps
 pub record OwnWay (plan : List ℕ) (h : Phone) : Type 0 where
   pub way : Way
-  pub turns : turnsOf way ≡ numbers (length (h .taken))
+  pub turns : turnsAlong way ≡ numbers (length (h .taken))
   pub gives : given plan (listsIn (servedIn h)) way ≡ some (h .kept)

@@ -9,7 +9,7 @@ use lib.ListN.{length, take, drop, length-drop, take-append-drop}
 use lib.Seq.{take-length, length-take-le}
 use Rattle.lists.specs.Rows.{rowBefore}
 use Rattle.lists.specs.Gathering.{recordsIn}
-use Rattle.list_best_places.specs.Places.{Searchable, placeIn, rowPlace, Placed}
+use Rattle.list_best_places.specs.Places.{Searchable, placeIn, rowPlace, PlacedUpTo}
 use Rattle.lists.proofs.Records.{length-records, records-nil}
 use Rattle.words.proofs.Sorting.{Sorted, sorted-take}
 use Rattle.list_best_places.proofs.Placing.{place-le, place-back, place-behind, place-front, sorted-neighbours}
@@ -22,13 +22,13 @@ abbrev pub rowBack : ℕ → List ℕ → ℕ → List ℕ
 rowBack w list at = take (at - (at - w)) (drop (at - w) list)
 
 module _ {vs keys row list : List ℕ} (s : Searchable vs keys row list) where
-  pub placed-start : Placed vs keys row list (length list)
+  pub placed-start : PlacedUpTo vs keys row list (length list)
   placed-start = record { up-to = omega arith; whole = s .whole; same = rw take-length }
 
   -- what code found of a row, wherever it is: the row comes before it, so its place is not behind that one
   module _ {at : ℕ} (h : at + length vs ≤ length list) (m : at % length vs ≡ 0) {t : Bool}
       (e : t ≡ rowBefore vs keys row (rowAt (length vs) list at)) where
-    pub placed-at : t ≡ true → Placed vs keys row list at
+    pub placed-at : t ≡ true → PlacedUpTo vs keys row list at
     placed-at p =
         let front = recordsIn (length vs) (take at list) in
         let rest = recordsIn (length vs) (drop (at + length vs) list) in
@@ -44,7 +44,7 @@ module _ {vs keys row list : List ℕ} (s : Searchable vs keys row list) where
           same = ap (placeIn (rowBefore vs keys) row) split ∙ place-behind (rowBefore vs keys) row (rowAt (length vs) list at) rest front (sym e ∙ p);
         }
 
-  module _ {at : ℕ} (inv : Placed vs keys row list at) where
+  module _ {at : ℕ} (inv : PlacedUpTo vs keys row list at) where
     pub placed-end : at ≡ 0 → at ≡ rowPlace vs keys row list * length vs
     placed-end z =
         let none : recordsIn (length vs) (take at list) ≡ [] =
@@ -78,7 +78,7 @@ module _ {vs keys row list : List ℕ} (s : Searchable vs keys row list) where
 
       -- what code found of the row that ends there
       module _ {t : Bool} (e : t ≡ rowBefore vs keys row (rowBack (length vs) list at)) where
-        pub placed-back : t ≡ true → Placed vs keys row list (at - length vs)
+        pub placed-back : t ≡ true → PlacedUpTo vs keys row list (at - length vs)
         placed-back p =
             let r = row-room in
             let u = inv .up-to in

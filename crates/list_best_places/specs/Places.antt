@@ -27,7 +27,7 @@ abbrev pub rowPlace : List ℕ → List ℕ → List ℕ → List ℕ → ℕ
 rowPlace vs keys row list = placeIn (rowBefore vs keys) row (recordsIn (length vs) list)
 
 -- up to some words, of whole rows: the place is that among these rows
-pub record Placed (vs keys row list : List ℕ) (at : ℕ) : Type 0 where
+pub record PlacedUpTo (vs keys row list : List ℕ) (at : ℕ) : Type 0 where
   pub up-to : at ≤ length list
   pub whole : at % length vs ≡ 0
   pub same : rowPlace vs keys row list ≡ rowPlace vs keys row (take at list)

@@ -5,7 +5,7 @@ ghost use Prim.Native.Nat.{_*_};
 ghost use lib.ListN.{length};
 ghost use Rattle.lists.specs.Rows.{rowBefore};
 ghost use Rattle.lists.specs.Gathering.{recordsIn};
-ghost use Rattle.list_best_places.specs.Places.{Searchable, placeIn, rowPlace, Placed};
+ghost use Rattle.list_best_places.specs.Places.{Searchable, placeIn, rowPlace, PlacedUpTo};
 
 // How many rows a far step back passes.
 const FAR: usize = 8;
@@ -13,8 +13,8 @@ const FAR: usize = 8;
 // Far steps back from some words, while a row comes before the row there: its place is not behind the words where they stop.
 fn far_back(vars: &[u32], keys: &[u32], row: &[u32], list: &[u32], from: usize) -> usize
     requires { ⌜ Searchable (now vars) (now keys) (now row) (now list) ⌝ }
-    requires { ⌜ Placed (now vars) (now keys) (now row) (now list) from ⌝ }
-    ensures { λ r. ⌜ Placed (now (vars .entry)) (now (keys .entry)) (now (row .entry)) (now (list .entry)) r ⌝ }
+    requires { ⌜ PlacedUpTo (now vars) (now keys) (now row) (now list) from ⌝ }
+    ensures { λ r. ⌜ PlacedUpTo (now (vars .entry)) (now (keys .entry)) (now (row .entry)) (now (list .entry)) r ⌝ }
 {
     let w = vars.len();
     let mut at = from;
@@ -33,7 +33,7 @@ fn far_back(vars: &[u32], keys: &[u32], row: &[u32], list: &[u32], from: usize) 
 // The place of a row, by steps of one row back from some words that it is not behind.
 fn near_back(vars: &[u32], keys: &[u32], row: &[u32], list: &[u32], upto: usize) -> usize
     requires { ⌜ Searchable (now vars) (now keys) (now row) (now list) ⌝ }
-    requires { ⌜ Placed (now vars) (now keys) (now row) (now list) upto ⌝ }
+    requires { ⌜ PlacedUpTo (now vars) (now keys) (now row) (now list) upto ⌝ }
     ensures { λ r. ⌜ r ≡ rowPlace (now (vars .entry)) (now (keys .entry)) (now (row .entry)) (now (list .entry)) * length (now (vars .entry)) ⌝ }
 {
     let w = vars.len();

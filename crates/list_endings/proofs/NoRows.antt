@@ -12,7 +12,7 @@ use Rattle.plans.specs.Endings.{Ending, registers}
 use Rattle.plans.specs.Reading.{lastIn, measuredIn}
 use Rattle.plans.proofs.EndingRead.{is-registers}
 use Rattle.registers.specs.Registers.{registerCount, registersOf}
-use Rattle.lists.specs.Rows.{isBound}
+use Rattle.lists.specs.Rows.{hasValue}
 use Rattle.lists.specs.Gathering.{gathered, leastOutput}
 use Rattle.lists.specs.Putting.{Listed}
 use Rattle.lists.proofs.OneRow.{gathered-nil}
@@ -33,5 +33,5 @@ module _ (e : Ending) (out : List ℕ) where
     registers-listed after n l threshold =
         subst⁻¹ (λ ws. Listed ws out after n)
         (ap (λ (x : Ending). gathered x threshold []) (is-registers e h) ∙ registers-gathered (measuredIn e) threshold []
-        ∙ ap registersOf (keep-nil isBound))
+        ∙ ap registersOf (keep-nil hasValue))
         l

@@ -5,31 +5,31 @@ use native.Mathlib.Omega.{arith}
 use mathlib.Core.Path.{_≡_, refl, sym, _∙_, ap}
 use mathlib.Core.Bool.{Bool, true, false}
 use mathlib.Core.List.{List, [], _∷_, _++_}
-use Rattle.lists.specs.declared.Side.{Side}
-use Rattle.lists.specs.declared.Side.the-variants.{Before, Same, After}
+use Rattle.lists.specs.declared.Comes.{Comes}
+use Rattle.lists.specs.declared.Comes.the-variants.{Before, Same, After}
 use Rattle.lists.specs.Groups.{addAllBy}
 use Rattle.lists.specs.Sides.{sideBy}
-use Rattle.list_group_merges.specs.Weaving.{bySide, Walk, walked, walkedIn}
+use Rattle.list_group_merges.specs.Weaving.{bySide, BackWalk, walked, walkedIn}
 use Rattle.words.proofs.Each.{each-append}
 use Rattle.words.proofs.EachMore.{each-weaken}
 use Rattle.list_group_merges.proofs.AddingLast.{Below, last-old, last-new, last-both}
 
 -- ---- one step
 -- from i records of the first list and j of the second, where the last of both is the second's, the first's, or in both
-pub data Goes : ℕ → ℕ → Side → ℕ → ℕ → Type 0 where
+pub data Goes : ℕ → ℕ → Comes → ℕ → ℕ → Type 0 where
   new : {i q : ℕ} → Goes i (suc q) Before i q
   both : {p q : ℕ} → Goes (suc p) (suc q) Same p q
   old : {p q : ℕ} → Goes (suc p) (suc q) After p (suc q)
 
-abbrev pub stepBy : {R : Type 0} → Walk R → Side → ℕ → ℕ → R → R
+abbrev pub stepBy : {R : Type 0} → BackWalk R → Comes → ℕ → ℕ → R → R
 stepBy v s p q r = bySide s (v .new q r) (v .both p q r) (v .old p r)
 
-pub walk-end : {R : Type 0} (side : ℕ → ℕ → Side) (v : Walk R) (i : ℕ) → walked side v i 0 ≡ v .ends i
+pub walk-end : {R : Type 0} (side : ℕ → ℕ → Comes) (v : BackWalk R) (i : ℕ) → walked side v i 0 ≡ v .ends i
 unfolding walked walkedIn
 walk-end side v zero = refl
 walk-end side v (suc i) = refl
 
-pub walk-goes : {R : Type 0} (side : ℕ → ℕ → Side) (v : Walk R) {i j : ℕ} {s : Side} {p q : ℕ} → side i j ≡ s → Goes i j s p q
+pub walk-goes : {R : Type 0} (side : ℕ → ℕ → Comes) (v : BackWalk R) {i j : ℕ} {s : Comes} {p q : ℕ} → side i j ≡ s → Goes i j s p q
     → walked side v i j ≡ stepBy v s p q (walked side v p q)
 unfolding walked walkedIn
 walk-goes side v e (new {i = zero}) = refl
@@ -38,7 +38,7 @@ walk-goes side v e both = rw e
 walk-goes side v e old = rw e
 
 -- ---- what a map keeps, up to n records of the first list and m of the second
-pub walk-map : {R S : Type 0} (side : ℕ → ℕ → Side) (v : Walk R) (u : Walk S) (f : R → S) (n m : ℕ)
+pub walk-map : {R S : Type 0} (side : ℕ → ℕ → Comes) (v : BackWalk R) (u : BackWalk S) (f : R → S) (n m : ℕ)
     → ((i : ℕ) → i ≤ n → f (v .ends i) ≡ u .ends i)
     → ((q : ℕ) → q < m → (r : R) → f (v .new q r) ≡ u .new q (f r))
     → ((p : ℕ) → p < n → (r : R) → f (v .old p r) ≡ u .old p (f r))
@@ -54,7 +54,7 @@ walk-map side v u f n m he hn ho hb (suc p) (suc q) a b =
     (walk-map side v u f n m he hn ho hb p (suc q) (omega arith) b)
     (walk-map side v u f n m he hn ho hb p q (omega arith) (omega arith))
   where
-    go : (s : Side) → f (walked side v (suc p) q) ≡ walked side u (suc p) q
+    go : (s : Comes) → f (walked side v (suc p) q) ≡ walked side u (suc p) q
         → f (walked side v p (suc q)) ≡ walked side u p (suc q) → f (walked side v p q) ≡ walked side u p q
         → f (bySide s (v .new q (walked side v (suc p) q)) (v .both p q (walked side v p q)) (v .old p (walked side v p (suc q))))
         ≡ bySide s (u .new q (walked side u (suc p) q)) (u .both p q (walked side u p q)) (u .old p (walked side u p (suc q)))
@@ -68,7 +68,7 @@ unfoldable pub first : {A : Type 0} → (ℕ → A) → ℕ → List A
 first f zero = []
 first f (suc n) = first f n ++ (f n ∷ [])
 
-abbrev pub listWalk : {A : Type 0} → (A → A → A) → (ℕ → A) → (ℕ → A) → Walk (List A)
+abbrev pub listWalk : {A : Type 0} → (A → A → A) → (ℕ → A) → (ℕ → A) → BackWalk (List A)
 listWalk join f h =
     record {
       ends = first f;
@@ -85,7 +85,7 @@ module _ {A : Type 0} (Alike : A → Type 0) (before : A → A → Bool) (join :
     (left : (a b c : A) → before (join a b) c ≡ before a c)
     (f h : ℕ → A) (n m : ℕ) (af : (p : ℕ) → p < n → Alike (f p)) (ah : (q : ℕ) → q < m → Alike (h q))
     (bf : (p : ℕ) → p < n → Below before (f p) (first f p)) (bh : (q : ℕ) → q < m → Below before (h q) (first h q))
-    (side : ℕ → ℕ → Side) (agree : (p q : ℕ) → p < n → q < m → side (suc p) (suc q) ≡ sideBy before (f p) (h q)) where
+    (side : ℕ → ℕ → Comes) (agree : (p q : ℕ) → p < n → q < m → side (suc p) (suc q) ≡ sideBy before (f p) (h q)) where
   -- what comes before x comes before y as well
   below-trans : (x y : A) (l : List A) → before x y ≡ true → Below before x l → Below before y l
   below-trans x y l e b = each-weaken (λ z p. trans z x y p e) l b

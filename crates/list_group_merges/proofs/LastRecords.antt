@@ -9,15 +9,15 @@ use mathlib.Core.List.{List, [], _∷_, _++_}
 use lib.Dec.{eqb}
 use lib.ListN.{length, take, drop, length-append, length-drop}
 use lib.Seq.{take-take, length-take-le}
-use Rattle.lists.specs.declared.Side.{Side}
-use Rattle.lists.specs.declared.Side.the-variants.{Before, Same, After}
+use Rattle.lists.specs.declared.Comes.{Comes}
+use Rattle.lists.specs.declared.Comes.the-variants.{Before, Same, After}
 use Rattle.lists.specs.Groups.{totalsWidth}
 use Rattle.list_group_totals.specs.GroupTotals.{totalsIn, totalsWords, totalsBoth}
 use Rattle.list_groups.specs.Keys.{keysFirst}
 use Rattle.lists.specs.Sides.{sideBy}
 use Rattle.list_group_merges.specs.Weaving.{recordAt, pickAt, joinWords, wordWalk, woven}
 use Rattle.list_group_merges.specs.MergingGroups.{lastRecord}
-use Rattle.list_group_merges.proofs.WalkSteps.{pick-none, Stepped, walk-steps}
+use Rattle.list_group_merges.proofs.WalkSteps.{pick-none, WalkStepped, walk-steps}
 
 -- ---- a part within the words that two buffers share
 part-of : (p : List ℕ) (x f c : ℕ) → f + c ≤ x → take c (drop f p) ≡ take c (drop f (take x p))
@@ -51,7 +51,7 @@ join-wide g r s e =
     ∙ ap (λ n. n + totalsWidth) (length-take-le g r (omega arith))
 
 module _ (g : ℕ) (a b : List ℕ) (x y : ℕ) where
-  pub last-wide : (s : Side) → g + totalsWidth ≤ y → y ≤ length b → ((s ≡ Before → ⊥) → g + totalsWidth ≤ x) → x ≤ length a
+  pub last-wide : (s : Comes) → g + totalsWidth ≤ y → y ≤ length b → ((s ≡ Before → ⊥) → g + totalsWidth ≤ x) → x ≤ length a
       → length (lastRecord g a x b y s) ≡ g + totalsWidth
   last-wide Before hy ly hx lx = record-wide g b y hy ly
   last-wide Same hy ly hx lx =
@@ -59,7 +59,7 @@ module _ (g : ℕ) (a b : List ℕ) (x y : ℕ) where
       (record-wide g a x (hx (λ e. let z : _≡_ {A = ℕ} 0 1 = cc in omega arith)) lx)
   last-wide After hy ly hx lx = record-wide g a x (hx (λ e. let z : _≡_ {A = ℕ} 0 1 = cc in omega arith)) lx
 
-  pub last-kept : (p : List ℕ) (s : Side) → ((s ≡ Before → ⊥) → g + totalsWidth ≤ x) → take x p ≡ take x a
+  pub last-kept : (p : List ℕ) (s : Comes) → ((s ≡ Before → ⊥) → g + totalsWidth ≤ x) → take x p ≡ take x a
       → lastRecord g p x b y s ≡ lastRecord g a x b y s
   last-kept p Before h e = refl
   last-kept p Same h e =
@@ -70,8 +70,8 @@ module _ (g : ℕ) (a b : List ℕ) (x y : ℕ) where
       part-kept p a x (x - (g + totalsWidth)) (g + totalsWidth) e (omega arith)
 
   -- the woven list ends with it
-  pub last-woven : (i j : ℕ) → x ≡ i * (g + totalsWidth) → y ≡ j * (g + totalsWidth) → (s : Side) → pickAt g a x b y ≡ s
-      → (t : Stepped g x y i j s) → woven g a b i j ≡ woven g a b (t .p) (t .q) ++ lastRecord g a x b y s
+  pub last-woven : (i j : ℕ) → x ≡ i * (g + totalsWidth) → y ≡ j * (g + totalsWidth) → (s : Comes) → pickAt g a x b y ≡ s
+      → (t : WalkStepped g x y i j s) → woven g a b i j ≡ woven g a b (t .p) (t .q) ++ lastRecord g a x b y s
   unfolding woven
   last-woven i j hx hy Before e t =
       walk-steps g a b x y (wordWalk g a b) i j hx hy Before e t

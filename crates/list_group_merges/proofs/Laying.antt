@@ -9,8 +9,8 @@ use lib.Dec.{ltb}
 use lib.IntN.{_+ℤ_}
 use lib.ListN.{length, take, drop, length-drop, take-append-drop}
 use lib.Seq.{take-all, take-length, drop-drop, length-take-le, paste}
-use Rattle.lists.specs.declared.Side.{Side}
-use Rattle.lists.specs.declared.Side.the-variants.{Before, Same, After}
+use Rattle.lists.specs.declared.Comes.{Comes}
+use Rattle.lists.specs.declared.Comes.the-variants.{Before, Same, After}
 use Rattle.list_group_totals.specs.declared.Totals.{Totals}
 use Rattle.lists.specs.Groups.{totalsWidth}
 use Rattle.lists.specs.Sums.{longValues, sumFits, sumIn}
@@ -119,7 +119,7 @@ module _ (g : ℕ) (a : List ℕ) (from to : ℕ) (more : List ℕ) (h : from �
       ∙ append-nil (take to a ++ ((take g r ++ W) ++ rest))
 
 -- ---- the last record of both lists, by the side
-module _ (g : ℕ) (a : List ℕ) (x : ℕ) (b : List ℕ) (y to : ℕ) (s : Side) (l : Lays g a x b y to s) where
+module _ (g : ℕ) (a : List ℕ) (x : ℕ) (b : List ℕ) (y to : ℕ) (s : Comes) (l : Lays g a x b y to s) where
   abbrev w : ℕ
   w = g + totalsWidth
 

@@ -16,7 +16,7 @@ use Rattle.list_group_merges.specs.declared.Merged.the-variants as answe
 use Rattle.lists.specs.Groups.{totalsWidth}
 use Rattle.lists.specs.Gathering.{listRight, merged, totalsFit}
 use Rattle.list_group_merges.specs.Weaving.{woven, unionOf}
-use Rattle.list_group_merges.specs.MergingGroups.{mergedAs, mergedOver}
+use Rattle.list_group_merges.specs.MergingGroups.{groupsMergedAs, mergedOver}
 use Rattle.lists.proofs.GroupWords.{Words}
 use Rattle.lists.proofs.GroupValid.{right-whole}
 use Rattle.list_group_merges.proofs.WovenGroups.{merged-woven, union-over, union-fits}
@@ -70,7 +70,7 @@ module _ (g : ℕ) (kept : List ℕ) (used : ℕ) (list : List ℕ) (u : used �
 
     -- 13
     pub merge-over : unionOf g kept list (used / (g + totalsWidth)) (length list / (g + totalsWidth)) ≡ Overflows
-        → (answers.Overflow ≡ mergedAs fit result kept) × (kept ≡ mergedOver fit result kept)
+        → (answers.Overflow ≡ groupsMergedAs fit result kept) × (kept ≡ mergedOver fit result kept)
     merge-over h =
         let r = right vs m e in
         let p = union-over vs m kept used list u words-kept words-list (r .0) (r .1)
@@ -79,7 +79,7 @@ module _ (g : ℕ) (kept : List ℕ) (used : ℕ) (list : List ℕ) (u : used �
 
     module _ (n : ℕ) (h : unionOf g kept list (used / (g + totalsWidth)) (length list / (g + totalsWidth)) ≡ Records n) where
       -- 14
-      pub merge-small : length kept / (g + totalsWidth) < n → (answers.NoRoom ≡ mergedAs fit result kept) × (kept ≡ mergedOver fit result kept)
+      pub merge-small : length kept / (g + totalsWidth) < n → (answers.NoRoom ≡ groupsMergedAs fit result kept) × (kept ≡ mergedOver fit result kept)
       merge-small l =
           let p = union-of n h in
           let s = no-room-for (length kept) (g + totalsWidth) n (omega arith) l in
@@ -88,7 +88,7 @@ module _ (g : ℕ) (kept : List ℕ) (used : ℕ) (list : List ℕ) (u : used �
 
       pub merge-words : n ≤ length kept / (g + totalsWidth) → (after : List ℕ)
           → after ≡ woven g kept list (used / (g + totalsWidth)) (length list / (g + totalsWidth)) ++ drop (n * (g + totalsWidth)) kept
-          → (answers.Words (n * (g + totalsWidth)) ≡ mergedAs fit result kept) × (after ≡ mergedOver fit result kept)
+          → (answers.Words (n * (g + totalsWidth)) ≡ groupsMergedAs fit result kept) × (after ≡ mergedOver fit result kept)
       merge-words l after a =
           let p = union-of n h in
           let r = right vs m e in

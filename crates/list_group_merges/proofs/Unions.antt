@@ -6,14 +6,14 @@ use mathlib.Core.Path.{_≡_, refl, sym, _∙_, ap, ap₂}
 use mathlib.Core.Bool.{true, false, cond}
 use mathlib.Core.List.{List}
 use lib.ListN.{length}
-use Rattle.lists.specs.declared.Side.{Side}
-use Rattle.lists.specs.declared.Side.the-variants.{Before, Same, After}
+use Rattle.lists.specs.declared.Comes.{Comes}
+use Rattle.lists.specs.declared.Comes.the-variants.{Before, Same, After}
 use Rattle.list_group_merges.specs.declared.Union.{Union}
 use Rattle.list_group_merges.specs.declared.Union.the-variants.{Records, Overflows}
 use Rattle.lists.specs.Groups.{totalsWidth}
 use Rattle.list_group_merges.specs.Weaving.{walked, recordAt, pickAt, sides, joinFits, moreBy, countWalk, unionOf}
 use Rattle.list_group_merges.proofs.BackWalks.{stepBy, walk-end}
-use Rattle.list_group_merges.proofs.WalkSteps.{mul-small, oldLeft, newLeft, Stepped, stepped, walk-steps}
+use Rattle.list_group_merges.proofs.WalkSteps.{mul-small, oldLeft, newLeft, WalkStepped, stepped, walk-steps}
 
 more-none : (u : Union) → u ≡ moreBy 0 u
 more-none (Records n) = ap Records (omega arith)
@@ -28,11 +28,11 @@ pub whole-words : (n w : ℕ) → n % w ≡ 0 → n ≡ n / w * w
 whole-words n w h = let d = div-add-mod' n w in omega arith
 
 -- the last records of i and j, where their totals fit if they are joined
-abbrev pub Fits : ℕ → List ℕ → ℕ → List ℕ → ℕ → Side → Type 0
-Fits g a x b y s =
+abbrev pub UnionFits : ℕ → List ℕ → ℕ → List ℕ → ℕ → Comes → Type 0
+UnionFits g a x b y s =
     s ≡ Same → joinFits g (recordAt g a (x - (g + totalsWidth))) (recordAt g b (y - (g + totalsWidth))) ≡ true
 
-pub record Counted (g : ℕ) (a b : List ℕ) (whole : Union) (most x y n : ℕ) : Type 0 where
+pub record UnionCounted (g : ℕ) (a b : List ℕ) (whole : Union) (most x y n : ℕ) : Type 0 where
   pub i : ℕ
   pub j : ℕ
   pub x-is : x ≡ i * (g + totalsWidth)
@@ -44,7 +44,7 @@ pub record Counted (g : ℕ) (a b : List ℕ) (whole : Union) (most x y n : ℕ)
 
 pub counted-start : (g : ℕ) (a b : List ℕ) (used : ℕ) → used ≤ length a → used % (g + totalsWidth) ≡ 0
     → length b % (g + totalsWidth) ≡ 0
-    → Counted g a b (unionOf g a b (used / (g + totalsWidth)) (length b / (g + totalsWidth))) (used + length b) used (length b) 0
+    → UnionCounted g a b (unionOf g a b (used / (g + totalsWidth)) (length b / (g + totalsWidth))) (used + length b) used (length b) 0
 counted-start g a b used u h k =
     record {
       i = used / (g + totalsWidth);
@@ -57,7 +57,7 @@ counted-start g a b used u h k =
       rest = more-none (unionOf g a b (used / (g + totalsWidth)) (length b / (g + totalsWidth)));
     }
 
-module _ {g : ℕ} {a b : List ℕ} {whole : Union} {most x y n : ℕ} (c : Counted g a b whole most x y n) where
+module _ {g : ℕ} {a b : List ℕ} {whole : Union} {most x y n : ℕ} (c : UnionCounted g a b whole most x y n) where
   -- the first kept record begins at word 0
   pub counted-first : x < g + totalsWidth → x ≡ 0
   counted-first h = mul-small (c .i) (g + totalsWidth) x (c .x-is) h
@@ -76,8 +76,8 @@ module _ {g : ℕ} {a b : List ℕ} {whole : Union} {most x y n : ℕ} (c : Coun
       go zero h = refl
       go (suc j) h = absurd (let s = suc-mul j (g + totalsWidth) in omega arith)
 
-  module _ (h : 0 < y) (s : Side) (e : pickAt g a x b y ≡ s) where
-    step : Stepped g x y (c .i) (c .j) s
+  module _ (h : 0 < y) (s : Comes) (e : pickAt g a x b y ≡ s) where
+    step : WalkStepped g x y (c .i) (c .j) s
     step = stepped g a b x y (c .i) (c .j) (c .x-is) (c .y-is) h s e
 
     pub counted-new : g + totalsWidth ≤ y
@@ -91,8 +91,8 @@ module _ {g : ℕ} {a b : List ℕ} {whole : Union} {most x y n : ℕ} (c : Coun
     steps = c .rest ∙ ap (moreBy n) (walk-steps g a b x y (countWalk g a b) (c .i) (c .j) (c .x-is) (c .y-is) s e step)
 
   -- one record more
-  pub counted-next : (h : 0 < y) (s : Side) → pickAt g a x b y ≡ s → Fits g a x b y s
-      → Counted g a b whole most (oldLeft g s x) (newLeft g s y) (n + 1)
+  pub counted-next : (h : 0 < y) (s : Comes) → pickAt g a x b y ≡ s → UnionFits g a x b y s
+      → UnionCounted g a b whole most (oldLeft g s x) (newLeft g s y) (n + 1)
   counted-next h Before e f =
       let t = step h Before e in
       let m = c .small in

@@ -6,12 +6,12 @@ use mathlib.Core.Path.{_≡_, refl, sym, _∙_, ap₂}
 use mathlib.Core.List.{List}
 use lib.ListN.{take, drop}
 use borrow.Author.Tests.{eq-eqb, ne-eqb}
-use Rattle.lists.specs.declared.Side.{Side}
-use Rattle.lists.specs.declared.Side.the-variants.{Before, Same, After}
+use Rattle.lists.specs.declared.Comes.{Comes}
+use Rattle.lists.specs.declared.Comes.the-variants.{Before, Same, After}
 use Rattle.lists.specs.Groups.{totalsWidth}
 use Rattle.list_groups.specs.Keys.{keysFirst}
 use Rattle.lists.specs.Sides.{sideBy}
-use Rattle.list_group_merges.specs.Weaving.{bySide, Walk, walked, pickAt, sides}
+use Rattle.list_group_merges.specs.Weaving.{bySide, BackWalk, walked, pickAt, sides}
 use Rattle.list_group_merges.proofs.BackWalks.{Goes, new, both, old, stepBy, walk-goes}
 
 -- ---- which record is the last
@@ -31,13 +31,13 @@ mul-small zero w x e h = omega arith
 mul-small (suc i) w x e h = absurd (let s = suc-mul i w in omega arith)
 
 -- the words that are left of each list
-abbrev pub oldLeft : ℕ → Side → ℕ → ℕ
+abbrev pub oldLeft : ℕ → Comes → ℕ → ℕ
 oldLeft g s x = bySide s x (x - (g + totalsWidth)) (x - (g + totalsWidth))
 
-abbrev pub newLeft : ℕ → Side → ℕ → ℕ
+abbrev pub newLeft : ℕ → Comes → ℕ → ℕ
 newLeft g s y = bySide s (y - (g + totalsWidth)) (y - (g + totalsWidth)) y
 
-pub record Stepped (g : ℕ) (x y i j : ℕ) (s : Side) : Type 0 where
+pub record WalkStepped (g : ℕ) (x y i j : ℕ) (s : Comes) : Type 0 where
   pub p : ℕ
   pub q : ℕ
   pub goes : Goes i j s p q
@@ -47,8 +47,8 @@ pub record Stepped (g : ℕ) (x y i j : ℕ) (s : Side) : Type 0 where
   pub x-there : (s ≡ Before → ⊥) → g + totalsWidth ≤ x
 
 module _ (g : ℕ) (a b : List ℕ) (x y : ℕ) where
-  pub stepped : (i j : ℕ) → x ≡ i * (g + totalsWidth) → y ≡ j * (g + totalsWidth) → 0 < y → (s : Side) → pickAt g a x b y ≡ s
-      → Stepped g x y i j s
+  pub stepped : (i j : ℕ) → x ≡ i * (g + totalsWidth) → y ≡ j * (g + totalsWidth) → 0 < y → (s : Comes) → pickAt g a x b y ≡ s
+      → WalkStepped g x y i j s
   stepped i zero hx hy h s e = absurd (omega arith)
   stepped i (suc q) hx hy h Before e =
       let m = suc-mul q (g + totalsWidth) in
@@ -67,8 +67,8 @@ module _ (g : ℕ) (a b : List ℕ) (x y : ℕ) where
       record { p = p; q = suc q; goes = old; x-left = omega arith; y-left = hy; y-there = omega arith; x-there = λ n. omega arith }
 
   -- the walk there
-  pub walk-steps : {R : Type 0} (v : Walk R) (i j : ℕ) → x ≡ i * (g + totalsWidth) → y ≡ j * (g + totalsWidth) → (s : Side)
-      → pickAt g a x b y ≡ s → (t : Stepped g x y i j s)
+  pub walk-steps : {R : Type 0} (v : BackWalk R) (i j : ℕ) → x ≡ i * (g + totalsWidth) → y ≡ j * (g + totalsWidth) → (s : Comes)
+      → pickAt g a x b y ≡ s → (t : WalkStepped g x y i j s)
       → walked (sides g a b) v i j ≡ stepBy v s (t .p) (t .q) (walked (sides g a b) v (t .p) (t .q))
   walk-steps v i j hx hy s e t =
       walk-goes (sides g a b) v (ap₂ (λ k l. pickAt g a k b l) (sym hx) (sym hy) ∙ e) (t .goes)

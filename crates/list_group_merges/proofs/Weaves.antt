@@ -8,15 +8,15 @@ use mathlib.Core.Bool.{Bool, true, false, cond}
 use mathlib.Core.List.{List, _++_, append-assoc}
 use lib.ListN.{length, take, drop, length-append, length-drop, take-append-drop}
 use lib.Seq.{take-append-le, take-take, drop-at, length-take-le}
-use Rattle.lists.specs.declared.Side.{Side}
-use Rattle.lists.specs.declared.Side.the-variants.{Before, Same, After}
+use Rattle.lists.specs.declared.Comes.{Comes}
+use Rattle.lists.specs.declared.Comes.the-variants.{Before, Same, After}
 use Rattle.list_group_merges.specs.declared.Union.{Union}
 use Rattle.list_group_merges.specs.declared.Union.the-variants.{Records, Overflows}
 use Rattle.lists.specs.Groups.{totalsWidth}
 use Rattle.list_group_merges.specs.Weaving.{bySide, walked, walkedIn, recordAt, pickAt, sides, joinFits, moreBy, countWalk, wordWalk, woven, unionOf}
 use Rattle.list_group_merges.specs.MergingGroups.{lastRecord, Lays}
 use Rattle.list_group_merges.proofs.BackWalks.{walk-end}
-use Rattle.list_group_merges.proofs.WalkSteps.{mul-small, oldLeft, newLeft, Stepped, stepped, walk-steps}
+use Rattle.list_group_merges.proofs.WalkSteps.{mul-small, oldLeft, newLeft, WalkStepped, stepped, walk-steps}
 use Rattle.list_group_merges.proofs.Unions.{whole-words}
 use Rattle.list_group_merges.proofs.LastRecords.{pick-kept, last-wide, last-kept, last-woven, part-kept}
 
@@ -30,7 +30,7 @@ cond-records true u k e = (refl, e)
 cond-records false u k e = let z : _≡_ {A = ℕ} 0 1 = cc in absurd (omega arith)
 
 -- one record less, and the totals of two that are joined fit
-step-records : (s : Side) (t : Bool) (u : Union) (k : ℕ) → bySide s (moreBy 1 u) (cond t (moreBy 1 u) Overflows) (moreBy 1 u) ≡ Records k
+step-records : (s : Comes) (t : Bool) (u : Union) (k : ℕ) → bySide s (moreBy 1 u) (cond t (moreBy 1 u) Overflows) (moreBy 1 u) ≡ Records k
     → (u ≡ Records (k - 1)) × (0 < k) × (s ≡ Same → t ≡ true)
 step-records Before t u k e = let r = more-records u k e in (r .0, r .1, λ p. let z : _≡_ {A = ℕ} 0 1 = cc in absurd (omega arith))
 step-records Same t u k e = let c = cond-records t (moreBy 1 u) k e in let r = more-records u k (c .1) in (r .0, r .1, λ p. c .0)
@@ -49,7 +49,7 @@ enough g a b zero (suc j) k e =
 enough g a b (suc i) (suc j) k e = go (sides g a b (suc i) (suc j)) refl (λ n. enough g a b (suc i) j n) (λ n. enough g a b i (suc j) n)
     (λ n. enough g a b i j n)
   where
-    go : (s : Side) → sides g a b (suc i) (suc j) ≡ s
+    go : (s : Comes) → sides g a b (suc i) (suc j) ≡ s
         → ((n : ℕ) → unionOf g a b (suc i) j ≡ Records n → (suc i ≤ n) × (j ≤ n))
         → ((n : ℕ) → unionOf g a b i (suc j) ≡ Records n → (i ≤ n) × (suc j ≤ n))
         → ((n : ℕ) → unionOf g a b i j ≡ Records n → (i ≤ n) × (j ≤ n))
@@ -146,11 +146,11 @@ module _ {g : ℕ} {a b whole buf : List ℕ} {x y to : ℕ} (h : HalfWoven g a 
       go zero p = refl
       go (suc j) p = absurd (let s = suc-mul j (g + totalsWidth) in omega arith)
 
-  module _ (l : 0 < y) (s : Side) (e : pickAt g buf x b y ≡ s) where
+  module _ (l : 0 < y) (s : Comes) (e : pickAt g buf x b y ≡ s) where
     picked : pickAt g a x b y ≡ s
     picked = sym (pick-kept g buf a b (h .i) x y (h .x-is) (h .kept)) ∙ e
 
-    step : Stepped g x y (h .i) (h .j) s
+    step : WalkStepped g x y (h .i) (h .j) s
     step = stepped g a b x y (h .i) (h .j) (h .x-is) (h .y-is) l s picked
 
     abbrev fit : Bool
@@ -198,7 +198,7 @@ module _ {g : ℕ} {a b whole buf : List ℕ} {x y to : ℕ} (h : HalfWoven g a 
     left-less : oldLeft g s x ≤ x
     left-less = go s
       where
-        go : (s : Side) → oldLeft g s x ≤ x
+        go : (s : Comes) → oldLeft g s x ≤ x
         go Before = omega arith
         go Same = omega arith
         go After = omega arith
@@ -206,7 +206,7 @@ module _ {g : ℕ} {a b whole buf : List ℕ} {x y to : ℕ} (h : HalfWoven g a 
     new-less : newLeft g s y ≤ y
     new-less = go s
       where
-        go : (s : Side) → newLeft g s y ≤ y
+        go : (s : Comes) → newLeft g s y ≤ y
         go Before = omega arith
         go Same = omega arith
         go After = omega arith

@@ -14,7 +14,7 @@ use Rattle.words.specs.Words.{keyRank}
 use Rattle.words.specs.Sequences.{all}
 use Rattle.words.proofs.Orders.{lex-trans, lex-asym, lex-weak}
 use Rattle.plans.specs.Endings.{group}
-use Rattle.lists.specs.declared.Side.the-variants.{Before, Same, After}
+use Rattle.lists.specs.declared.Comes.the-variants.{Before, Same, After}
 use Rattle.list_group_merges.specs.declared.Union.{Union}
 use Rattle.list_group_merges.specs.declared.Union.the-variants.{Records, Overflows}
 use Rattle.lists.specs.Groups.{Group, totalsWidth, together, keysBefore, addGroups, groupWords}

@@ -6,8 +6,8 @@ use mathlib.Core.Bool.{Bool, true, cond}
 use mathlib.Core.List.{List}
 use lib.Dec.{leb}
 use lib.ListN.{length}
-use Rattle.lists.specs.declared.Side.{Side}
-use Rattle.lists.specs.declared.Side.the-variants.{Before, Same}
+use Rattle.lists.specs.declared.Comes.{Comes}
+use Rattle.lists.specs.declared.Comes.the-variants.{Before, Same}
 use Rattle.list_group_merges.specs.declared.Merged.{Merged}
 use Rattle.list_group_merges.specs.declared.Merged.the-variants.{Words, Overflow, NoRoom}
 use Rattle.plans.specs.Endings.{group}
@@ -17,8 +17,8 @@ use Rattle.lists.specs.Putting.{putOver}
 use Rattle.list_group_merges.specs.Weaving.{bySide, recordAt, joinWords, joinFits}
 
 -- by whether the totals fit and by the merged list
-abbrev pub mergedAs : Bool → List ℕ → List ℕ → Merged
-mergedAs fit list buffer = cond fit (cond (leb (length list) (length buffer)) (Words (length list)) NoRoom) Overflow
+abbrev pub groupsMergedAs : Bool → List ℕ → List ℕ → Merged
+groupsMergedAs fit list buffer = cond fit (cond (leb (length list) (length buffer)) (Words (length list)) NoRoom) Overflow
 
 abbrev pub mergedOver : Bool → List ℕ → List ℕ → List ℕ
 mergedOver fit list buffer = cond fit (putOver list buffer) buffer
@@ -32,18 +32,18 @@ BothGroups g kept list =
 abbrev pub AddsGroups : ℕ → List ℕ → List ℕ → List ℕ → List ℕ → Merged → Type 0
 AddsGroups g kept list before after answer =
     (vs : List ℕ) (m : ℕ) → length vs ≡ g
-    → (answer ≡ mergedAs (totalsFit (group vs m) kept list) (merged (group vs m) kept list) before)
+    → (answer ≡ groupsMergedAs (totalsFit (group vs m) kept list) (merged (group vs m) kept list) before)
     × (after ≡ mergedOver (totalsFit (group vs m) kept list) (merged (group vs m) kept list) before)
 
 -- the last record of both lists, of which one ends at x and the other at y, by the side that tells which it is
-abbrev pub lastRecord : ℕ → List ℕ → ℕ → List ℕ → ℕ → Side → List ℕ
+abbrev pub lastRecord : ℕ → List ℕ → ℕ → List ℕ → ℕ → Comes → List ℕ
 lastRecord g a x b y s =
     bySide s (recordAt g b (y - (g + totalsWidth)))
     (joinWords g (recordAt g a (x - (g + totalsWidth))) (recordAt g b (y - (g + totalsWidth))))
     (recordAt g a (x - (g + totalsWidth)))
 
 -- it can be laid at a word, above the records that are left
-pub record Lays (g : ℕ) (a : List ℕ) (x : ℕ) (b : List ℕ) (y to : ℕ) (s : Side) : Type 0 where
+pub record Lays (g : ℕ) (a : List ℕ) (x : ℕ) (b : List ℕ) (y to : ℕ) (s : Comes) : Type 0 where
   pub new-there : g + totalsWidth ≤ y
   pub new-inside : y ≤ length b
   pub room : to + (g + totalsWidth) ≤ length a

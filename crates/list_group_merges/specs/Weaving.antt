@@ -5,8 +5,8 @@ use mathlib.Core.Bool.{Bool, cond}
 use mathlib.Core.List.{List, _++_}
 use lib.Dec.{eqb}
 use lib.ListN.{take, drop}
-use Rattle.lists.specs.declared.Side.{Side}
-use Rattle.lists.specs.declared.Side.the-variants.{Before, Same, After}
+use Rattle.lists.specs.declared.Comes.{Comes}
+use Rattle.lists.specs.declared.Comes.the-variants.{Before, Same, After}
 use Rattle.list_group_merges.specs.declared.Union.{Union}
 use Rattle.list_group_merges.specs.declared.Union.the-variants.{Records, Overflows}
 use Rattle.lists.specs.Groups.{totalsWidth}
@@ -14,27 +14,27 @@ use Rattle.list_group_totals.specs.GroupTotals.{totalsIn, totalsWords, totalsBo
 use Rattle.list_groups.specs.Keys.{keysFirst}
 use Rattle.lists.specs.Sides.{sideBy}
 
-abbrev pub bySide {ℓ} : {R : Type ℓ} → Side → R → R → R → R
+abbrev pub bySide {ℓ} : {R : Type ℓ} → Comes → R → R → R → R
 bySide Before x y z = x
 bySide Same x y z = y
 bySide After x y z = z
 
 -- ---- the walk
 -- what it makes of the first i records of the first list alone; with one more record of the second, of the first, of both
-pub record Walk (R : Type 0) : Type 0 where
+pub record BackWalk (R : Type 0) : Type 0 where
   pub ends : ℕ → R
   pub new : ℕ → R → R
   pub old : ℕ → R → R
   pub both : ℕ → ℕ → R → R
 
-unfoldable pub walkedIn : {R : Type 0} → (ℕ → Side) → Walk R → (ℕ → R) → ℕ → ℕ → R
+unfoldable pub walkedIn : {R : Type 0} → (ℕ → Comes) → BackWalk R → (ℕ → R) → ℕ → ℕ → R
 walkedIn side v rest i zero = v .ends (suc i)
 walkedIn side v rest i (suc j) =
     bySide (side (suc j)) (v .new j (walkedIn side v rest i j)) (v .both i j (rest j)) (v .old i (rest (suc j)))
 
 -- over i records of the first list and j of the second, where side i j says where the last of those i stands against the
 -- last of those j
-unfoldable pub walked : {R : Type 0} → (ℕ → ℕ → Side) → Walk R → ℕ → ℕ → R
+unfoldable pub walked : {R : Type 0} → (ℕ → ℕ → Comes) → BackWalk R → ℕ → ℕ → R
 walked side v zero zero = v .ends zero
 walked side v zero (suc j) = v .new j (walked side v zero j)
 walked side v (suc i) j = walkedIn (side (suc i)) v (walked side v i) i j
@@ -44,11 +44,11 @@ abbrev pub recordAt : ℕ → List ℕ → ℕ → List ℕ
 recordAt g ws x = take (g + totalsWidth) (drop x ws)
 
 -- the record of a that ends at x against the one of b that ends at y; no record comes before all
-unfoldable pub pickAt : ℕ → List ℕ → ℕ → List ℕ → ℕ → Side
+unfoldable pub pickAt : ℕ → List ℕ → ℕ → List ℕ → ℕ → Comes
 pickAt g a x b y =
     cond (eqb x 0) Before (sideBy keysFirst (take g (drop (x - (g + totalsWidth)) a)) (take g (drop (y - (g + totalsWidth)) b)))
 
-abbrev pub sides : ℕ → List ℕ → List ℕ → ℕ → ℕ → Side
+abbrev pub sides : ℕ → List ℕ → List ℕ → ℕ → ℕ → Comes
 sides g a b i j = pickAt g a (i * (g + totalsWidth)) b (j * (g + totalsWidth))
 
 -- two records of one group: the words of both together, and that their totals fit
@@ -59,7 +59,7 @@ unfoldable pub joinFits : ℕ → List ℕ → List ℕ → Bool
 joinFits g r s = bothFit (totalsIn (drop g r)) (totalsIn (drop g s))
 
 -- the words of the merged list
-abbrev pub wordWalk : ℕ → List ℕ → List ℕ → Walk (List ℕ)
+abbrev pub wordWalk : ℕ → List ℕ → List ℕ → BackWalk (List ℕ)
 wordWalk g a b =
     record {
       ends = λ i. take (i * (g + totalsWidth)) a;
@@ -76,7 +76,7 @@ abbrev pub moreBy : ℕ → Union → Union
 moreBy k (Records n) = Records (n + k)
 moreBy k Overflows = Overflows
 
-abbrev pub countWalk : ℕ → List ℕ → List ℕ → Walk Union
+abbrev pub countWalk : ℕ → List ℕ → List ℕ → BackWalk Union
 countWalk g a b =
     record {
       ends = λ i. Records i;

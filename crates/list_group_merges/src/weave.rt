@@ -6,7 +6,7 @@ use list_group_totals::add_totals;
 use list_group_totals::read_totals;
 use list_group_totals::totals_fit;
 use list_groups::by_group;
-use lists::Side;
+use lists::Comes;
 use lists::shift;
 use words::copy_in;
 ghost use mathlib.Core.Path.{_≡_};
@@ -21,13 +21,13 @@ ghost use Rattle.list_group_merges.specs.Weaving.{recordAt, pickAt, join
 ghost use Rattle.list_group_merges.specs.MergingGroups.{BothGroups, AddsGroups, lastRecord, Lays};
 
 // Where the kept record that ends at x stands against the list's that ends at y; no kept record comes before all.
-fn pick(g: usize, kept: &[u32], x: usize, list: &[u32], y: usize) -> Side
+fn pick(g: usize, kept: &[u32], x: usize, list: &[u32], y: usize) -> Comes
     requires { ⌜ (g ≤ mostGroupVariables) × (x ≤ length (now kept)) × (x < g + totalsWidth → x ≡ 0) × (y ≤ length (now list))
         × (g + totalsWidth ≤ y) ⌝ }
     ensures { λ r. ⌜ r ≡ pickAt g (now (kept .entry)) x (now (list .entry)) y ⌝ }
 {
     if x == 0 {
-        return Side::Before;
+        return Comes::Before;
     }
     let w = g + TOTALS;
     let old = x - w;
@@ -66,13 +66,13 @@ fn union_of(g: usize, kept: &[u32], used: usize, list: &[u32]) -> Union
     while 0 < y {
         n += 1;
         match pick(g, kept, x, list, y) {
-            Side::Before => {
+            Comes::Before => {
                 y -= w;
             }
-            Side::After => {
+            Comes::After => {
                 x -= w;
             }
-            Side::Same => {
+            Comes::Same => {
                 x -= w;
                 y -= w;
                 if !join_fits(g, kept, x, list, y) {
@@ -107,7 +107,7 @@ fn lay_both(g: usize, kept: &mut [u32], from: usize, to: usize, more: &[u32])
 }
 
 // Lays the last record of both lists at a word.
-fn lay(g: usize, kept: &mut [u32], x: usize, list: &[u32], y: usize, to: usize, side: Side)
+fn lay(g: usize, kept: &mut [u32], x: usize, list: &[u32], y: usize, to: usize, side: Comes)
     requires { ⌜ (g ≤ mostGroupVariables) × Lays g (now kept) x (now list) y to side ⌝ }
     ensures { λ _. ⌜ now (kept .exit) ≡ take to (now (kept .entry))
         ++ (lastRecord g (now (kept .entry)) x (now (list .entry)) y side ++ drop (to + (g + totalsWidth)) (now (kept .entry))) ⌝ }
@@ -115,13 +115,13 @@ fn lay(g: usize, kept: &mut [u32], x: usize, list: &[u32], y: usize, to: usize, 
     let w = g + TOTALS;
     let new = y - w;
     match side {
-        Side::Before => {
+        Comes::Before => {
             copy_in(kept, to, &list[new..y]);
         }
-        Side::Same => {
+        Comes::Same => {
             lay_both(g, kept, x - w, to, &list[new..y]);
         }
-        Side::After => {
+        Comes::After => {
             lay_old(kept, x - w, to, w);
         }
     }
@@ -147,13 +147,13 @@ fn weave(g: usize, kept: &mut [u32], used: usize, list: &[u32], words: usize)
         let side = pick(g, &kept[..], x, list, y);
         lay(g, kept, x, list, y, to, side);
         match side {
-            Side::Before => {
+            Comes::Before => {
                 y -= w;
             }
-            Side::After => {
+            Comes::After => {
                 x -= w;
             }
-            Side::Same => {
+            Comes::Same => {
                 x -= w;
                 y -= w;
             }

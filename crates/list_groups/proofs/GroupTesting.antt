@@ -54,13 +54,13 @@ before-keys g x y =
     ap₂ (λ p q. lexBefore (map keyRank p) (map keyRank q)) (take-take g (g + totalsWidth) x (omega arith)) (take-take g (g + totalsWidth) y (omega arith))
 
 -- what is known where the test has come to a word: the list is right exactly where the rest is
-pub record Tested (g : ℕ) (list : List ℕ) (at : ℕ) : Type 0 where
+pub record TestedGroups (g : ℕ) (list : List ℕ) (at : ℕ) : Type 0 where
   pub whole : length (drop at list) % (g + totalsWidth) ≡ 0
   pub inside : at ≤ length list
   pub first : at < g + totalsWidth → at ≡ 0
   pub rest : rightAt g list ≡ (all groupRight (groupsAt g (drop at list)) && neighbours keysBefore (groupsAt g (drop (at - (g + totalsWidth)) list)))
 
-pub tested-start : (g : ℕ) (list : List ℕ) → length list % (g + totalsWidth) ≡ 0 → Tested g list 0
+pub tested-start : (g : ℕ) (list : List ℕ) → length list % (g + totalsWidth) ≡ 0 → TestedGroups g list 0
 tested-start g list h =
     record {
       whole = h;
@@ -70,7 +70,7 @@ tested-start g list h =
           (let z : 0 ≡ 0 - (g + totalsWidth) = omega arith in z);
     }
 
-module _ {g : ℕ} {list : List ℕ} {at : ℕ} (t : Tested g list at) where
+module _ {g : ℕ} {list : List ℕ} {at : ℕ} (t : TestedGroups g list at) where
   abbrev w : ℕ
   w = g + totalsWidth
 
@@ -144,7 +144,7 @@ module _ {g : ℕ} {list : List ℕ} {at : ℕ} (t : Tested g list at) where
         ]
 
     -- it is right and follows
-    pub tested-next : groupRight (groupIn g (take w (drop at list))) ≡ true → followsAt g list at ≡ true → Tested g list (at + w)
+    pub tested-next : groupRight (groupIn g (take w (drop at list))) ≡ true → followsAt g list at ≡ true → TestedGroups g list (at + w)
     unfolding all
     tested-next e f =
         let back : at + w - w ≡ at = omega arith in

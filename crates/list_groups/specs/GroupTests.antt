@@ -7,12 +7,12 @@ use lib.ListN.{take, drop}
 use Rattle.list_group_totals.specs.declared.Totals.{Totals}
 use Rattle.lists.specs.Groups.{totalsWidth}
 use Rattle.lists.specs.Gathering.{extremesRight}
-use Rattle.list_group_totals.specs.GroupTotals.{groupOf}
+use Rattle.list_group_totals.specs.GroupTotals.{groupWith}
 use Rattle.list_groups.specs.Keys.{keysFirst}
 
 -- the totals of a record that counts so many rows at least
 abbrev pub totalsRight : ℕ → Totals → Bool
-totalsRight least t = leb least (t .rows) && (leb (t .numbers) (t .rows) && extremesRight (groupOf [] t))
+totalsRight least t = leb least (t .rows) && (leb (t .numbers) (t .rows) && extremesRight (groupWith [] t))
 
 -- the keys of the record at a word come after those of the one before it, if there is one
 abbrev pub followsAt : ℕ → List ℕ → ℕ → Bool

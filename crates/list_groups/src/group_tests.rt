@@ -3,7 +3,7 @@ use crate::groups::by_group;
 use list_group_totals::TOTALS;
 use list_group_totals::Totals;
 use list_group_totals::read_totals;
-use lists::Side;
+use lists::Comes;
 use lists::is_values;
 use words::Term;
 ghost use mathlib.Core.Path.{_≡_};
@@ -13,12 +13,12 @@ ghost use lib.ListN.{length, take, drop};
 ghost use Rattle.plans.specs.Endings.{group, mostGroupVariables};
 ghost use Rattle.lists.specs.Groups.{totalsWidth, groupIn};
 ghost use Rattle.lists.specs.Gathering.{extremesRight, leastRows, groupRight, listRight};
-ghost use Rattle.list_group_totals.specs.GroupTotals.{groupOf};
+ghost use Rattle.list_group_totals.specs.GroupTotals.{groupWith};
 ghost use Rattle.list_groups.specs.GroupTests.{totalsRight, followsAt};
 
 // Whether sum, least and greatest can be those of so many numbers.
 fn extremes_right(t: Totals) -> bool
-    ensures { λ r. ⌜ r ≡ extremesRight (groupOf [] t) ⌝ }
+    ensures { λ r. ⌜ r ≡ extremesRight (groupWith [] t) ⌝ }
 {
     if t.numbers == 0 {
         if t.sum != 0 {
@@ -87,9 +87,9 @@ fn follows(g: usize, list: &[u32], at: usize) -> bool
     let before_end = before + g;
     let end = at + g;
     match by_group(&list[before..before_end], &list[at..end]) {
-        Side::Before => true,
-        Side::Same => false,
-        Side::After => false,
+        Comes::Before => true,
+        Comes::Same => false,
+        Comes::After => false,
     }
 }
 

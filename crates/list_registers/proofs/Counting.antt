@@ -13,12 +13,12 @@ use Rattle.plans.specs.Endings.{registers}
 use Rattle.registers.specs.Registers.{registerCount, registersOf, greaterOf}
 use Rattle.registers.proofs.Bounds.{registers-length, greater-length}
 use Rattle.lists.specs.declared.Put.the-variants.{Words}
-use Rattle.lists.specs.Rows.{isBound}
+use Rattle.lists.specs.Rows.{hasValue}
 use Rattle.lists.specs.Delivering.{withValue, withRow}
 use Rattle.lists.specs.Putting.{Taken}
 
 with-length : (ws : List ℕ) (x : ℕ) → length ws ≡ registerCount → length (withValue ws x) ≡ registerCount
-with-length ws x h = go (isBound x)
+with-length ws x h = go (hasValue x)
   where
     go : (b : Bool) → length (cond b (greaterOf ws (registersOf (x ∷ []))) ws) ≡ registerCount
     go true = greater-length ws (registersOf (x ∷ [])) (h ∙ sym (registers-length (x ∷ []))) ∙ h

@@ -13,7 +13,7 @@ use borrow.Author.Tests.{eqb-true, eqb-false}
 use Rattle.words.specs.Sequences.{all, over}
 use Rattle.words.proofs.Booleans.{and-left}
 use Rattle.words.proofs.Buffers.{over-next}
-use Rattle.registers.specs.Registers.{registerCount, registersIn, greaterOf, inRange, areRegisters, keptRegisters}
+use Rattle.registers.specs.Registers.{registerCount, registersIn, greaterOf, isRank, areRegisters, keptRegisters}
 use Rattle.registers.proofs.Bounds.{greater-length, none-greater}
 
 greater-last : (xs ys : List ℕ) (x y : ℕ) → length xs ≡ length ys
@@ -74,7 +74,7 @@ some-kept ws n h = go (eqb (length ws) 0) refl h
   where
     go : (b : Bool) → eqb (length ws) 0 ≡ b → b || areRegisters ws ≡ true → length ws ≡ registerCount
     go true p e = absurd (n (eqb-true (length ws) 0 p))
-    go false p e = eqb-true (length ws) registerCount (and-left (eqb (length ws) registerCount) (all inRange ws) e)
+    go false p e = eqb-true (length ws) registerCount (and-left (eqb (length ws) registerCount) (all isRank ws) e)
 
 some-in : (ws : List ℕ) → (length ws ≡ 0 → ⊥) → registersIn ws ≡ ws
 some-in [] n = absurd (n refl)

@@ -6,10 +6,10 @@ use mathlib.Core.List.{List}
 use lib.ListN.{length}
 use borrow.Author.Tests.{eq-eqb, ne-eqb}
 use Rattle.words.specs.Sequences.{all}
-use Rattle.registers.specs.Registers.{registerCount, inRange, areRegisters, keptRegisters}
+use Rattle.registers.specs.Registers.{registerCount, isRank, areRegisters, keptRegisters}
 
 module _ (ws : List ℕ) where
-  pub all-there : length ws ≡ registerCount → areRegisters ws ≡ all inRange ws
+  pub all-there : length ws ≡ registerCount → areRegisters ws ≡ all isRank ws
   all-there h = rw (eq-eqb (length ws) registerCount h)
 
   pub not-there : (length ws ≡ registerCount → ⊥) → areRegisters ws ≡ false

@@ -2,13 +2,13 @@
 use crate::REGISTERS;
 ghost use mathlib.Core.Path.{_≡_};
 ghost use Rattle.words.specs.Sequences.{all};
-ghost use Rattle.registers.specs.Registers.{inRange, areRegisters, keptRegisters};
+ghost use Rattle.registers.specs.Registers.{isRank, areRegisters, keptRegisters};
 
 const MOST_RANK: u32 = 61;
 
 // Whether no register is above 61.
 fn in_range(list: &[u32]) -> bool
-    ensures { λ r. ⌜ r ≡ all inRange (now (list .entry)) ⌝ }
+    ensures { λ r. ⌜ r ≡ all isRank (now (list .entry)) ⌝ }
 {
     let mut i: usize = 0;
     while i < list.len() {

@@ -97,13 +97,13 @@ extremes-together g h (some p q r s) (some p′ q′ r′ s′) =
     some (omega arith) (a .0) (b .0) (omega arith)
 
 -- ---- the whole test
-pub record Right (g : Group) : Type 0 where
+pub record RightGroups (g : Group) : Type 0 where
   pub keys : all isValue (g .keys) ≡ true
   pub rows : leastRows (length (g .keys)) ≤ g .rows
   pub numbers : g .numbers ≤ g .rows
   pub extremes : Extremes g
 
-pub right-is : (g : Group) → groupRight g ≡ true → Right g
+pub right-is : (g : Group) → groupRight g ≡ true → RightGroups g
 unfolding groupRight
 right-is g e =
     let a = all isValue (g .keys) in
@@ -119,7 +119,7 @@ right-is g e =
       extremes = right-extremes g (and-right c d k);
     }
 
-pub is-right : (g : Group) → Right g → groupRight g ≡ true
+pub is-right : (g : Group) → RightGroups g → groupRight g ≡ true
 unfolding groupRight
 is-right g r =
     rw (r .keys, le-leb (leastRows (length (g .keys))) (g .rows) (r .rows), le-leb (g .numbers) (g .rows) (r .numbers))

@@ -12,10 +12,10 @@ use Rattle.words.specs.Sequences.{all, keep, numbers}
 use Rattle.words.proofs.Booleans.{and-left}
 use Rattle.words.proofs.Keeping.{keep-append, keep-yes, keep-no, keep-nil}
 use Rattle.plans.specs.Endings.{registers}
-use Rattle.registers.specs.Registers.{registerCount, registerOf, registersOf, registersIn, greaterOf, inRange, areRegisters, keptRegisters}
+use Rattle.registers.specs.Registers.{registerCount, registerOf, registersOf, registersIn, greaterOf, isRank, areRegisters, keptRegisters}
 use Rattle.registers.proofs.Merging.{registers-append}
 use Rattle.registers.proofs.Bounds.{registers-length, registers-right, greater-right}
-use Rattle.lists.specs.Rows.{isBound, boundValues}
+use Rattle.lists.specs.Rows.{hasValue, boundValues}
 use Rattle.lists.specs.Gathering.{gathered, merged, listRight}
 use Rattle.lists.specs.Delivering.{withValue, withRow}
 
@@ -26,7 +26,7 @@ registers-in [] h = absurd (omega arith)
 registers-in (w ∷ ws) h = refl
 
 pub right-length : (ws : List ℕ) → areRegisters ws ≡ true → length ws ≡ registerCount
-right-length ws h = eqb-true (length ws) registerCount (and-left (eqb (length ws) registerCount) (all inRange ws) h)
+right-length ws h = eqb-true (length ws) registerCount (and-left (eqb (length ws) registerCount) (all isRank ws) h)
 
 -- what is right for a turn's list is so for a kept one
 pub right-kept : (ws : List ℕ) → areRegisters ws ≡ true → keptRegisters ws ≡ true
@@ -51,7 +51,7 @@ module _ (v : ℕ) where
 
   -- of no rows all are 0
   pub registers-none : (threshold : List ℕ) → gathered (registers v) threshold [] ≡ replicate registerCount 0
-  registers-none threshold = registers-gathered threshold [] ∙ ap registersOf (keep-nil isBound) ∙ no-values
+  registers-none threshold = registers-gathered threshold [] ∙ ap registersOf (keep-nil hasValue) ∙ no-values
 
   -- ---- test 12
   pub registers-gathered-right : (threshold : List ℕ) (bs : List Bindings) → listRight (registers v) (gathered (registers v) threshold bs) ≡ true
@@ -67,7 +67,7 @@ module _ (v : ℕ) where
   -- ---- the values of some rows and of further ones
   pub bound-append : (xs ys : List Bindings) → boundValues v (xs ++ ys) ≡ boundValues v xs ++ boundValues v ys
   bound-append xs ys =
-      ap (keep isBound) (map-append (λ b. valueOf b v) xs ys) ∙ keep-append isBound (map (λ b. valueOf b v) xs) (map (λ b. valueOf b v) ys)
+      ap (keep hasValue) (map-append (λ b. valueOf b v) xs ys) ∙ keep-append hasValue (map (λ b. valueOf b v) xs) (map (λ b. valueOf b v) ys)
 
   -- the kept list of the earlier rows, merged with a turn's list of the later ones, is the list of both
   pub merge-registers : (xs ys : List Bindings) (threshold : List ℕ)
@@ -82,14 +82,14 @@ module _ (v : ℕ) where
   pub delivered-registers : (threshold : List ℕ) (bs : List Bindings) (b : Bindings)
       → withRow (registers v) threshold (gathered (registers v) threshold bs) b ≡ gathered (registers v) threshold (bs ++ (b ∷ []))
   unfolding withRow gathered
-  delivered-registers threshold bs b = go (isBound (valueOf b v)) refl ∙ ap registersOf (sym (bound-append bs (b ∷ [])))
+  delivered-registers threshold bs b = go (hasValue (valueOf b v)) refl ∙ ap registersOf (sym (bound-append bs (b ∷ [])))
     where
-      go : (x : Bool) → isBound (valueOf b v) ≡ x
+      go : (x : Bool) → hasValue (valueOf b v) ≡ x
           → cond x (greaterOf (registersOf (boundValues v bs)) (registersOf (valueOf b v ∷ []))) (registersOf (boundValues v bs))
           ≡ registersOf (boundValues v bs ++ boundValues v (b ∷ []))
       go true e =
           registers-append (boundValues v bs) (valueOf b v ∷ [])
-          ∙ ap (λ l. registersOf (boundValues v bs ++ l)) (sym (keep-yes isBound (valueOf b v) [] e ∙ ap (λ l. valueOf b v ∷ l) (keep-nil isBound)))
+          ∙ ap (λ l. registersOf (boundValues v bs ++ l)) (sym (keep-yes hasValue (valueOf b v) [] e ∙ ap (λ l. valueOf b v ∷ l) (keep-nil hasValue)))
       go false e =
           ap registersOf
-          (sym (ap (λ l. boundValues v bs ++ l) (keep-no isBound (valueOf b v) [] e ∙ keep-nil isBound) ∙ append-nil (boundValues v bs)))
+          (sym (ap (λ l. boundValues v bs ++ l) (keep-no hasValue (valueOf b v) [] e ∙ keep-nil hasValue) ∙ append-nil (boundValues v bs)))

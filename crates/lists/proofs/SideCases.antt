@@ -1,8 +1,8 @@
 -- What a side says of the order: before, after, or neither.
 use mathlib.Core.Path.{_≡_, refl, sym, _∙_}
 use mathlib.Core.Bool.{Bool, true, false, cond}
-use Rattle.lists.specs.declared.Side.{Side}
-use Rattle.lists.specs.declared.Side.the-variants.{Before, Same, After}
+use Rattle.lists.specs.declared.Comes.{Comes}
+use Rattle.lists.specs.declared.Comes.the-variants.{Before, Same, After}
 use Rattle.lists.specs.Sides.{sideBy}
 
 module _ {A : Type 0} (before : A → A → Bool) (x y : A) where
@@ -23,7 +23,7 @@ module _ {A : Type 0} (before : A → A → Bool) (x y : A) where
   side-after e = side-cases (before x y) (before y x) .2 e .1
 
   -- of the side that code found
-  module _ (s : Side) (e : s ≡ sideBy before x y) where
+  module _ (s : Comes) (e : s ≡ sideBy before x y) where
     pub is-before : s ≡ Before → true ≡ before x y
     is-before p = sym (side-before (sym e ∙ p))
 

@@ -7,7 +7,7 @@ use Rattle.words.specs.Bindings.{Bindings, valueOf}
 use Rattle.plans.specs.Endings.{Ending, rows, top, group, registers}
 use Rattle.words.specs.Sorting.{insertBy}
 use Rattle.registers.specs.Registers.{registersOf, greaterOf}
-use Rattle.lists.specs.Rows.{project, isBound, rowBefore}
+use Rattle.lists.specs.Rows.{project, hasValue, rowBefore}
 use Rattle.lists.specs.Groups.{ofRow, addBy, keysBefore, together, groupWords}
 use Rattle.lists.specs.Gathering.{recordsIn, groupsIn}
 
@@ -22,7 +22,7 @@ withBest k vs keys list row = flatten (take k (insertBy (rowBefore vs keys) row 
 
 -- a value's own registers taken in, where it is bound
 abbrev pub withValue : List ℕ → ℕ → List ℕ
-withValue list x = cond (isBound x) (greaterOf list (registersOf (x ∷ []))) list
+withValue list x = cond (hasValue x) (greaterOf list (registersOf (x ∷ []))) list
 
 -- a row at the end; among the best, if it is ahead; counted in its group; its value's register raised
 unfoldable pub withRow : Ending → List ℕ → List ℕ → Bindings → List ℕ

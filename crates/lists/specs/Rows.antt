@@ -13,11 +13,11 @@ abbrev pub project : List ℕ → Bindings → List ℕ
 project vs b = map (valueOf b) vs
 
 -- the values of one variable, without those where it has none
-abbrev pub isBound : ℕ → Bool
-isBound x = not (eqb x unbound)
+abbrev pub hasValue : ℕ → Bool
+hasValue x = not (eqb x unbound)
 
 abbrev pub boundValues : ℕ → List Bindings → List ℕ
-boundValues v bs = keep isBound (map (λ b. valueOf b v) bs)
+boundValues v bs = keep hasValue (map (λ b. valueOf b v) bs)
 
 -- ---- the order of rows by the keys of an ending with the variables vs
 -- where a word stands among others

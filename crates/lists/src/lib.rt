@@ -11,7 +11,7 @@ pub use tests::is_values;
 pub use tests::no_threshold;
 
 // Where one thing stands against another in an order.
-pub enum Side {
+pub enum Comes {
     Before,
     Same,
     After,

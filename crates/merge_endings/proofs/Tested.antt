@@ -15,7 +15,7 @@ use Rattle.words.proofs.Testing.{orElse, first-append}
 use Rattle.words.proofs.Booleans.{and-left, and-right}
 use Rattle.plans.specs.Endings.{Ending, rows, top, group, registers}
 use Rattle.plans.specs.Plans.{planTests}
-use Rattle.registers.specs.Registers.{registerCount, registersIn, greaterOf, inRange, areRegisters, keptRegisters}
+use Rattle.registers.specs.Registers.{registerCount, registersIn, greaterOf, isRank, areRegisters, keptRegisters}
 use Rattle.list_registers.proofs.Merged.{merged-sixteen}
 use Rattle.list_group_merges.specs.declared.Merged.{Merged}
 use Rattle.lists.specs.Gathering.{keptRight, listRight, totalsFit, merged}
@@ -84,7 +84,7 @@ module _ (v : ℕ) (kept list : List ℕ) (h : bothRight (registers v) kept list
   list-right = each-right (registers v) kept list h .1
 
   pub list-sixteen : length list ≡ registerCount
-  list-sixteen = eqb-true (length list) registerCount (and-left (eqb (length list) registerCount) (all inRange list) list-right)
+  list-sixteen = eqb-true (length list) registerCount (and-left (eqb (length list) registerCount) (all isRank list) list-right)
 
   registers-both : length (greaterOf (registersIn kept) list) ≡ registerCount
   registers-both = merged-sixteen kept list kept-right list-sixteen
@@ -171,7 +171,7 @@ module _ (i : MergeInput) where
     abbrev added : List ℕ
     added = merged (group vs m) (givenKept i) (i .list)
 
-    pub groups-merged : {after : List ℕ} {r : Merged} → r ≡ groups.mergedAs fits added (i .kept)
+    pub groups-merged : {after : List ℕ} {r : Merged} → r ≡ groups.groupsMergedAs fits added (i .kept)
         → after ≡ groups.mergedOver fits added (i .kept)
         → record { answer = writtenOf r; kept = after } ≡ mergeOf i
     groups-merged er ea =

@@ -13,15 +13,15 @@ use Rattle.plans.specs.Reading.{isRead, wordsRead, branchIn, branchesIn}
 use Rattle.plans.proofs.BranchRead.{branch-in}
 use Rattle.plans.proofs.BranchList.{FirstRead, first-read}
 
-pub record Walk (n : ℕ) (ws : List ℕ) (at left : ℕ) : Type 0 where
+pub record BranchesWalked (n : ℕ) (ws : List ℕ) (at left : ℕ) : Type 0 where
   pub within : at ≤ length ws
   pub read : isRead (readBranches left (drop at ws)) ≡ true
   pub words : at + wordsRead (readBranches left (drop at ws)) ≡ wordsRead (readBranches n ws)
 
-pub walk-start : (n : ℕ) (ws : List ℕ) → isRead (readBranches n ws) ≡ true → Walk n ws 0 n
+pub walk-start : (n : ℕ) (ws : List ℕ) → isRead (readBranches n ws) ≡ true → BranchesWalked n ws 0 n
 walk-start n ws h = record { within = omega arith; read = h; words = omega arith }
 
-module _ (n : ℕ) (ws : List ℕ) (at left : ℕ) (walk : Walk n ws at left) where
+module _ (n : ℕ) (ws : List ℕ) (at left : ℕ) (walk : BranchesWalked n ws at left) where
   pub walk-end : left ≡ 0 → at ≡ wordsRead (readBranches n ws)
   unfolding readBranches
   walk-end e = let w : at + 0 ≡ wordsRead (readBranches n ws) = rw e at (walk .words) in omega arith
@@ -44,7 +44,7 @@ module _ (n : ℕ) (ws : List ℕ) (at left : ℕ) (walk : Walk n ws at left) wh
       on : drop (wordsRead (readBranch (drop at ws))) (drop at ws) ≡ drop (at + k) ws
       on = drop-drop (wordsRead (readBranch (drop at ws))) at ws ∙ rw count
 
-      pub walk-next : Walk n ws (at + k) (left - 1)
+      pub walk-next : BranchesWalked n ws (at + k) (left - 1)
       walk-next =
           record {
             within = walk-words;

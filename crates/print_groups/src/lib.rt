@@ -11,13 +11,13 @@ ghost use Rattle.lists.specs.Sums.{sumIn};
 ghost use Rattle.lists.specs.Groups.{groupIn, totalsWidth, pairAt};
 ghost use Rattle.lists.specs.Putting.{Listed};
 ghost use Rattle.print_texts.specs.Texts.{numberField, integerField};
-ghost use Rattle.print_texts.specs.Placing.{Placed};
-ghost use Rattle.print_lines.specs.Lines.{totalsIn, groupFields, groupLine, groupLineRoom};
+ghost use Rattle.print_texts.specs.Placing.{PlacedText};
+ghost use Rattle.print_lines.specs.Lines.{totalsText, groupFields, groupLine, groupLineRoom};
 
 // The total of 64 bits in two words of a group, the low one first.
 fn put_total(line: &mut [u8], at: usize, group: &[u32], total: usize) -> usize
     requires { ⌜ (total + 2 ≤ length (now group)) × (at + length (numberField (pairAt (now group) total)) ≤ length (now line)) ⌝ }
-    ensures { λ r. ⌜ Placed (numberField (pairAt (now (group .entry)) total)) at (now (line .entry)) (now (line .exit)) r ⌝ }
+    ensures { λ r. ⌜ PlacedText (numberField (pairAt (now (group .entry)) total)) at (now (line .entry)) (now (line .exit)) r ⌝ }
 {
     put_number(line, at, list_longs::read64(group, total))
 }
@@ -25,15 +25,15 @@ fn put_total(line: &mut [u8], at: usize, group: &[u32], total: usize) -> usize
 // The signed sum in two words of a group, the low one first.
 fn put_group_sum(line: &mut [u8], at: usize, group: &[u32], sum: usize) -> usize
     requires { ⌜ (sum + 2 ≤ length (now group)) × (at + length (integerField (sumIn (pairAt (now group) sum))) ≤ length (now line)) ⌝ }
-    ensures { λ r. ⌜ Placed (integerField (sumIn (pairAt (now (group .entry)) sum))) at (now (line .entry)) (now (line .exit)) r ⌝ }
+    ensures { λ r. ⌜ PlacedText (integerField (sumIn (pairAt (now (group .entry)) sum))) at (now (line .entry)) (now (line .exit)) r ⌝ }
 {
     put_sum(line, at, list_longs::read64(group, sum))
 }
 
 // The rows, the numbers and the sum of a record of so many keys.
 fn put_totals(line: &mut [u8], at: usize, keys: usize, group: &[u32]) -> usize
-    requires { ⌜ (keys + totalsWidth ≤ length (now group)) × (at + length (totalsIn keys (now group)) ≤ length (now line)) ⌝ }
-    ensures { λ r. ⌜ Placed (totalsIn keys (now (group .entry))) at (now (line .entry)) (now (line .exit)) r ⌝ }
+    requires { ⌜ (keys + totalsWidth ≤ length (now group)) × (at + length (totalsText keys (now group)) ≤ length (now line)) ⌝ }
+    ensures { λ r. ⌜ PlacedText (totalsText keys (now (group .entry))) at (now (line .entry)) (now (line .exit)) r ⌝ }
 {
     let after_rows = put_total(line, at, group, keys);
     let after_numbers = put_total(line, after_rows, group, keys + 2);
@@ -43,7 +43,7 @@ fn put_totals(line: &mut [u8], at: usize, keys: usize, group: &[u32]) -> usize
 // The fields of a record of so many keys.
 fn put_fields(line: &mut [u8], at: usize, keys: usize, group: &[u32]) -> usize
     requires { ⌜ (keys + totalsWidth ≤ length (now group)) × (at + length (groupFields (groupIn keys (now group))) ≤ length (now line)) ⌝ }
-    ensures { λ r. ⌜ Placed (groupFields (groupIn keys (now (group .entry)))) at (now (line .entry)) (now (line .exit)) r ⌝ }
+    ensures { λ r. ⌜ PlacedText (groupFields (groupIn keys (now (group .entry)))) at (now (line .entry)) (now (line .exit)) r ⌝ }
 {
     let after_keys = put_terms(line, at, &group[..keys]);
     let after_totals = put_totals(line, after_keys, keys, group);

@@ -7,7 +7,7 @@ use lib.ListN.{length, getD, take, drop, length-append}
 use lib.Seq.{drop-cons}
 use Rattle.lists.specs.Groups.{groupIn, totalsWidth}
 use Rattle.print_texts.specs.Texts.{termFields}
-use Rattle.print_lines.specs.Lines.{totalsIn, groupFields}
+use Rattle.print_lines.specs.Lines.{totalsText, groupFields}
 
 -- the first elements from a place on
 pub take-cons : (k at : ℕ) (xs : List ℕ) → at < length xs → take (suc k) (drop at xs) ≡ getD xs at 0 ∷ take k (drop (suc at) xs)
@@ -16,7 +16,7 @@ take-cons k at xs h = rw (drop-cons xs at 0)
 module _ (n : ℕ) (ws : List ℕ) where
   pub fields-of : groupFields (groupIn n ws)
       ≡ termFields (take n ws)
-      ++ totalsIn n ws
+      ++ totalsText n ws
       ++ termFields (getD ws (n + 6) 0 ∷ getD ws (n + 7) 0 ∷ [])
   unfolding groupFields groupIn
   fields-of = refl
@@ -31,10 +31,10 @@ module _ (n : ℕ) (ws : List ℕ) where
 
   pub fields-length : length (groupFields (groupIn n ws))
       ≡ length (termFields (take n ws))
-      + length (totalsIn n ws)
+      + length (totalsText n ws)
       + length (termFields (getD ws (n + 6) 0 ∷ getD ws (n + 7) 0 ∷ []))
   fields-length =
       let keys = termFields (take n ws) in
-      let totals = totalsIn n ws in
+      let totals = totalsText n ws in
       let ends = termFields (getD ws (n + 6) 0 ∷ getD ws (n + 7) 0 ∷ []) in
       ap length fields-of ∙ length-append (keys ++ totals) ends ∙ ap (λ (k : ℕ). k + length ends) (length-append keys totals)

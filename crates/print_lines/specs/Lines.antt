@@ -19,8 +19,8 @@ abbrev pub totalsFields : ℕ → ℕ → ℤ → Text
 totalsFields rows numbers sum = numberField rows ++ numberField numbers ++ integerField sum
 
 -- as the words of a record with n keys have them
-abbrev pub totalsIn : ℕ → List ℕ → Text
-totalsIn n ws = totalsFields (pairAt ws n) (pairAt ws (n + 2)) (sumIn (pairAt ws (n + 4)))
+abbrev pub totalsText : ℕ → List ℕ → Text
+totalsText n ws = totalsFields (pairAt ws n) (pairAt ws (n + 2)) (sumIn (pairAt ws (n + 4)))
 
 -- the fields of a record: keys, rows, numbers, sum, least, greatest
 unfoldable pub groupFields : Group → Text

@@ -12,7 +12,7 @@ ghost use Rattle.plans.specs.Endings.{mostRowVariables};
 ghost use Rattle.lists.specs.Putting.{Listed};
 ghost use Rattle.print_texts.specs.Texts.{numberField};
 ghost use Rattle.print_lines.specs.Lines.{rowLine, listLine, refusedLine, servedLine, turnLine, rowLineRoom, turnLineRoom};
-ghost use Rattle.print_texts.specs.Placing.{Placed};
+ghost use Rattle.print_texts.specs.Placing.{PlacedText};
 
 // A row's line.
 pub fn row_line(line: &mut [u8], row: &[u32]) -> usize
@@ -49,7 +49,7 @@ pub fn refused_line(line: &mut [u8], number: u32) -> usize
 // A number's word and its number.
 fn put_named(line: &mut [u8], at: usize, name: &[u8], x: u64) -> usize
     requires { ⌜ at + (length (now name) + length (numberField x)) ≤ length (now line) ⌝ }
-    ensures { λ r. ⌜ Placed (now (name .entry) ++ numberField x) at (now (line .entry)) (now (line .exit)) r ⌝ }
+    ensures { λ r. ⌜ PlacedText (now (name .entry) ++ numberField x) at (now (line .entry)) (now (line .exit)) r ⌝ }
 {
     let next = put_bytes(line, at, name);
     put_number(line, next, x)

@@ -12,20 +12,20 @@ use Rattle.words.proofs.Buffers.{take-over}
 use Rattle.print_reading.specs.declared.FileParts.{FileParts}
 use Rattle.print_reading.specs.declared.Layout.the-variants.{Parts, Refused}
 use Rattle.print_reading.specs.Files.{wordBytes, mostFileBytes, fileWords, rowsAt, planAt, rowCountIn, partsOf, Laid, countsRight, partsIn}
-use Rattle.print_reading.specs.Files.{isShort, isWhole, layoutOf, wordsAs}
+use Rattle.print_reading.specs.Files.{isFileShort, isWhole, layoutOf, wordsAs}
 use Rattle.print_reading.proofs.FileWords.{length-words}
 
 -- the parts of some words that are not fewer than their counts say
-pub record Counted (ws : List ℕ) (p : FileParts) : Type 0 where
+pub record FileCounted (ws : List ℕ) (p : FileParts) : Type 0 where
   pub enough : planAt (rowCountIn ws) ≤ length ws
   pub parts : p ≡ partsOf (rowCountIn ws) (length ws)
 
-counted : (ws : List ℕ) (p : FileParts) → partsIn ws ≡ Parts p → Counted ws p
+counted : (ws : List ℕ) (p : FileParts) → partsIn ws ≡ Parts p → FileCounted ws p
 unfolding partsIn countsRight
 counted ws p = go (countsRight ws) refl
   where
     go : (b : Bool) → (leb rowsAt (length ws) && leb (planAt (rowCountIn ws)) (length ws)) ≡ b
-        → cond b (Parts (partsOf (rowCountIn ws) (length ws))) (Refused 1) ≡ Parts p → Counted ws p
+        → cond b (Parts (partsOf (rowCountIn ws) (length ws))) (Refused 1) ≡ Parts p → FileCounted ws p
     go true e q =
         let r : p ≡ partsOf (rowCountIn ws) (length ws) = cc in
         let h = and-right (leb rowsAt (length ws)) (leb (planAt (rowCountIn ws)) (length ws)) e in
@@ -33,20 +33,20 @@ counted ws p = go (countsRight ws) refl
     go false e q = let z : _≡_ {A = ℕ} 0 1 = cc in absurd (omega arith)
 
 module _ (bytes : List ℕ) (p : FileParts) where
-  accepted : layoutOf bytes ≡ Parts p → (length bytes ≤ mostFileBytes) × Counted (fileWords bytes) p
+  accepted : layoutOf bytes ≡ Parts p → (length bytes ≤ mostFileBytes) × FileCounted (fileWords bytes) p
   unfolding layoutOf
-  accepted = go (isShort bytes && isWhole bytes) refl
+  accepted = go (isFileShort bytes && isWhole bytes) refl
     where
-      go : (b : Bool) → (isShort bytes && isWhole bytes) ≡ b → cond b (partsIn (fileWords bytes)) (Refused 1) ≡ Parts p
-          → (length bytes ≤ mostFileBytes) × Counted (fileWords bytes) p
-      go true e q = (leb-true (length bytes) mostFileBytes (and-left (isShort bytes) (isWhole bytes) e), counted (fileWords bytes) p q)
+      go : (b : Bool) → (isFileShort bytes && isWhole bytes) ≡ b → cond b (partsIn (fileWords bytes)) (Refused 1) ≡ Parts p
+          → (length bytes ≤ mostFileBytes) × FileCounted (fileWords bytes) p
+      go true e q = (leb-true (length bytes) mostFileBytes (and-left (isFileShort bytes) (isWhole bytes) e), counted (fileWords bytes) p q)
       go false e q = let z : _≡_ {A = ℕ} 0 1 = cc in absurd (omega arith)
 
   module _ (h : layoutOf bytes ≡ Parts p) where
     pub not-long : length bytes ≤ mostFileBytes
     not-long = accepted h .0
 
-    pub file-counted : Counted (fileWords bytes) p
+    pub file-counted : FileCounted (fileWords bytes) p
     file-counted = accepted h .1
 
     pub laid-out : Laid p × (p .words ≤ mostFileBytes / wordBytes)

@@ -65,14 +65,14 @@ unfoldable pub partsIn : List ℕ → Layout
 partsIn words = cond (countsRight words) (Parts (partsOf (rowCountIn words) (length words))) (Refused 1)
 
 -- a file that is not too long and in whole words
-abbrev pub isShort : List ℕ → Bool
-isShort bytes = leb (length bytes) mostFileBytes
+abbrev pub isFileShort : List ℕ → Bool
+isFileShort bytes = leb (length bytes) mostFileBytes
 
 abbrev pub isWhole : List ℕ → Bool
 isWhole bytes = eqb (length bytes % wordBytes) 0
 
 unfoldable pub layoutOf : List ℕ → Layout
-layoutOf bytes = cond (isShort bytes && isWhole bytes) (partsIn (fileWords bytes)) (Refused 1)
+layoutOf bytes = cond (isFileShort bytes && isWhole bytes) (partsIn (fileWords bytes)) (Refused 1)
 
 -- what reading a file answers, and the buffer of words at exit
 pub record FileRead : Type 0 where

@@ -14,7 +14,7 @@ ghost use lib.ListN.{length};
 ghost use Rattle.turns.specs.Turns.{turnInput};
 ghost use Rattle.queries.specs.declared.Keeping.the-variants.{Merged};
 ghost use Rattle.queries.specs.Stepping.{takeTurnOf};
-ghost use Rattle.queries.specs.Rounds.{buffers, advanced, firstPosition, rounds, resultAt};
+ghost use Rattle.queries.specs.Rounds.{buffers, standingOf, firstPosition, rounds, resultAt};
 ghost use Rattle.queries.specs.Playing.{StandsAfter, Started};
 ghost use Rattle.print_writing.specs.Listings.{ListsOf};
 ghost use Rattle.print_writing.specs.FileQueries.{fileNumber, lentSurvey, Asks, outputRoom};
@@ -51,7 +51,7 @@ fn print_step(
         (now state) saved ⌝ }
     requires { ⌜ Asks (now bytes) (now rows) (now pos) (now osp) (now plan) quantum × (length (now output) ≡ outputRoom (now plan)) ⌝ }
     ensures { λ r. ⌜ record { went = r; held = buffers (now (state .exit)) (now (output .exit)) (now (kept .exit)) }
-        ≡ advanced (takeTurnOf Merged (turnInput (now (rows .entry)) (now (pos .entry)) (now (osp .entry)) fileNumber (now (plan .entry))
+        ≡ standingOf (takeTurnOf Merged (turnInput (now (rows .entry)) (now (pos .entry)) (now (osp .entry)) fileNumber (now (plan .entry))
         (now (state .entry)) saved quantum [] (now (output .entry))) (now (kept .entry)) used) ⌝ }
 {
     let step = query_turns::take_turn(

@@ -13,7 +13,7 @@ use Rattle.words.proofs.Booleans.{and-left}
 use Rattle.words.proofs.Buffers.{length-over}
 use Rattle.plans.specs.Endings.{Ending, rows, top, group, registers}
 use Rattle.plans.specs.Plans.{planOf}
-use Rattle.registers.specs.Registers.{registerCount, inRange, areRegisters, keptRegisters}
+use Rattle.registers.specs.Registers.{registerCount, isRank, areRegisters, keptRegisters}
 use Rattle.lists.specs.Groups.{totalsWidth}
 use Rattle.lists.specs.Gathering.{width, listRight}
 use Rattle.lists.proofs.Gatherings.{ValidKept}
@@ -37,7 +37,7 @@ registers-whole ws h = go (eqb (length ws) 0) refl h
     go : (b : Bool) → eqb (length ws) 0 ≡ b → b || areRegisters ws ≡ true → length ws % registerCount ≡ 0
     go true p e = ap (λ n. n % registerCount) (eqb-true (length ws) 0 p)
     go false p e =
-        ap (λ n. n % registerCount) (eqb-true (length ws) registerCount (and-left (eqb (length ws) registerCount) (all inRange ws) e))
+        ap (λ n. n % registerCount) (eqb-true (length ws) registerCount (and-left (eqb (length ws) registerCount) (all isRank ws) e))
 
 -- nothing is kept of a row query; any other list that test 12 passes is whole rows or records, or registers
 valid-whole : (e : Ending) (ws : List ℕ) → ValidKept e ws → length (keptOf Merged e ws) % width e ≡ 0

@@ -8,14 +8,14 @@ ghost use mathlib.Core.Path.{_≡_};
 ghost use Prim.Native.Nat.{_+_, _≤_};
 ghost use lib.ListN.{length};
 ghost use Rattle.print_texts.specs.Texts.{kindLetter, valueText, termText, termField, fields, numberFields, termFields};
-ghost use Rattle.print_texts.specs.Placing.{Placed};
+ghost use Rattle.print_texts.specs.Placing.{PlacedText};
 ghost use Rattle.print_terms.specs.Fields.{fieldAs};
 
 // Half the values of a number's 30 bits: from there on they are below zero.
 const HALF_VALUES: u64 = words::HALF_VALUES as u64;
 
 // How a word is shown: as a term, or as a number.
-pub enum Shown {
+pub enum ShownAs {
     Term,
     Number,
 }
@@ -34,7 +34,7 @@ fn letter_of(kind: u32) -> u8
 // The value of a term, a number's with its sign.
 fn put_value(line: &mut [u8], at: usize, word: u32) -> usize
     requires { ⌜ at + length (valueText word) ≤ length (now line) ⌝ }
-    ensures { λ r. ⌜ Placed (valueText word) at (now (line .entry)) (now (line .exit)) r ⌝ }
+    ensures { λ r. ⌜ PlacedText (valueText word) at (now (line .entry)) (now (line .exit)) r ⌝ }
 {
     let term = Term(word);
     let value = list_longs::long(term.value());
@@ -47,7 +47,7 @@ fn put_value(line: &mut [u8], at: usize, word: u32) -> usize
 // A term: a letter and its value, or a dash for unbound.
 fn put_text(line: &mut [u8], at: usize, word: u32) -> usize
     requires { ⌜ at + length (termText word) ≤ length (now line) ⌝ }
-    ensures { λ r. ⌜ Placed (termText word) at (now (line .entry)) (now (line .exit)) r ⌝ }
+    ensures { λ r. ⌜ PlacedText (termText word) at (now (line .entry)) (now (line .exit)) r ⌝ }
 {
     let term = Term(word);
     if term.is_variable() {
@@ -60,27 +60,27 @@ fn put_text(line: &mut [u8], at: usize, word: u32) -> usize
 // A term, after a blank.
 fn put_term(line: &mut [u8], at: usize, word: u32) -> usize
     requires { ⌜ at + length (termField word) ≤ length (now line) ⌝ }
-    ensures { λ r. ⌜ Placed (termField word) at (now (line .entry)) (now (line .exit)) r ⌝ }
+    ensures { λ r. ⌜ PlacedText (termField word) at (now (line .entry)) (now (line .exit)) r ⌝ }
 {
     let next = put_byte(line, at, b' ');
     put_text(line, next, word)
 }
 
 // A word as a field, after a blank.
-fn put_field(line: &mut [u8], at: usize, word: u32, shown: Shown) -> usize
+fn put_field(line: &mut [u8], at: usize, word: u32, shown: ShownAs) -> usize
     requires { ⌜ at + length (fieldAs shown word) ≤ length (now line) ⌝ }
-    ensures { λ r. ⌜ Placed (fieldAs shown word) at (now (line .entry)) (now (line .exit)) r ⌝ }
+    ensures { λ r. ⌜ PlacedText (fieldAs shown word) at (now (line .entry)) (now (line .exit)) r ⌝ }
 {
     match shown {
-        Shown::Term => put_term(line, at, word),
-        Shown::Number => put_number(line, at, list_longs::long(word)),
+        ShownAs::Term => put_term(line, at, word),
+        ShownAs::Number => put_number(line, at, list_longs::long(word)),
     }
 }
 
 // Words as fields, each after a blank.
-fn put_fields(line: &mut [u8], at: usize, words: &[u32], shown: Shown) -> usize
+fn put_fields(line: &mut [u8], at: usize, words: &[u32], shown: ShownAs) -> usize
     requires { ⌜ at + length (fields (fieldAs shown) (now words)) ≤ length (now line) ⌝ }
-    ensures { λ r. ⌜ Placed (fields (fieldAs shown) (now (words .entry))) at (now (line .entry)) (now (line .exit)) r ⌝ }
+    ensures { λ r. ⌜ PlacedText (fields (fieldAs shown) (now (words .entry))) at (now (line .entry)) (now (line .exit)) r ⌝ }
 {
     let mut next = at;
     let mut i: usize = 0;
@@ -95,15 +95,15 @@ fn put_fields(line: &mut [u8], at: usize, words: &[u32], shown: Shown) -> usize
 // Words as terms, each after a blank.
 pub fn put_terms(line: &mut [u8], at: usize, terms: &[u32]) -> usize
     requires { ⌜ at + length (termFields (now terms)) ≤ length (now line) ⌝ }
-    ensures { λ r. ⌜ Placed (termFields (now (terms .entry))) at (now (line .entry)) (now (line .exit)) r ⌝ }
+    ensures { λ r. ⌜ PlacedText (termFields (now (terms .entry))) at (now (line .entry)) (now (line .exit)) r ⌝ }
 {
-    put_fields(line, at, terms, Shown::Term)
+    put_fields(line, at, terms, ShownAs::Term)
 }
 
 // Words as numbers, each after a blank.
 pub fn put_numbers(line: &mut [u8], at: usize, words: &[u32]) -> usize
     requires { ⌜ at + length (numberFields (now words)) ≤ length (now line) ⌝ }
-    ensures { λ r. ⌜ Placed (numberFields (now (words .entry))) at (now (line .entry)) (now (line .exit)) r ⌝ }
+    ensures { λ r. ⌜ PlacedText (numberFields (now (words .entry))) at (now (line .entry)) (now (line .exit)) r ⌝ }
 {
-    put_fields(line, at, words, Shown::Number)
+    put_fields(line, at, words, ShownAs::Number)
 }

@@ -8,7 +8,7 @@ use mathlib.Core.List.{List, [], _∷_, _++_, flatten}
 use lib.ListN.{length, drop, getD, length-append, drop-of-length-le}
 use lib.Seq.{drop-cons}
 use Rattle.print_texts.specs.Texts.{Text, fields}
-use Rattle.print_texts.specs.Placing.{placed, Placed}
+use Rattle.print_texts.specs.Placing.{placed, PlacedText}
 use Rattle.print_texts.proofs.Placements.{placed-both}
 
 module _ (f : ℕ → Text) where
@@ -34,7 +34,7 @@ module _ (f : ℕ → Text) where
 
     -- one field more: what is left of the text stands behind it
     module _ (at next : ℕ) (before after : List ℕ) (h : i < length ws) (room : at + length (fields f (drop i ws)) ≤ length before)
-        (x : Placed (f (getD ws i 0)) at before after next) where
+        (x : PlacedText (f (getD ws i 0)) at before after next) where
       field-length : length (fields f (drop i ws)) ≡ length (f (getD ws i 0)) + length (fields f (drop (i + 1) ws))
       field-length = ap length (fields-step h) ∙ length-append (f (getD ws i 0)) (fields f (drop (i + 1) ws))
 

@@ -11,7 +11,7 @@ use lib.Seq.{take-length, paste, paste-zero}
 use Rattle.words.proofs.Buffers.{length-over}
 use Rattle.lists.specs.Putting.{Listed}
 use Rattle.print_texts.specs.Texts.{Text, newline, digit, decimal}
-use Rattle.print_texts.specs.Placing.{placed, Placed}
+use Rattle.print_texts.specs.Placing.{placed, PlacedText}
 use Rattle.print_texts.proofs.Decimals.{decimal-more, length-more, decimal-one, length-one}
 
 pub length-placed : (text : Text) (at : ℕ) (line : List ℕ) → at + length text ≤ length line
@@ -42,18 +42,18 @@ placed-both a b at line h =
     rw (front, back, end, append-assoc (take at line) a b)
 
 -- both as contracts say it
-module _ (a b : Text) (at p q : ℕ) (before between after : List ℕ) (h : at + length a ≤ length before) (x : Placed a at before between p) where
+module _ (a b : Text) (at p q : ℕ) (before between after : List ℕ) (h : at + length a ≤ length before) (x : PlacedText a at before between p) where
   pub between-length : length between ≡ length before
   between-length = ap length (x .1) ∙ length-placed a at before h
 
-  pub placed-then : Placed b p between after q → Placed (a ++ b) at before after q
+  pub placed-then : PlacedText b p between after q → PlacedText (a ++ b) at before after q
   placed-then y = (
     (let e = length-append a b in let f = x .0 in let g = y .0 in omega arith),
     y .1 ∙ rw (x .0, x .1) (placed-both a b at before (omega arith)),
   )
 
 -- in front of the line
-pub placed-front : (text : Text) (before after : List ℕ) (r : ℕ) → Placed text 0 before after r → Listed text before after r
+pub placed-front : (text : Text) (before after : List ℕ) (r : ℕ) → PlacedText text 0 before after r → Listed text before after r
 placed-front text before after r x = (rw zero-add at (x .0), rw zero-add at (x .1))
 
 -- a byte
@@ -98,7 +98,7 @@ placed-paste text at line = rw (take-length text)
 
 -- ---- a whole line: a word, fields, and the end of the line
 module _ (word mid : Text) (p q r : ℕ) (line one two three : List ℕ) (h : length word + length mid + 1 ≤ length line) where
-  pub whole-line : Placed word 0 line one p → Placed mid p one two q → Placed (newline ∷ []) q two three r
+  pub whole-line : PlacedText word 0 line one p → PlacedText mid p one two q → PlacedText (newline ∷ []) q two three r
       → Listed (word ++ (mid ++ (newline ∷ []))) line three r
   whole-line x y z =
       let e = length-append word mid in

@@ -10,5 +10,5 @@ abbrev pub placed : Text → ℕ → List ℕ → List ℕ
 placed text at line = take at line ++ text ++ drop (at + length text) line
 
 -- of a line before and after, and the place answered: the text stands there, and the place is the one after it
-abbrev pub Placed : Text → ℕ → List ℕ → List ℕ → ℕ → Type 0
-Placed text at before after end = (end ≡ at + length text) × (after ≡ placed text at before)
+abbrev pub PlacedText : Text → ℕ → List ℕ → List ℕ → ℕ → Type 0
+PlacedText text at before after end = (end ≡ at + length text) × (after ≡ placed text at before)

@@ -4,7 +4,7 @@ ghost use Prim.Native.Nat.{_+_, _-_, _<_, _≤_};
 ghost use lib.ListN.{length};
 ghost use Rattle.print_texts.specs.Texts.{decimal};
 ghost use Rattle.print_texts.specs.Texts.{digit as Texts·digit};
-ghost use Rattle.print_texts.specs.Placing.{placed, Placed};
+ghost use Rattle.print_texts.specs.Placing.{placed, PlacedText};
 
 // The character of a digit.
 fn digit(d: u64) -> u8
@@ -45,7 +45,7 @@ fn write_digits(line: &mut [u8], end: usize, x: u64)
 // Puts a number on the line.
 pub fn put_decimal(line: &mut [u8], at: usize, x: u64) -> usize
     requires { ⌜ at + length (decimal x) ≤ length (now line) ⌝ }
-    ensures { λ r. ⌜ Placed (decimal x) at (now (line .entry)) (now (line .exit)) r ⌝ }
+    ensures { λ r. ⌜ PlacedText (decimal x) at (now (line .entry)) (now (line .exit)) r ⌝ }
 {
     let end = at + digit_count(x);
     write_digits(line, end, x);

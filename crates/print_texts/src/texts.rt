@@ -6,14 +6,14 @@ ghost use lib.ListN.{length};
 ghost use Rattle.words.specs.Words.{signed};
 ghost use Rattle.lists.specs.Sums.{sumIn};
 ghost use Rattle.print_texts.specs.Texts.{integerText, numberField, integerField};
-ghost use Rattle.print_texts.specs.Placing.{Placed};
+ghost use Rattle.print_texts.specs.Placing.{PlacedText};
 
 // Half the values of 64 bits: from there on they are below zero.
 const HALF_LONGS: u64 = 0x8000000000000000;
 
 pub fn put_byte(line: &mut [u8], at: usize, byte: u8) -> usize
     requires { ⌜ at < length (now line) ⌝ }
-    ensures { λ r. ⌜ Placed (byte ∷ []) at (now (line .entry)) (now (line .exit)) r ⌝ }
+    ensures { λ r. ⌜ PlacedText (byte ∷ []) at (now (line .entry)) (now (line .exit)) r ⌝ }
 {
     line[at] = byte;
     at + 1
@@ -21,7 +21,7 @@ pub fn put_byte(line: &mut [u8], at: usize, byte: u8) -> usize
 
 pub fn put_bytes(line: &mut [u8], at: usize, text: &[u8]) -> usize
     requires { ⌜ at + length (now text) ≤ length (now line) ⌝ }
-    ensures { λ r. ⌜ Placed (now (text .entry)) at (now (line .entry)) (now (line .exit)) r ⌝ }
+    ensures { λ r. ⌜ PlacedText (now (text .entry)) at (now (line .entry)) (now (line .exit)) r ⌝ }
 {
     let mut i: usize = 0;
     while i < text.len() {
@@ -35,7 +35,7 @@ pub fn put_bytes(line: &mut [u8], at: usize, text: &[u8]) -> usize
 // A number, after a blank.
 pub fn put_number(line: &mut [u8], at: usize, x: u64) -> usize
     requires { ⌜ at + length (numberField x) ≤ length (now line) ⌝ }
-    ensures { λ r. ⌜ Placed (numberField x) at (now (line .entry)) (now (line .exit)) r ⌝ }
+    ensures { λ r. ⌜ PlacedText (numberField x) at (now (line .entry)) (now (line .exit)) r ⌝ }
 {
     let next = put_byte(line, at, b' ');
     put_decimal(line, next, x)
@@ -44,7 +44,7 @@ pub fn put_number(line: &mut [u8], at: usize, x: u64) -> usize
 // Bits in two's complement, with half their values from zero up, in decimal.
 pub fn put_signed(line: &mut [u8], at: usize, bits: u64, half: u64) -> usize
     requires { ⌜ (bits < half + half) × (at + length (integerText (signed half bits)) ≤ length (now line)) ⌝ }
-    ensures { λ r. ⌜ Placed (integerText (signed half bits)) at (now (line .entry)) (now (line .exit)) r ⌝ }
+    ensures { λ r. ⌜ PlacedText (integerText (signed half bits)) at (now (line .entry)) (now (line .exit)) r ⌝ }
 {
     if bits < half {
         return put_decimal(line, at, bits);
@@ -56,7 +56,7 @@ pub fn put_signed(line: &mut [u8], at: usize, bits: u64, half: u64) -> usize
 // A sum, given by its 64 bits, after a blank.
 pub fn put_sum(line: &mut [u8], at: usize, bits: u64) -> usize
     requires { ⌜ at + length (integerField (sumIn bits)) ≤ length (now line) ⌝ }
-    ensures { λ r. ⌜ Placed (integerField (sumIn bits)) at (now (line .entry)) (now (line .exit)) r ⌝ }
+    ensures { λ r. ⌜ PlacedText (integerField (sumIn bits)) at (now (line .entry)) (now (line .exit)) r ⌝ }
 {
     let next = put_byte(line, at, b' ');
     put_signed(line, next, bits, HALF_LONGS)

@@ -29,7 +29,7 @@ use Rattle.queries.specs.Playing.{Turns, Cause}
 use Rattle.queries.proofs.UnderWay.{UnderWay}
 use Rattle.queries.proofs.Refusing.{turn-stopped}
 use Rattle.queries.proofs.Advancing as advancing
-use Rattle.queries.proofs.Leaving.{Going, Becomes}
+use Rattle.queries.proofs.Leaving.{GoesAhead, Becomes}
 use Rattle.queries.proofs.Leaving as leaving
 use Rattle.queries.proofs.ListTaken as taking
 
@@ -42,7 +42,7 @@ module _ (keep : Keeping) (v : Survey) (plan : List ℕ) (a : Accepted (v .table
   q = planOf plan
 
   module _ (quantum most count : ℕ) (fewer : count < most) (output state : List ℕ) (saved : ℕ) (kept : List ℕ) (used : ℕ)
-      (g : Going keep v plan first before quantum (length output) count state saved kept used) where
+      (g : GoesAhead keep v plan first before quantum (length output) count state saved kept used) where
     abbrev u : UnderWay keep v plan first before count state saved kept used
     u = g .under
 

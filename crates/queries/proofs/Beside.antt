@@ -17,7 +17,7 @@ use Rattle.queries.specs.declared.Went.{Went}
 use Rattle.queries.specs.declared.Went.the-variants.{On, Over, Stopped}
 use Rattle.lists.specs.Gathering.{isRows}
 use Rattle.queries.specs.Stepping.{outputList, takeTurnOf}
-use Rattle.queries.specs.Rounds.{Lent, Position, advanced, roundInput, rounds, firstPosition}
+use Rattle.queries.specs.Rounds.{Lent, QueryStanding, standingOf, roundInput, rounds, firstPosition}
 use Rattle.queries.proofs.Rounds.{rounds-none, rounds-on, rounds-over, rounds-stopped}
 
 -- the same state and output, and a kept buffer as it was first
@@ -25,18 +25,18 @@ abbrev leaving : List ℕ → Lent → Lent
 leaving first l = record { state = l .state; output = l .output; kept = first }
 
 -- beside a position with its rows kept, one with none kept: it goes on, is over or is stopped alike, unless 14 stopped the first
-abbrev BesideAs : List ℕ → Went → Lent → Position → Type 0
+abbrev BesideAs : List ℕ → Went → Lent → QueryStanding → Type 0
 BesideAs first (On saved used) l q = q ≡ record { went = On saved 0; held = leaving first l }
 BesideAs first (Over words) l q = q ≡ record { went = Over 0; held = leaving first l }
 BesideAs first (Stopped x) l q = (x ≡ 14) ⊎ (q ≡ record { went = Stopped x; held = leaving first l })
 
-abbrev pub Beside : List ℕ → Position → Position → Type 0
+abbrev pub Beside : List ℕ → QueryStanding → QueryStanding → Type 0
 Beside first p q = BesideAs first (p .went) (p .held) q
 
 -- one turn more
 module _ (i : TurnInput) (kept : List ℕ) (used : ℕ) (first : List ℕ) (h : isRows (givenPlan i .ending) ≡ true) where
   abbrev Alike : Type 0
-  Alike = Beside first (advanced (takeTurnOf All i kept used)) (advanced (takeTurnOf Merged i first 0))
+  Alike = Beside first (standingOf (takeTurnOf All i kept used)) (standingOf (takeTurnOf Merged i first 0))
 
   by-room : (x : TurnEnding) → turnOf i .answer .ending ≡ x → (b : Bool) → leb (used + length (outputList (turnOf i))) (length kept) ≡ b → Alike
   unfolding takeTurnOf
@@ -52,10 +52,10 @@ module _ (i : TurnInput) (kept : List ℕ) (used : ℕ) (first : List ℕ) (h : 
   turn-beside = by-room (turnOf i .answer .ending) refl (leb (used + length (outputList (turnOf i))) (length kept)) refl
 
 module _ (v : Survey) (plan : List ℕ) (quantum : ℕ) (h : isRows (planOf plan .ending) ≡ true) (opened : ℕ) (lent : Lent) where
-  abbrev kept-at : ℕ → Position
+  abbrev kept-at : ℕ → QueryStanding
   kept-at n = rounds All v plan quantum n (firstPosition opened lent)
 
-  abbrev left-at : ℕ → Position
+  abbrev left-at : ℕ → QueryStanding
   left-at n = rounds Merged v plan quantum n (firstPosition opened lent)
 
   abbrev first : List ℕ
@@ -67,7 +67,7 @@ module _ (v : Survey) (plan : List ℕ) (quantum : ℕ) (h : isRows (planOf plan
       let p = rounds-on All v plan quantum (firstPosition opened lent) n saved used l e in
       let q = rounds-on Merged v plan quantum (firstPosition opened lent) n saved 0 (leaving first l) b in
       subst⁻¹ (λ x. Beside first x (left-at (n + 1))) p
-      (subst⁻¹ (Beside first (advanced (takeTurnOf All (roundInput v plan quantum saved l) (l .kept) used))) q
+      (subst⁻¹ (Beside first (standingOf (takeTurnOf All (roundInput v plan quantum saved l) (l .kept) used))) q
       (turn-beside (roundInput v plan quantum saved l) (l .kept) used first h))
   later n (Over words) l e b =
       subst⁻¹ (λ x. Beside first x (left-at (n + 1))) (rounds-over All v plan quantum (firstPosition opened lent) n (n + 1) (omega arith) words l e)

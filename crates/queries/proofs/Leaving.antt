@@ -26,15 +26,15 @@ use Rattle.queries.proofs.Refusing.{at-first}
 use Rattle.queries.proofs.Advancing as advancing
 
 -- a query that goes on: under way, its saved words those of a state, and its turns made as the uncut run has them
-pub record Going (keep : Keeping) (v : Survey) (plan : List ℕ) (first : Phone) (before : List ℕ) (quantum room count : ℕ) (state : List ℕ) (saved : ℕ)
-    (kept : List ℕ) (used : ℕ) : Type 0 where
+pub record GoesAhead (keep : Keeping) (v : Survey) (plan : List ℕ) (first : Phone) (before : List ℕ) (quantum room count : ℕ)
+    (state : List ℕ) (saved : ℕ) (kept : List ℕ) (used : ℕ) : Type 0 where
   pub under : UnderWay keep v plan first before count state saved kept used
   pub alive : ¬ (saved ≡ 0)
   pub made : Turns (v .tables) plan quantum room count (stepsIn (under .held .taken))
 
 -- what one more turn comes to, by how the query goes on
 abbrev pub Becomes : Keeping → Survey → List ℕ → Phone → List ℕ → ℕ → ℕ → ℕ → ℕ → List ℕ → List ℕ → Went → Type 0
-Becomes keep v plan first before quantum most room count now left (On s words) = Going keep v plan first before quantum room (count + 1) now s left words
+Becomes keep v plan first before quantum most room count now left (On s words) = GoesAhead keep v plan first before quantum room (count + 1) now s left words
 Becomes keep v plan first before quantum most room count now left (Over words) = Finishes keep (v .tables) plan quantum most room before left words
 Becomes keep v plan first before quantum most room count now left (Stopped y) = Stops keep (v .tables) plan quantum most room before left y
 

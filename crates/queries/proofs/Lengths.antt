@@ -19,20 +19,20 @@ use Rattle.lists.specs.Gathering.{gathered, thresholdRight}
 use Rattle.lists.specs.Closing.{listAt}
 use Rattle.lists.proofs.Closing.{at-longer}
 use Rattle.turns.specs.Turns.{isOver}
-use Rattle.list_endings.proofs.Growing.{Grows, grows}
+use Rattle.list_endings.proofs.Growing.{ListGrows, grows}
 use Rattle.cuts.specs.Accepting.{Accepted}
 use Rattle.cuts.proofs.Accepting.{accepted-form}
 use Rattle.cuts.proofs.Chains.{kept-some}
 use Rattle.queries.specs.Playing.{listAfter}
 
 -- ---- more rows make no shorter list
-pub longer-by : (e : Ending) → Grows e [] → (bs cs : List Bindings) → length (gathered e [] bs) ≤ length (gathered e [] (bs ++ cs))
+pub longer-by : (e : Ending) → ListGrows e [] → (bs cs : List Bindings) → length (gathered e [] bs) ≤ length (gathered e [] (bs ++ cs))
 longer-by e g bs [] = omega (arith, ap (λ l. length (gathered e [] l)) (append-nil bs))
 longer-by e g bs (c ∷ cs) =
     omega (arith, g .longer bs c, longer-by e g (bs ++ (c ∷ [])) cs, ap (λ l. length (gathered e [] l)) (append-assoc bs (c ∷ []) cs))
 
 -- the list of an accepted plan
-pub list-grows : (t : Tables) (plan : List ℕ) → Accepted t plan → Grows (planOf plan .ending) []
+pub list-grows : (t : Tables) (plan : List ℕ) → Accepted t plan → ListGrows (planOf plan .ending) []
 unfolding thresholdRight
 list-grows t plan a =
     let q = planOf plan in

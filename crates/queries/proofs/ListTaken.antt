@@ -35,7 +35,7 @@ use Rattle.queries.proofs.UnderWay.{UnderWay}
 use Rattle.queries.proofs.Taking.{is-served}
 use Rattle.queries.proofs.Making.{turn-made}
 use Rattle.queries.proofs.Advancing as advancing
-use Rattle.queries.proofs.Leaving.{Going}
+use Rattle.queries.proofs.Leaving.{GoesAhead}
 
 -- a list that is merged is kept
 merged-kept : (keep : Keeping) (e : Ending) → isRows e ≡ false → keeps keep e ≡ true
@@ -61,7 +61,7 @@ module _ (keep : Keeping) (v : Survey) (plan : List ℕ) (a : Accepted (v .table
   none-kept f list = rw f
 
   module _ (quantum count : ℕ) (output state : List ℕ) (saved : ℕ) (kept : List ℕ) (used : ℕ)
-      (g : Going keep v plan first before quantum (length output) count state saved kept used) where
+      (g : GoesAhead keep v plan first before quantum (length output) count state saved kept used) where
     abbrev u : UnderWay keep v plan first before count state saved kept used
     u = g .under
 

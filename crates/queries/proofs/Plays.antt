@@ -16,13 +16,13 @@ use Rattle.queries.specs.declared.Played.the-variants as played
 use Rattle.queries.specs.declared.Went.{Went}
 use Rattle.queries.specs.declared.Went.the-variants.{On, Over, Stopped}
 use Rattle.queries.specs.Stepping.{takeTurnOf}
-use Rattle.queries.specs.Rounds.{Lent, Position, PlayResult, advanced, roundInput, rounds, playAnswer, resultAt, firstPosition, playedAs}
+use Rattle.queries.specs.Rounds.{Lent, QueryStanding, PlayResult, standingOf, roundInput, rounds, playAnswer, resultAt, firstPosition, playedAs}
 use Rattle.queries.specs.Rounds.{afterOpening, playOf}
 use Rattle.queries.specs.Playing.{StandsAfter, Finishes, Stops, Leaves, Plays, PlayRefusals, Started}
 use Rattle.queries.proofs.UnderWay.{startAt}
 use Rattle.queries.proofs.Taking.{same-room}
 use Rattle.queries.proofs.Rounds.{rounds-none, rounds-on, rounds-over, rounds-stopped}
-use Rattle.queries.proofs.Leaving.{Going, Becomes, pauses}
+use Rattle.queries.proofs.Leaving.{GoesAhead, Becomes, pauses}
 use Rattle.queries.proofs.Becoming.{becomes}
 use Rattle.queries.proofs.Starting.{start-accepts, start-keeps, start-goes, goes-stands, opens, started, not-opened}
 
@@ -30,10 +30,10 @@ module _ (keep : Keeping) (v : Survey) (plan state : List ℕ) (saved : ℕ) (s 
   abbrev t : Tables
   t = v .tables
 
-  abbrev start : Position
+  abbrev start : QueryStanding
   start = firstPosition saved (record { state = state; output = output; kept = kept })
 
-  abbrev at : ℕ → Position
+  abbrev at : ℕ → QueryStanding
   at n = rounds keep v plan quantum n start
 
   abbrev room : ℕ
@@ -42,11 +42,11 @@ module _ (keep : Keeping) (v : Survey) (plan state : List ℕ) (saved : ℕ) (s 
   -- ---- where so many rounds lead
   abbrev pub Led : ℕ → Went → Lent → Type 0
   Led n (On left used) l =
-      Going keep v plan (startAt state saved) kept quantum room n (l .state) left (l .kept) used × (length (l .output) ≡ room)
+      GoesAhead keep v plan (startAt state saved) kept quantum room n (l .state) left (l .kept) used × (length (l .output) ≡ room)
   Led n (Over words) l = Finishes keep t plan quantum n room kept (l .kept) words
   Led n (Stopped x) l = Stops keep t plan quantum n room kept (l .kept) x
 
-  abbrev LedTo : ℕ → Position → Type 0
+  abbrev LedTo : ℕ → QueryStanding → Type 0
   LedTo n p = Led n (p .went) (p .held)
 
   by-went : (n : ℕ) (w : Went) (l : Lent) → Becomes keep v plan (startAt state saved) kept quantum (n + 1) room n (l .state) (l .kept) w
@@ -57,11 +57,11 @@ module _ (keep : Keeping) (v : Survey) (plan state : List ℕ) (saved : ℕ) (s 
 
   -- one turn more, with an output as long as the first one
   turned : (n left used : ℕ) (l : Lent) → Led n (On left used) l
-      → LedTo (n + 1) (advanced (takeTurnOf keep (roundInput v plan quantum left l) (l .kept) used))
+      → LedTo (n + 1) (standingOf (takeTurnOf keep (roundInput v plan quantum left l) (l .kept) used))
   turned n left used l g =
       let first = startAt state saved in
-      let p = advanced (takeTurnOf keep (roundInput v plan quantum left l) (l .kept) used) in
-      let going = subst⁻¹ (λ r. Going keep v plan first kept quantum r n (l .state) left (l .kept) used) (g .1) (g .0) in
+      let p = standingOf (takeTurnOf keep (roundInput v plan quantum left l) (l .kept) used) in
+      let going = subst⁻¹ (λ r. GoesAhead keep v plan first kept quantum r n (l .state) left (l .kept) used) (g .1) (g .0) in
       let b = becomes keep v plan (start-accepts v plan state saved s) first (start-keeps v plan state saved s) kept quantum (n + 1) n (omega arith)
       (l .output) (l .state) left (l .kept) used going in
       by-went n (p .went) (p .held) (subst (λ r. Becomes keep v plan first kept quantum (n + 1) r n (p .held .state) (p .held .kept) (p .went)) (g .1) b)

@@ -20,17 +20,17 @@ use Rattle.queries.specs.declared.Went.{Went}
 use Rattle.queries.specs.declared.Went.the-variants.{On, Over, Stopped}
 use Rattle.lists.specs.Gathering.{isRows}
 use Rattle.queries.specs.Stepping.{Stepped, takeTurnOf, wentOf}
-use Rattle.queries.specs.Rounds.{Lent, Position, advanced, roundInput, roundAs, round, rounds}
+use Rattle.queries.specs.Rounds.{Lent, QueryStanding, standingOf, roundInput, roundAs, round, rounds}
 use Rattle.queries.specs.Rounds.{PlayResult, resultAt, firstPosition, playedAs, playOf}
 
 -- a step's answer and buffers, as a position
 pub advanced-by : (s : Step) (state out kept : List ℕ) (z : Stepped) → record { answer = s; state = state; output = out; kept = kept } ≡ z
-    → (w : Went) → w ≡ wentOf s → record { went = w; held = record { state = state; output = out; kept = kept } } ≡ advanced z
+    → (w : Went) → w ≡ wentOf s → record { went = w; held = record { state = state; output = out; kept = kept } } ≡ standingOf z
 advanced-by s state out kept z e w f =
-    ap (λ v. record { went = v; held = record { state = state; output = out; kept = kept } }) f ∙ ap advanced e
+    ap (λ v. record { went = v; held = record { state = state; output = out; kept = kept } }) f ∙ ap standingOf e
 
-module _ (keep : Keeping) (v : Survey) (plan : List ℕ) (quantum : ℕ) (p : Position) where
-  abbrev at : ℕ → Position
+module _ (keep : Keeping) (v : Survey) (plan : List ℕ) (quantum : ℕ) (p : QueryStanding) where
+  abbrev at : ℕ → QueryStanding
   at n = rounds keep v plan quantum n p
 
   pub rounds-none : at 0 ≡ p
@@ -43,21 +43,22 @@ module _ (keep : Keeping) (v : Survey) (plan : List ℕ) (quantum : ℕ) (p : Po
 
   -- a query that goes on makes one turn more
   module _ (n saved used : ℕ) (l : Lent) (e : at n ≡ record { went = On saved used; held = l }) where
-    pub rounds-on : at (n + 1) ≡ advanced (takeTurnOf keep (roundInput v plan quantum saved l) (l .kept) used)
+    pub rounds-on : at (n + 1) ≡ standingOf (takeTurnOf keep (roundInput v plan quantum saved l) (l .kept) used)
     unfolding round
     rounds-on = rounds-more n ∙ ap (round keep v plan quantum) e
 
     -- by what it answers and leaves
-    pub rounds-next : (w : Went) (m : Lent) → record { went = w; held = m } ≡ advanced (takeTurnOf keep (roundInput v plan quantum saved l) (l .kept) used)
+    pub rounds-next : (w : Went) (m : Lent) → record { went = w; held = m }
+        ≡ standingOf (takeTurnOf keep (roundInput v plan quantum saved l) (l .kept) used)
         → (v : Went) → w ≡ v → at (n + 1) ≡ record { went = v; held = m }
     rounds-next w m f v g = rounds-on ∙ sym f ∙ ap (λ u. record { went = u; held = m }) g
 
   -- all turns are made
-  pub rounds-made : (n most : ℕ) → n ≡ most → (q : Position) → at n ≡ q → at most ≡ q
+  pub rounds-made : (n most : ℕ) → n ≡ most → (q : QueryStanding) → at n ≡ q → at most ≡ q
   rounds-made n most d q e = ap at (sym d) ∙ e
 
   -- one that makes no more turns stays as it is
-  rounds-stay : (n most : ℕ) → n ≤ most → (q : Position) → at n ≡ q → round keep v plan quantum q ≡ q → at most ≡ q
+  rounds-stay : (n most : ℕ) → n ≤ most → (q : QueryStanding) → at n ≡ q → round keep v plan quantum q ≡ q → at most ≡ q
   unfolding rounds
   rounds-stay n most l q e f =
       let d : most ≡ n + (most - n) = omega arith in
@@ -100,21 +101,22 @@ same-turn : (i : TurnInput) (kept : List ℕ) (used : ℕ) → isRows (givenPlan
 unfolding takeTurnOf
 same-turn i kept used h = rw h
 
-iterate-same : (f g : Position → Position) → ((p : Position) → f p ≡ g p) → (n : ℕ) (p : Position) → iterate f n p ≡ iterate g n p
+iterate-same : (f g : QueryStanding → QueryStanding) → ((p : QueryStanding) → f p ≡ g p) → (n : ℕ) (p : QueryStanding)
+    → iterate f n p ≡ iterate g n p
 unfolding iterate
 iterate-same f g h zero p = refl
 iterate-same f g h (suc n) p = h (iterate f n p) ∙ ap g (iterate-same f g h n p)
 
 module _ (v : Survey) (plan : List ℕ) (quantum : ℕ) (h : isRows (planOf plan .ending) ≡ false) where
   round-as : (w : Went) (l : Lent) → roundAs All v plan quantum w l ≡ roundAs Merged v plan quantum w l
-  round-as (On saved used) l = ap advanced (same-turn (roundInput v plan quantum saved l) (l .kept) used h)
+  round-as (On saved used) l = ap standingOf (same-turn (roundInput v plan quantum saved l) (l .kept) used h)
   round-as (Over words) l = refl
   round-as (Stopped x) l = refl
 
-  same-round : (p : Position) → round All v plan quantum p ≡ round Merged v plan quantum p
+  same-round : (p : QueryStanding) → round All v plan quantum p ≡ round Merged v plan quantum p
   unfolding round
   same-round p = round-as (p .went) (p .held)
 
-  pub same-rounds : (most : ℕ) (p : Position) → rounds All v plan quantum most p ≡ rounds Merged v plan quantum most p
+  pub same-rounds : (most : ℕ) (p : QueryStanding) → rounds All v plan quantum most p ≡ rounds Merged v plan quantum most p
   unfolding rounds
   same-rounds most p = iterate-same (round All v plan quantum) (round Merged v plan quantum) same-round most p

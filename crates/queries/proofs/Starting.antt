@@ -33,7 +33,7 @@ use Rattle.queries.specs.declared.Keeping.{Keeping}
 use Rattle.queries.specs.Stepping.{keeps, keptOf}
 use Rattle.queries.specs.Playing.{none-made, StandsAfter, OpeningRefused, Started}
 use Rattle.queries.proofs.UnderWay.{startAt, UnderWay}
-use Rattle.queries.proofs.Leaving.{stands, not-over, Going}
+use Rattle.queries.proofs.Leaving.{stands, not-over, GoesAhead}
 
 -- no row has no total
 no-rows-fit : (e : Ending) (r : Run) → r .delivered ≡ [] → runFits e r ≡ true
@@ -92,13 +92,14 @@ module _ (v : Survey) (plan state : List ℕ) (saved : ℕ) (s : Started v plan 
   unfolding doneIn starts
   start-alive keep kept = not-over keep v plan start-accepts (startAt state saved) start-keeps kept 0 state saved kept 0 (starts keep kept) refl
 
-  pub start-goes : (keep : Keeping) (kept : List ℕ) (quantum room : ℕ) → Going keep v plan (startAt state saved) kept quantum room 0 state saved kept 0
+  pub start-goes : (keep : Keeping) (kept : List ℕ) (quantum room : ℕ)
+      → GoesAhead keep v plan (startAt state saved) kept quantum room 0 state saved kept 0
   unfolding stepsIn starts
   start-goes keep kept quantum room = record { under = starts keep kept; alive = start-alive keep kept; made = none-made }
 
   -- where it stands, of what it leads to
   pub goes-stands : (keep : Keeping) (before : List ℕ) (quantum room count : ℕ) (now : List ℕ) (left : ℕ) (kept : List ℕ) (used : ℕ)
-      → Going keep v plan (startAt state saved) before quantum room count now left kept used → StandsAfter v plan quantum room count now left
+      → GoesAhead keep v plan (startAt state saved) before quantum room count now left kept used → StandsAfter v plan quantum room count now left
   goes-stands keep before quantum room count now left kept used g =
       stands keep v plan start-accepts (startAt state saved) start-keeps before count now left kept used (g .under) (g .alive) quantum room (g .made)
 

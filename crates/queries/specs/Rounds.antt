@@ -25,13 +25,13 @@ abbrev pub buffers : List ℕ → List ℕ → List ℕ → Lent
 buffers state output kept = record { state = state; output = output; kept = kept }
 
 -- how a query goes on after its last turn, and what the buffers hold
-pub record Position : Type 0 where
+pub record QueryStanding : Type 0 where
   pub went : Went
   pub held : Lent
 
 -- ---- rounds
-abbrev pub advanced : Stepped → Position
-advanced s = record { went = wentOf (s .answer); held = buffers (s .state) (s .output) (s .kept) }
+abbrev pub standingOf : Stepped → QueryStanding
+standingOf s = record { went = wentOf (s .answer); held = buffers (s .state) (s .output) (s .kept) }
 
 -- the turn of a round, with no threshold
 abbrev pub roundInput : Survey → List ℕ → ℕ → ℕ → Lent → TurnInput
@@ -39,16 +39,16 @@ roundInput v plan quantum saved l =
     record { survey = v; plan = plan; state = l .state; given = saved; quantum = quantum; threshold = []; output = l .output }
 
 -- a query that is over or stopped makes no more turns
-abbrev pub roundAs : Keeping → Survey → List ℕ → ℕ → Went → Lent → Position
-roundAs keep v plan quantum (On saved used) l = advanced (takeTurnOf keep (roundInput v plan quantum saved l) (l .kept) used)
+abbrev pub roundAs : Keeping → Survey → List ℕ → ℕ → Went → Lent → QueryStanding
+roundAs keep v plan quantum (On saved used) l = standingOf (takeTurnOf keep (roundInput v plan quantum saved l) (l .kept) used)
 roundAs keep v plan quantum (Over words) l = record { went = Over words; held = l }
 roundAs keep v plan quantum (Stopped x) l = record { went = Stopped x; held = l }
 
-unfoldable pub round : Keeping → Survey → List ℕ → ℕ → Position → Position
+unfoldable pub round : Keeping → Survey → List ℕ → ℕ → QueryStanding → QueryStanding
 round keep v plan quantum p = roundAs keep v plan quantum (p .went) (p .held)
 
 -- at most so many turns
-unfoldable pub rounds : Keeping → Survey → List ℕ → ℕ → ℕ → Position → Position
+unfoldable pub rounds : Keeping → Survey → List ℕ → ℕ → ℕ → QueryStanding → QueryStanding
 rounds keep v plan quantum most p = iterate (round keep v plan quantum) most p
 
 -- ---- a play
@@ -62,11 +62,11 @@ playAnswer (On saved words) = played.Unfinished saved words
 playAnswer (Over words) = played.Finished words
 playAnswer (Stopped x) = played.Stopped x
 
-abbrev pub resultAt : Position → PlayResult
+abbrev pub resultAt : QueryStanding → PlayResult
 resultAt p = record { answer = playAnswer (p .went); held = p .held }
 
 -- the saved words of an opening, and no list kept
-abbrev pub firstPosition : ℕ → Lent → Position
+abbrev pub firstPosition : ℕ → Lent → QueryStanding
 firstPosition opened l = record { went = On opened 0; held = l }
 
 -- by what the opening answers, with what it leaves: it is refused where that is, and an opened query is never

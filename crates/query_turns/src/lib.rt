@@ -9,7 +9,7 @@ ghost use mathlib.Core.Path.{_≡_};
 ghost use mathlib.Core.List.{[]};
 ghost use Rattle.turns.specs.Turns.{turnInput};
 ghost use Rattle.queries.specs.Stepping.{takeTurnOf, wentOf};
-ghost use Rattle.queries.specs.Rounds.{buffers, advanced};
+ghost use Rattle.queries.specs.Rounds.{buffers, standingOf};
 
 // Runs one turn, with no threshold, and takes its list into the kept one, which is the first words of its buffer, so many.
 pub fn take_turn(
@@ -97,7 +97,7 @@ pub fn advance(
     keeping: Keeping,
 ) -> Went
     ensures { λ r. ⌜ record { went = r; held = buffers (now (state .exit)) (now (output .exit)) (now (kept .exit)) }
-        ≡ advanced (takeTurnOf keeping (turnInput (now (rows .entry)) (now (pos .entry)) (now (osp .entry)) survey (now (plan .entry)) (now (state .entry))
+        ≡ standingOf (takeTurnOf keeping (turnInput (now (rows .entry)) (now (pos .entry)) (now (osp .entry)) survey (now (plan .entry)) (now (state .entry))
         saved quantum [] (now (output .entry))) (now (kept .entry)) used) ⌝ }
 {
     outcome(take_turn(

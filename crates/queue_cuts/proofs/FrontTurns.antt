@@ -58,17 +58,17 @@ snoc : (xs ys : List Entry) (a b : Entry) → (xs ++ (a ∷ ys)) ++ (b ∷ []) �
 snoc xs ys a b = append-assoc xs (a ∷ ys) (b ∷ [])
 
 -- ---- a turn of the front entry
-pub record Told (v : Survey) (s : Serving) (e : Entry) (y : ServeResult) : Type 0 where
+pub record FrontTold (v : Survey) (s : Serving) (e : Entry) (y : ServeResult) : Type 0 where
   pub turned : y .answer .turned ≡ frontTurn v s e .answer
   pub output : y .output ≡ frontTurn v s e .output
   pub served : (x : ℕ) → frontTurn v s e .answer .ending ≡ ending.Refused x → ⊥
 
 pub data Serviced (v : Survey) (s : Serving) (q : Queue) (y : ServeResult) : Queue → Type 0 where
   not-served : isServed (y .answer .turned .ending) ≡ false → Serviced v s q y q
-  off : (e : Entry) (es : List Entry) → q .line ≡ e ∷ es → Told v s e y → Serviced v s q y (queue es (q .aside))
-  on : (e : Entry) (es : List Entry) → q .line ≡ e ∷ es → Told v s e y
+  off : (e : Entry) (es : List Entry) → q .line ≡ e ∷ es → FrontTold v s e y → Serviced v s q y (queue es (q .aside))
+  on : (e : Entry) (es : List Entry) → q .line ≡ e ∷ es → FrontTold v s e y
       → Serviced v s q y (queue (es ++ (entryAfter e (frontTurn v s e) ∷ [])) (q .aside))
-  out : (e : Entry) (es : List Entry) → q .line ≡ e ∷ es → Told v s e y
+  out : (e : Entry) (es : List Entry) → q .line ≡ e ∷ es → FrontTold v s e y
       → Serviced v s q y (queue es (q .aside ++ (entryAfter e (frontTurn v s e) ∷ [])))
 
 module _ (v : Survey) (q : Queue) (m : MadeCall) (s : Serving) where
@@ -82,7 +82,7 @@ module _ (v : Survey) (q : Queue) (m : MadeCall) (s : Serving) where
     front : q .line ≡ e ∷ es
     front = sym (line-lent q m) ∙ line-is
 
-    told : (line aside : List Entry) → ((x : ℕ) → r .answer .ending ≡ ending.Refused x → ⊥) → Told v s e (serviceWith held e r line aside)
+    told : (line aside : List Entry) → ((x : ℕ) → r .answer .ending ≡ ending.Refused x → ⊥) → FrontTold v s e (serviceWith held e r line aside)
     told line aside h = record { turned = refl; output = refl; served = h }
 
     -- the lists of a turn that was served are those it left

@@ -33,8 +33,8 @@ use Rattle.queries.specs.Stepping.{isServed}
 use Rattle.queue_cuts.specs.Owners.{Act, calls, merging, joining, ownTurn, ownService, ifOwn, callEvents, callServices, ownEvents}
 use Rattle.queue_cuts.specs.Owners.{ownServices, afterActs, NotAnother, NeverAgain, NoneOf, HoldsQuery, Waits, gone, in-line, set-aside}
 use Rattle.queues.proofs.Moving.{queue, line-lent, aside-lent, both-taken, topped-up}
-use Rattle.queue_cuts.proofs.FrontTurns.{other, not-first, none-behind, none-both, none-of-no-one, none-and-one, has-one, Told, Serviced, not-served}
-use Rattle.queue_cuts.proofs.FrontTurns.{off, on, out, serves}
+use Rattle.queue_cuts.proofs.FrontTurns.{other, not-first, none-behind, none-both, none-of-no-one, none-and-one, has-one}
+use Rattle.queue_cuts.proofs.FrontTurns.{FrontTold, Serviced, not-served, off, on, out, serves}
 use Rattle.queue_cuts.proofs.Arrivals.{comes-new}
 
 -- ---- the owner's own turn, as an event of its cut
@@ -81,7 +81,7 @@ module _ (v : Survey) (plan : List ℕ) (owner : ℕ) (s : Serving) (e : Entry) 
       let o = follows (entryTurn v s e quantum) f .state in
       record { its = k .its; plans = k .plans; words = refl; count = ap length (o .front) ∙ sym (o .counted) }
 
-  told-same : (y : ServeResult) → Told v s e y → ownService v s e y ≡ own
+  told-same : (y : ServeResult) → FrontTold v s e y → ownService v s e y ≡ own
   told-same y w i =
       record {
         quantum = quantum;
@@ -153,7 +153,7 @@ module _ (v : Survey) (owner : ℕ) (plan : List ℕ) where
         always true = refl
         always false = refl
 
-    module _ (e : Entry) (es : List Entry) (front : q .line ≡ e ∷ es) (told : Told v s e y) where
+    module _ (e : Entry) (es : List Entry) (front : q .line ≡ e ∷ es) (told : FrontTold v s e y) where
       abbrev made : TurnResult
       made = frontTurn v s e
 

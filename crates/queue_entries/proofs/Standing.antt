@@ -24,7 +24,7 @@ member-both a (x ∷ xs) ys = ap (λ (b : Bool). eqb a x || b) (member-both a xs
     assoc true b c = refl
     assoc false b c = refl
 
-record Apart (xs ys : List ℕ) : Type 0 where
+record EntriesApart (xs ys : List ℕ) : Type 0 where
   here : distinct xs ≡ true
   between : apart xs ys ≡ true
   there : distinct ys ≡ true
@@ -37,7 +37,7 @@ neither : (a b : Bool) → not a ≡ true → not b ≡ true → not (a || b) �
 neither true b h k = h
 neither false b h k = k
 
-split-distinct : (xs ys : List ℕ) → distinct (xs ++ ys) ≡ true → Apart xs ys
+split-distinct : (xs ys : List ℕ) → distinct (xs ++ ys) ≡ true → EntriesApart xs ys
 unfolding distinct all
 split-distinct [] ys h = record { here = refl; between = refl; there = h }
 split-distinct (x ∷ xs) ys h =
@@ -50,7 +50,7 @@ split-distinct (x ∷ xs) ys h =
       there = r .there;
     }
 
-join-distinct : (xs ys : List ℕ) → Apart xs ys → distinct (xs ++ ys) ≡ true
+join-distinct : (xs ys : List ℕ) → EntriesApart xs ys → distinct (xs ++ ys) ≡ true
 unfolding distinct all
 join-distinct [] ys a = a .there
 join-distinct (x ∷ xs) ys a =
@@ -64,12 +64,12 @@ join-distinct (x ∷ xs) ys a =
     }))
 
 -- ---- one list
-record Stands (waiting : Bool) (es : List Entry) (others : List ℕ) : Type 0 where
+record StandsInLine (waiting : Bool) (es : List Entry) (others : List ℕ) : Type 0 where
   steps : all (stepsRight waiting) es ≡ true
   once : distinct (ownersIn es) ≡ true
   elsewhere : apart (ownersIn es) others ≡ true
 
-stands-so : (waiting : Bool) (es : List Entry) (others : List ℕ) → standing waiting es others ≡ true → Stands waiting es others
+stands-so : (waiting : Bool) (es : List Entry) (others : List ℕ) → standing waiting es others ≡ true → StandsInLine waiting es others
 unfolding standing distinct all
 stands-so waiting [] others h = record { steps = refl; once = refl; elsewhere = refl }
 stands-so waiting (e ∷ es) others h =
@@ -86,7 +86,7 @@ stands-so waiting (e ∷ es) others h =
           (and-right (not (member (e .owner) (ownersIn es))) (not (member (e .owner) others)) new) (r .elsewhere);
     }
 
-so-stands : (waiting : Bool) (es : List Entry) (others : List ℕ) → Stands waiting es others → standing waiting es others ≡ true
+so-stands : (waiting : Bool) (es : List Entry) (others : List ℕ) → StandsInLine waiting es others → standing waiting es others ≡ true
 unfolding standing distinct all
 so-stands waiting [] others s = refl
 so-stands waiting (e ∷ es) others s =

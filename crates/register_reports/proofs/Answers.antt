@@ -11,7 +11,7 @@ use Rattle.words.specs.declared.Written.the-variants.{Words, Refused}
 use Rattle.words.specs.Sequences.{all, over}
 use Rattle.words.specs.Tests.{firstFailing}
 use Rattle.words.proofs.Booleans.{and-left}
-use Rattle.registers.specs.Registers.{registerCount, inRange, areRegisters, keptRegisters, reportOn}
+use Rattle.registers.specs.Registers.{registerCount, isRank, areRegisters, keptRegisters, reportOn}
 use Rattle.registers.specs.Reporting.{ReportResult, reportInput, reportWords, reportOf}
 use Rattle.registers.proofs.Reports.{report-length}
 
@@ -21,7 +21,7 @@ kept-short ws h = go (eqb (length ws) 0) refl h
   where
     go : (b : Bool) → eqb (length ws) 0 ≡ b → b || areRegisters ws ≡ true → length ws ≤ registerCount
     go true p e = omega (arith, eqb-true (length ws) 0 p)
-    go false p e = omega (arith, eqb-true (length ws) registerCount (and-left (eqb (length ws) registerCount) (all inRange ws) e))
+    go false p e = omega (arith, eqb-true (length ws) registerCount (and-left (eqb (length ws) registerCount) (all isRank ws) e))
 
 abbrev answered : ℕ → List ℕ → ReportResult
 answered n ws = record { answer = Words n; report = ws }

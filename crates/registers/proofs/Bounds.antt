@@ -13,7 +13,7 @@ use Rattle.words.specs.Sequences.{all, numbers}
 use Rattle.words.proofs.Booleans.{and-left, and-right, and-both}
 use Rattle.words.proofs.Numbers.{numbers-length}
 use Rattle.hashes.specs.Hashes.{hashOf, pickedBy, rankIn}
-use Rattle.registers.specs.Registers.{registerCount, mostRank, givenTo, registerOf, registersOf, registersIn, greaterOf, inRange, areRegisters}
+use Rattle.registers.specs.Registers.{registerCount, mostRank, givenTo, registerOf, registersOf, registersIn, greaterOf, isRank, areRegisters}
 
 -- ---- of some values
 given-most : (i x : ℕ) → givenTo i x ≤ mostRank
@@ -29,22 +29,22 @@ unfolding registerOf
 register-most i [] = omega arith
 register-most i (x ∷ xs) = max-le (given-most i x) (register-most i xs)
 
-all-map : (f : ℕ → ℕ) → ((i : ℕ) → f i ≤ mostRank) → (is : List ℕ) → all inRange (map f is) ≡ true
+all-map : (f : ℕ → ℕ) → ((i : ℕ) → f i ≤ mostRank) → (is : List ℕ) → all isRank (map f is) ≡ true
 unfolding all
 all-map f h [] = refl
-all-map f h (i ∷ is) = and-both (inRange (f i)) (all inRange (map f is)) (le-leb (f i) mostRank (h i)) (all-map f h is)
+all-map f h (i ∷ is) = and-both (isRank (f i)) (all isRank (map f is)) (le-leb (f i) mostRank (h i)) (all-map f h is)
 
 pub registers-length : (xs : List ℕ) → length (registersOf xs) ≡ registerCount
 unfolding registersOf
 registers-length xs = length-map (numbers registerCount) (λ i. registerOf i xs) ∙ numbers-length registerCount
 
-registers-most : (xs : List ℕ) → all inRange (registersOf xs) ≡ true
+registers-most : (xs : List ℕ) → all isRank (registersOf xs) ≡ true
 unfolding registersOf
 registers-most xs = all-map (λ i. registerOf i xs) (λ i. register-most i xs) (numbers registerCount)
 
 pub registers-right : (xs : List ℕ) → areRegisters (registersOf xs) ≡ true
 registers-right xs =
-    and-both (eqb (length (registersOf xs)) registerCount) (all inRange (registersOf xs))
+    and-both (eqb (length (registersOf xs)) registerCount) (all isRank (registersOf xs))
     (eq-eqb (length (registersOf xs)) registerCount (registers-length xs)) (registers-most xs)
 
 -- ---- of two lists
@@ -54,23 +54,23 @@ greater-length [] ys e = refl
 greater-length (x ∷ xs) [] e = absurd (omega arith)
 greater-length (x ∷ xs) (y ∷ ys) e = let n = greater-length xs ys (omega arith) in omega arith
 
-pub greater-most : (xs ys : List ℕ) → all inRange xs ≡ true → all inRange ys ≡ true → all inRange (greaterOf xs ys) ≡ true
+pub greater-most : (xs ys : List ℕ) → all isRank xs ≡ true → all isRank ys ≡ true → all isRank (greaterOf xs ys) ≡ true
 unfolding greaterOf all
 greater-most [] ys p q = refl
 greater-most (x ∷ xs) [] p q = refl
 greater-most (x ∷ xs) (y ∷ ys) p q =
-    let a = leb-true x mostRank (and-left (inRange x) (all inRange xs) p) in
-    let b = leb-true y mostRank (and-left (inRange y) (all inRange ys) q) in
-    and-both (inRange (max x y)) (all inRange (greaterOf xs ys)) (le-leb (max x y) mostRank (max-le a b))
-    (greater-most xs ys (and-right (inRange x) (all inRange xs) p) (and-right (inRange y) (all inRange ys) q))
+    let a = leb-true x mostRank (and-left (isRank x) (all isRank xs) p) in
+    let b = leb-true y mostRank (and-left (isRank y) (all isRank ys) q) in
+    and-both (isRank (max x y)) (all isRank (greaterOf xs ys)) (le-leb (max x y) mostRank (max-le a b))
+    (greater-most xs ys (and-right (isRank x) (all isRank xs) p) (and-right (isRank y) (all isRank ys) q))
 
 pub greater-right : (xs ys : List ℕ) → areRegisters xs ≡ true → areRegisters ys ≡ true → areRegisters (greaterOf xs ys) ≡ true
 greater-right xs ys p q =
-    let m = eqb-true (length xs) registerCount (and-left (eqb (length xs) registerCount) (all inRange xs) p) in
-    let n = eqb-true (length ys) registerCount (and-left (eqb (length ys) registerCount) (all inRange ys) q) in
-    and-both (eqb (length (greaterOf xs ys)) registerCount) (all inRange (greaterOf xs ys))
+    let m = eqb-true (length xs) registerCount (and-left (eqb (length xs) registerCount) (all isRank xs) p) in
+    let n = eqb-true (length ys) registerCount (and-left (eqb (length ys) registerCount) (all isRank ys) q) in
+    and-both (eqb (length (greaterOf xs ys)) registerCount) (all isRank (greaterOf xs ys))
     (eq-eqb (length (greaterOf xs ys)) registerCount (greater-length xs ys (m ∙ sym n) ∙ m))
-    (greater-most xs ys (and-right (eqb (length xs) registerCount) (all inRange xs) p) (and-right (eqb (length ys) registerCount) (all inRange ys) q))
+    (greater-most xs ys (and-right (eqb (length xs) registerCount) (all isRank xs) p) (and-right (eqb (length ys) registerCount) (all isRank ys) q))
 
 -- ---- of an empty kept list
 zeros-greater : (ys : List ℕ) → greaterOf (replicate (length ys) 0) ys ≡ ys

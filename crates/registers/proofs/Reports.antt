@@ -10,7 +10,7 @@ use borrow.Author.Tests.{leb-true, eqb-true, eqb-false, ltb-true, ltb-false, lt-
 use Rattle.words.specs.Sequences.{all, numbers}
 use Rattle.words.proofs.Numbers.{numbers-length}
 use Rattle.words.proofs.Booleans.{and-left, and-right}
-use Rattle.registers.specs.Registers.{registerCount, mostRank, registersIn, inRange, areRegisters, keptRegisters, countAt, reportOn, total}
+use Rattle.registers.specs.Registers.{registerCount, mostRank, registersIn, isRank, areRegisters, keptRegisters, countAt, reportOn, total}
 
 -- ---- totals over the numbers below n
 total-last : (f : ℕ → ℕ) (vs : List ℕ) (n : ℕ) → total (map f (vs ++ (n ∷ []))) ≡ total (map f vs) + f n
@@ -50,12 +50,12 @@ unfolding total countAt
 none-counted [] = refl
 none-counted (v ∷ vs) = omega (arith, none-counted vs)
 
-pub counts-make : (ws : List ℕ) → all inRange ws ≡ true → total (map (λ v. countAt v ws) (numbers (suc mostRank))) ≡ length ws
+pub counts-make : (ws : List ℕ) → all isRank ws ≡ true → total (map (λ v. countAt v ws) (numbers (suc mostRank))) ≡ length ws
 unfolding countAt all
 counts-make [] h = none-counted (numbers (suc mostRank))
 counts-make (x ∷ xs) h =
-    let l = leb-true x mostRank (and-left (inRange x) (all inRange xs) h) in
-    let ih = counts-make xs (and-right (inRange x) (all inRange xs) h) in
+    let l = leb-true x mostRank (and-left (isRank x) (all isRank xs) h) in
+    let ih = counts-make xs (and-right (isRank x) (all isRank xs) h) in
     let o = one-at x (suc mostRank) ∙ ap (λ b. cond b 1 0) (lt-ltb x (suc mostRank) (omega arith)) in
     total-plus (λ v. cond (eqb x v) 1 0) (λ v. countAt v xs) (numbers (suc mostRank)) ∙ omega (arith, o, ih)
 
@@ -64,7 +64,7 @@ pub report-length : (ws : List ℕ) → length (reportOn ws) ≡ suc mostRank
 unfolding reportOn
 report-length ws = length-map (numbers (suc mostRank)) (λ v. countAt v (registersIn ws)) ∙ numbers-length (suc mostRank)
 
-none-right : all inRange (replicate registerCount 0) ≡ true
+none-right : all isRank (replicate registerCount 0) ≡ true
 unfolding all
 none-right = refl
 
@@ -81,5 +81,5 @@ unfolding reportOn
 report-makes [] h = counts-make (replicate registerCount 0) none-right
 report-makes (w ∷ ws) h =
     let r = some-right w ws h in
-    let n = eqb-true (length (w ∷ ws)) registerCount (and-left (eqb (length (w ∷ ws)) registerCount) (all inRange (w ∷ ws)) r) in
-    counts-make (w ∷ ws) (and-right (eqb (length (w ∷ ws)) registerCount) (all inRange (w ∷ ws)) r) ∙ n
+    let n = eqb-true (length (w ∷ ws)) registerCount (and-left (eqb (length (w ∷ ws)) registerCount) (all isRank (w ∷ ws)) r) in
+    counts-make (w ∷ ws) (and-right (eqb (length (w ∷ ws)) registerCount) (all isRank (w ∷ ws)) r) ∙ n

@@ -39,12 +39,12 @@ greaterOf (x ∷ xs) [] = []
 greaterOf (x ∷ xs) (y ∷ ys) = max x y ∷ greaterOf xs ys
 
 -- ---- test 12
-abbrev pub inRange : ℕ → Bool
-inRange x = leb x mostRank
+abbrev pub isRank : ℕ → Bool
+isRank x = leb x mostRank
 
 -- a turn's list has all 16, and a kept list may be empty
 abbrev pub areRegisters : List ℕ → Bool
-areRegisters ws = eqb (length ws) registerCount && all inRange ws
+areRegisters ws = eqb (length ws) registerCount && all isRank ws
 
 abbrev pub keptRegisters : List ℕ → Bool
 keptRegisters ws = eqb (length ws) 0 || areRegisters ws

@@ -68,13 +68,13 @@ behind-right t q ws e =
 
 -- ---- words behind the year's that pass test 9
 -- the branch and the level are in the plan, and there is a place for each level to the last
-pub record Placed (q : Plan) (ws : List ℕ) : Type 0 where
+pub record CursorPlaced (q : Plan) (ws : List ℕ) : Type 0 where
   pub branch : branchOf (getD ws 0 0) < length (q .branches)
   pub level : hasLevel (branchAt q (branchOf (getD ws 0 0)) .terms) (depthOf (getD ws 0 0) - 1) ≡ true
   pub deep : 1 ≤ depthOf (getD ws 0 0)
   pub long : length ws ≡ 1 + depthOf (getD ws 0 0)
 
-pub placed : (q : Plan) (ws : List ℕ) → shapeBehind q ws ≡ true → Placed q ws
+pub placed : (q : Plan) (ws : List ℕ) → shapeBehind q ws ≡ true → CursorPlaced q ws
 unfolding shapeBehind
 placed q ws e =
     let w = getD ws 0 0 in

@@ -24,14 +24,14 @@ use Rattle.steps.specs.Positions.{Position, upperRight, stateRight}
 use Rattle.steps.specs.Steps.{State, after}
 use Rattle.steps.specs.Saved.{stateWords, leastStateWords, shapeRight, surveyRight, yearIn, stateIn, placesRight}
 use Rattle.steps.proofs.Rules.{termsOf}
-use Rattle.steps.proofs.Right.{Right, inner-of, right-accepted, accepted-right}
+use Rattle.steps.proofs.Right.{RightPosition, inner-of, right-accepted, accepted-right}
 use Rattle.steps.proofs.YearsRead.{names-low, read-low}
 use Rattle.steps.proofs.RightStates.{RightState, right-after}
 use Rattle.steps.proofs.YearRuns.{reached}
-use Rattle.steps.proofs.SavedWords.{fitsLow, Fits, position-length, state-back, words-shape, words-survey, shape-of, survey-right, words-under}
+use Rattle.steps.proofs.SavedWords.{fitsLow, WordsFit, position-length, state-back, words-shape, words-survey, shape-of, survey-right, words-under}
 
 -- ---- right positions are small
-module _ (t : Section) (q : Plan) (form : PlanForm q) (s : Position) (r : Right t q s) where
+module _ (t : Section) (q : Plan) (form : PlanForm q) (s : Position) (r : RightPosition t q s) where
   -- at most as many levels as a branch has patterns
   pub depth-most : suc (length (s .upper)) ≤ mostPatterns
   depth-most =
@@ -52,7 +52,7 @@ upper-fits t terms (p ∷ upper) few e =
     all-cons fitsLow p upper (lt-ltb p lowNumbers (omega (arith, i .end, end-le-count (t .tables) (under t terms upper))))
     (upper-fits t terms upper few (i .above))
 
-pub right-fits : (t : Section) (q : Plan) → rowCount (t .tables) ≤ mostRows → PlanForm q → (s : Position) → Right t q s → Fits s
+pub right-fits : (t : Section) (q : Plan) → rowCount (t .tables) ≤ mostRows → PlanForm q → (s : Position) → RightPosition t q s → WordsFit s
 right-fits t q few form s r =
     let d = depth-most t q form s r in
     record {
@@ -65,7 +65,7 @@ right-fits t q few form s r =
 -- ---- over accepted tables and an accepted plan
 module _ (t : Tables) (plan : List ℕ) (q : Plan) (tables : firstFailing (tableTests t) ≡ none)
     (read : readPlan plan ≡ some q) where
-  fits : (s : State) → RightState t q s → Fits (s .position)
+  fits : (s : State) → RightState t q s → WordsFit (s .position)
   fits s r =
       right-fits (section t (s .year)) q (right t tables .sized .few) (plan-form plan q read) (s .position) (r .position)
 

@@ -18,7 +18,7 @@ use Rattle.steps.specs.Machines.{ends}
 use Rattle.steps.specs.Positions.{Position, PositionStep, positionStep, startOf, leave, upperRight}
 use Rattle.steps.proofs.MachineStates as states
 use Rattle.steps.proofs.Rules.{levelStart, levelEnd, goesDeeper, Rule, skips, opens, gives, drops, starts, finishes, rule, step-opens, step-leaves}
-use Rattle.steps.proofs.Right.{Right, inner-of, level-above}
+use Rattle.steps.proofs.Right.{RightPosition, inner-of, level-above}
 
 -- some number of steps leads from one position to another
 abbrev pub Leads : Section → Plan → Position → Position → Type 0
@@ -126,7 +126,7 @@ module _ (t : Section) (q : Plan) where
   to-branch (suc i) h = leads-on (startOf t q 0) (startOf t q i) (startOf t q (suc i)) (to-branch i (omega arith)) (to-next i h)
 
   -- and so to each right position
-  pub reached : (s : Position) → Right t q s → Leads t q (startOf t q 0) s
+  pub reached : (s : Position) → RightPosition t q s → Leads t q (startOf t q 0) s
   reached s r =
       leads-on (startOf t q 0) (startOf t q (s .branch)) s (to-branch (s .branch) (r .branch))
       (leads-on (startOf t q (s .branch)) (at (s .branch) (s .upper) (levelStart t (terms (s .branch)) (s .upper))) s

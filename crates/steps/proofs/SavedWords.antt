@@ -28,7 +28,7 @@ abbrev pub fitsLow : ℕ → Bool
 fitsLow n = ltb n lowNumbers
 
 -- a position whose words hold its numbers
-pub record Fits (s : Position) : Type 0 where
+pub record WordsFit (s : Position) : Type 0 where
   pub position : s .branch * depths + suc (length (s .upper)) < lowNumbers
   pub depth : suc (length (s .upper)) < depths
   pub upper : all fitsLow (s .upper) ≡ true
@@ -78,7 +78,7 @@ upper-back w (p ∷ upper) rest e =
     (ap₂ _∷_ (ap low (word-behind w upper (placeWord p) rest) ∙ low-place p f) (upper-back w upper (placeWord p ∷ rest) (all-tail fitsLow p upper e)))
 
 -- what reads back is the position
-pub position-back : (s : Position) → Fits s → positionIn (positionWords s) ≡ s
+pub position-back : (s : Position) → WordsFit s → positionIn (positionWords s) ≡ s
 unfolding positionIn positionWords
 position-back s f =
     let w = positionWord (s .branch) (suc (length (s .upper))) in
@@ -100,7 +100,7 @@ places-right (p ∷ upper) e =
     (and-both (isPlace (placeWord p)) true (is-place p (ltb-true p lowNumbers (all-head fitsLow p upper e))) refl)
 
 -- a position in the plan has words of the right shape
-pub position-shape : (q : Plan) (s : Position) → Fits s → s .branch < length (q .branches)
+pub position-shape : (q : Plan) (s : Position) → WordsFit s → s .branch < length (q .branches)
     → hasLevel (branchAt q (s .branch) .terms) (length (s .upper)) ≡ true → shapeBehind q (positionWords s) ≡ true
 unfolding shapeBehind positionWords all
 position-shape q s f b l =
@@ -137,13 +137,13 @@ upper-words w ps (suc n) h e =
     rw (add-one n, upper-words w ps n (omega arith) e, x, take-suc ps n 0 (omega arith))
 
 -- what test 9 says of words behind the year's
-pub record Behind (q : Plan) (ws : List ℕ) : Type 0 where
+pub record WordsBehind (q : Plan) (ws : List ℕ) : Type 0 where
   pub branch : positionIn ws .branch < length (q .branches)
   pub level : hasLevel (branchAt q (positionIn ws .branch) .terms) (length (positionIn ws .upper)) ≡ true
   pub words : positionWords (positionIn ws) ≡ ws
 
 behind-in : (q : Plan) (w : ℕ) (ps : List ℕ) → positionRight q w ≡ true → length ps ≡ depthOf w → all isPlace ps ≡ true
-    → Behind q (w ∷ ps)
+    → WordsBehind q (w ∷ ps)
 unfolding positionIn positionWords
 behind-in q w ps e l a =
     let d = depthOf w in
@@ -169,7 +169,7 @@ none-behind : {A : Type 0} (q : Plan) → shapeBehind q [] ≡ true → A
 unfolding shapeBehind
 none-behind q e = absurd-true refl (sym e)
 
-behind-of : (q : Plan) (ws : List ℕ) → shapeBehind q ws ≡ true → Behind q ws
+behind-of : (q : Plan) (ws : List ℕ) → shapeBehind q ws ≡ true → WordsBehind q ws
 unfolding shapeBehind
 behind-of q [] e = none-behind q e
 behind-of q (w ∷ ps) e =
@@ -197,7 +197,7 @@ year-of : (w : ℕ) → kind w ≡ yearKind → yearWord (low w) ≡ w
 year-of w e = omega arith
 
 -- what reads back is the state
-pub state-back : (survey : ℕ) (s : State) → s .year < lowNumbers → Fits (s .position) → stateIn (stateWords survey s) ≡ s
+pub state-back : (survey : ℕ) (s : State) → s .year < lowNumbers → WordsFit (s .position) → stateIn (stateWords survey s) ≡ s
 state-back survey s h f =
     let y = year-low (s .year) h in
     let p = position-back (s .position) f in
@@ -205,7 +205,7 @@ state-back survey s h f =
 
 -- a state in the plan, of a year that is read, has words that pass tests 9 and 22
 pub words-shape : (survey : ℕ) → survey < lowNumbers → (t : Tables) (q : Plan) (s : State) → s .year < lowNumbers
-    → isYearRead t (q .years) (s .year) ≡ true → Fits (s .position) → s .position .branch < length (q .branches)
+    → isYearRead t (q .years) (s .year) ≡ true → WordsFit (s .position) → s .position .branch < length (q .branches)
     → hasLevel (branchAt q (s .position .branch) .terms) (length (s .position .upper)) ≡ true → shapeRight t q (stateWords survey s) ≡ true
 words-shape survey h t q s g e f b l =
     let read : isYearRead t (q .years) (low (yearWord (s .year))) ≡ true = rw (year-low (s .year) g) e in

@@ -16,7 +16,7 @@ use Rattle.steps.proofs.MachineRuns.{from-add}
 use Rattle.steps.proofs.MachineStates.{ends-at}
 use Rattle.steps.proofs.GoingOn.{going-lifts, length-lifts}
 use Rattle.steps.proofs.Reached.{lastPosition, to-last, last-ends}
-use Rattle.steps.proofs.YearLists.{Reads, lastly, further}
+use Rattle.steps.proofs.YearLists.{ReadsYears, lastly, further}
 
 -- the length of a year's run, from the start of its first branch to its end
 abbrev pub YearLength : Tables → Plan → ℕ → Type 0
@@ -50,7 +50,7 @@ module _ (t : Tables) (q : Plan) (lengths : (year : ℕ) → YearLength t q year
   year-over year =
       length-lifts (positionStep (section t year) q) (step t q) (inYear year) (toNext t q year) (λ s. refl) (startOf (section t year) q 0) (lengths year)
 
-  pub steps-in-turn : (year : ℕ) (years : List ℕ) → Reads t (q .years) year years → Takes (startIn t q year) (stepsOver years)
+  pub steps-in-turn : (year : ℕ) (years : List ℕ) → ReadsYears t (q .years) year years → Takes (startIn t q year) (stepsOver years)
   unfolding stepsOver
   steps-in-turn year years (lastly y e) = (
     record { steps = lengths y .steps; done = year-over y ∙ ap (λ o. stepped [] (startNext t q o) .state) e; going = year-going y },
@@ -82,6 +82,7 @@ module _ (t : Tables) (q : Plan) (lengths : (year : ℕ) → YearLength t q year
       )
 
   -- the uncut run, over the years that it reads
-  pub year-steps : (years : List ℕ) → Reads t (q .years) (startYear t (q .years)) years → (r : RunLength (after t q)) × (r .steps ≡ stepsOver years)
+  pub year-steps : (years : List ℕ) → ReadsYears t (q .years) (startYear t (q .years)) years
+      → (r : RunLength (after t q)) × (r .steps ≡ stepsOver years)
   unfolding after
   year-steps years r = steps-in-turn (startYear t (q .years)) years r

@@ -18,7 +18,7 @@ ghost use Rattle.walks.specs.Walk.{OneYear, mostLong};
 ghost use Rattle.table_own_orders.specs.OwnOrder.{rowsFine};
 
 // What one pass over the rows finds: whether they ascend, and whether the first and the last have one year.
-pub struct Found {
+pub struct OrderFound {
     pub up: bool,
     pub alike: bool,
 }
@@ -41,7 +41,7 @@ fn keys_before(a: [u64; KEYS], b: [u64; KEYS]) -> bool
 }
 
 // Whether the rows ascend, and whether the first and the last have one year. Rows that do not pass some test of 2, 23 and 3.
-pub fn rows_found(rows: &[u32], count: u32) -> Found
+pub fn rows_found(rows: &[u32], count: u32) -> OrderFound
     requires { ⌜ count * columnCount ≡ length (now rows) ⌝ }
     requires { ⌜ 0 < count ⌝ }
     ensures { λ r. ⌜ (r .up ≡ true → ascends Spo (tablesOf (now (rows .entry)) [] []) ≡ true) ⌝ }
@@ -54,7 +54,7 @@ pub fn rows_found(rows: &[u32], count: u32) -> Found
     while place < count {
         let next = own_keys(rows, RowNumber(place));
         if !keys_before(last, next) {
-            return Found {
+            return OrderFound {
                 up: false,
                 alike: false,
             };
@@ -63,7 +63,7 @@ pub fn rows_found(rows: &[u32], count: u32) -> Found
         place += 1;
     }
     let end = first_of(key_at(last, 0));
-    Found {
+    OrderFound {
         up: true,
         alike: first == end,
     }

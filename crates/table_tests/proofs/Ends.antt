@@ -21,7 +21,7 @@ use Rattle.tables.specs.Tables.{yearColumn, subjectColumn, predicateColumn, obj
 use Rattle.tables.proofs.Columns.{fields-length}
 use Rattle.tables.proofs.Sorted as sorted
 use Rattle.walks.specs.Walk.{OneYear}
-use Rattle.table_tests.specs.Ends.{boundsFine, lastRow, endsFine}
+use Rattle.table_tests.specs.Ends.{boundsFine, rowOfLast, endsFine}
 use Rattle.table_tests.proofs.Covering.{each-covered}
 
 -- behind the same word, a list that comes before another does not begin with more
@@ -67,16 +67,16 @@ module _ (t : Tables) (one : OneYear (t .rows)) (named : (o : Order) (place : �
   before-last Pos a b h k e = behind-same _ _ _ _ _ _ (one a b h k) e
   before-last Osp a b h k e = behind-same _ _ _ _ _ _ (one a b h k) e
 
-  upto-last : (o : Order) (place : ℕ) → place < rowCount t → F o (rowAt o t place) ≤ F o (lastRow o t)
+  upto-last : (o : Order) (place : ℕ) → place < rowCount t → F o (rowAt o t place) ≤ F o (rowOfLast o t)
   upto-last o place h = go (three place (rowCount t - 1))
     where
-      go : Three place (rowCount t - 1) → F o (rowAt o t place) ≤ F o (lastRow o t)
+      go : Three place (rowCount t - 1) → F o (rowAt o t place) ≤ F o (rowOfLast o t)
       go (less k) = before-last o _ _ (named o place h) (named o (rowCount t - 1) (omega arith)) (climbs o place (rowCount t - 1) k (omega arith))
-      go (same k) = let e : F o (rowAt o t place) ≡ F o (lastRow o t) = ap (λ p. F o (rowAt o t p)) k in omega arith
+      go (same k) = let e : F o (rowAt o t place) ≡ F o (rowOfLast o t) = ap (λ p. F o (rowAt o t p)) k in omega arith
       go (more k) = absurd (omega arith)
 
-  greatest-last : (o : Order) (row : ℕ) → row < rowCount t → F o row ≤ F o (lastRow o t)
-  greatest-last o = all-rows o (λ row. F o row ≤ F o (lastRow o t)) (upto-last o)
+  greatest-last : (o : Order) (row : ℕ) → row < rowCount t → F o row ≤ F o (rowOfLast o t)
+  greatest-last o = all-rows o (λ row. F o row ≤ F o (rowOfLast o t)) (upto-last o)
 
   -- ---- the words of a row are right
   pub record WordsRight (row : ℕ) : Type 0 where
@@ -88,22 +88,22 @@ module _ (t : Tables) (one : OneYear (t .rows)) (named : (o : Order) (place : �
 
   module _ (fine : endsFine t ≡ true) where
     abbrev year : ℕ
-    year = fieldOf (t .rows) (lastRow Spo t) yearColumn
+    year = fieldOf (t .rows) (rowOfLast Spo t) yearColumn
 
     by-ends : (row : ℕ) → row < rowCount t → WordsRight row
     by-ends row h =
-        let s = ltb (F Spo (lastRow Spo t)) (number 0) in
-        let p = ltb (F Pos (lastRow Pos t)) (number 0) in
-        let o = ltb (F Osp (lastRow Osp t)) (variable 0) in
+        let s = ltb (F Spo (rowOfLast Spo t)) (number 0) in
+        let p = ltb (F Pos (rowOfLast Pos t)) (number 0) in
+        let o = ltb (F Osp (rowOfLast Osp t)) (variable 0) in
         let f₁ = and-right (leb (number 1) year) (leb year (number mostYear) && (s && (p && o))) fine in
         let f₂ = and-right (leb year (number mostYear)) (s && (p && o)) f₁ in
         let f₃ = and-right s (p && o) f₂ in
         let from : number 1 ≤ year = leb-true _ _ (and-left (leb (number 1) year) (leb year (number mostYear) && (s && (p && o))) fine) in
         let upto : year ≤ number mostYear = leb-true _ _ (and-left (leb year (number mostYear)) (s && (p && o)) f₁) in
-        let ls : F Spo (lastRow Spo t) < number 0 = ltb-true _ _ (and-left s (p && o) f₂) in
-        let lp : F Pos (lastRow Pos t) < number 0 = ltb-true _ _ (and-left p o f₃) in
-        let lo : F Osp (lastRow Osp t) < variable 0 = ltb-true _ _ (and-right p o f₃) in
-        let y : fieldOf (t .rows) row yearColumn ≡ year = one row (lastRow Spo t) h (named Spo (rowCount t - 1) (omega arith)) in
+        let ls : F Spo (rowOfLast Spo t) < number 0 = ltb-true _ _ (and-left s (p && o) f₂) in
+        let lp : F Pos (rowOfLast Pos t) < number 0 = ltb-true _ _ (and-left p o f₃) in
+        let lo : F Osp (rowOfLast Osp t) < variable 0 = ltb-true _ _ (and-right p o f₃) in
+        let y : fieldOf (t .rows) row yearColumn ≡ year = one row (rowOfLast Spo t) h (named Spo (rowCount t - 1) (omega arith)) in
         let gs = greatest-last Spo row h in
         let gp = greatest-last Pos row h in
         let go = greatest-last Osp row h in

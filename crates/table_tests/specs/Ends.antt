@@ -16,18 +16,18 @@ boundsFine year subject predicate object =
     && (leb year (number mostYear) && (ltb subject (number 0) && (ltb predicate (number 0) && ltb object (variable 0))))
 
 -- the row that an order has last
-abbrev pub lastRow : Order → Tables → ℕ
-lastRow o t = rowAt o t (rowCount t - 1)
+abbrev pub rowOfLast : Order → Tables → ℕ
+rowOfLast o t = rowAt o t (rowCount t - 1)
 
 -- each order's last place names a row
 abbrev pub LastNamed : Tables → Type 0
-LastNamed t = (o : Order) → lastRow o t < rowCount t
+LastNamed t = (o : Order) → rowOfLast o t < rowCount t
 
 -- the year and the subject that the rows have last, and the predicate and the object that POS and OSP have last, are right
 abbrev pub endsFine : Tables → Bool
 endsFine t =
-    boundsFine (fieldOf (t .rows) (lastRow Spo t) yearColumn) (fieldOf (t .rows) (lastRow Spo t) subjectColumn)
-    (fieldOf (t .rows) (lastRow Pos t) predicateColumn) (fieldOf (t .rows) (lastRow Osp t) objectColumn)
+    boundsFine (fieldOf (t .rows) (rowOfLast Spo t) yearColumn) (fieldOf (t .rows) (rowOfLast Spo t) subjectColumn)
+    (fieldOf (t .rows) (rowOfLast Pos t) predicateColumn) (fieldOf (t .rows) (rowOfLast Osp t) objectColumn)
 
 -- tables of one year, all of whose orders are right, pass by what stands last in them
 pub record Passing (alike : Bool) (orders : ℕ) (t : Tables) : Type 0 where

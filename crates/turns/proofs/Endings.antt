@@ -47,10 +47,10 @@ neither : {A B : Type 0} → ¬ A → ¬ B → A ↔ B
 neither a b = (λ x. absurd (a x), λ x. absurd (b x))
 
 -- ---- at least one, with its answer
-data Ended (i : TurnInput) : Type 0 where
-  done : turnOf i .answer .ending ≡ Done → IsDone i → Ended i
-  spent : turnOf i .answer .ending ≡ Spent → IsSpent i → Ended i
-  full : turnOf i .answer .ending ≡ Full → IsFull i → Ended i
+data EndedTurn (i : TurnInput) : Type 0 where
+  done : turnOf i .answer .ending ≡ Done → IsDone i → EndedTurn i
+  spent : turnOf i .answer .ending ≡ Spent → IsSpent i → EndedTurn i
+  full : turnOf i .answer .ending ≡ Full → IsFull i → EndedTurn i
 
 module _ (i : TurnInput) (serve : Served i) where
   -- the list of some rows, before done
@@ -59,7 +59,7 @@ module _ (i : TurnInput) (serve : Served i) where
 
   ended-as : (p : Progress) → AfterAttempts (i .survey .tables) (givenPlan i) (i .threshold) (roomFor i) (stateIn (givenState i)) (i .quantum) p
       → turnOf i .answer .steps ≡ stepsOf p → turnOf i .answer .ending ≡ endingOf p
-      → turnRun i ≡ record { state = leftOf p; delivered = rowsOf p } → Ended i
+      → turnRun i ≡ record { state = leftOf p; delivered = rowsOf p } → EndedTurn i
   ended-as (going n u bs) h s e r =
       spent e (record { exactly = s ∙ h .how; not-done = λ z. none-some (sym z ∙ ap (λ (x : Run). x .state) r) })
   ended-as (stopped Done n o bs) h s e r =
@@ -91,7 +91,7 @@ module _ (i : TurnInput) (serve : Served i) where
   ended-as (stopped Spent n o bs) h s e r = absurd (h .how)
   ended-as (stopped (Refused x) n o bs) h s e r = absurd (h .how)
 
-  ended : Ended i
+  ended : EndedTurn i
   ended = ended-as (served i) (served-attempts i) (served-steps i serve) (served-ending i serve) (served-run i serve)
 
   -- where a step was taken the run went on, and what it delivered had space
@@ -126,7 +126,7 @@ module _ (i : TurnInput) (serve : Served i) where
   pub endings : Endings i
   endings = go ended
     where
-      go : Ended i → Endings i
+      go : EndedTurn i → Endings i
       go (done e d) =
           record {
             done = (λ x. d, λ x. e);

@@ -74,7 +74,7 @@ module _ (i : TurnInput) (serve : Served i) where
       }
 
   -- its steps stand on the unpruned run from its state
-  stands : pruned.OnTheRun (i .survey .tables) (givenPlan i) (i .threshold) (stateIn (givenState i)) (turnOf i .answer .steps)
+  stands : pruned.PrunedOnTheRun (i .survey .tables) (givenPlan i) (i .threshold) (stateIn (givenState i)) (turnOf i .answer .steps)
   stands =
       let v = plan-variables (i .plan) (givenPlan i) (was-read (readPlan (i .plan)) (turn-passed i 5 serve)) (turn-passed i 6 serve) in
       pruned.on-the-run (i .survey .tables) (givenPlan i) (stateIn (givenState i)) (turnOf i .answer .steps)

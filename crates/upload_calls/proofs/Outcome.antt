@@ -13,11 +13,11 @@ use Rattle.words.proofs.Booleans.{and-left, and-right}
 use Rattle.tables.specs.declared.Order.the-variants.{Pos, Osp}
 use Rattle.tables.specs.Tables.{columnCount, mostRows}
 use Rattle.uploads.specs.declared.Made.the-variants.{Words, Refused}
-use Rattle.uploads.specs.Uploads.{uploadCount, keptCount, droppedCount, entryWords, madeTables, reportOf}
-use Rattle.uploads.specs.Making.{MadeBuffers, buffersOf, MakeInput, MakeResult, uploadRight, roomRight, madeWith, makeOf}
+use Rattle.uploads.specs.Uploads.{uploadCount, keptCount, droppedCount, entryWords, madeTables, droppedReport}
+use Rattle.uploads.specs.Making.{MadeBuffers, makeBuffers, MakeInput, MakeResult, uploadRight, makeRoomRight, madeWith, makeOf}
 use Rattle.uploads.proofs.Lengths.{all-rows, made-length, numbers-made, report-length}
 use Rattle.uploads.proofs.Writes.{room-right}
-use Rattle.upload_rooms.specs.Rooms.{roomFor}
+use Rattle.upload_rooms.specs.Rooms.{makeRoomFor}
 
 -- ---- 15
 module _ (up : List ℕ) where
@@ -39,24 +39,24 @@ module _ (i : MakeInput) where
 
   -- ---- 16, as the code tests it
   module _ (u : uploadRight (i .upload) ≡ true) (kept dropped : ℕ) (k : kept ≡ keptCount (i .upload)) (d : dropped ≡ droppedCount (i .upload)) where
-    room-is : roomFor kept dropped (length (i .buffers .rows)) (length (i .buffers .pos)) (length (i .buffers .osp)) (length (i .buffers .report))
-        ≡ roomRight (madeTables (i .upload)) (reportOf (i .upload)) (i .buffers)
-    unfolding roomFor
+    room-is : makeRoomFor kept dropped (length (i .buffers .rows)) (length (i .buffers .pos)) (length (i .buffers .osp)) (length (i .buffers .report))
+        ≡ makeRoomRight (madeTables (i .upload)) (droppedReport (i .upload)) (i .buffers)
+    unfolding makeRoomFor
     room-is = rw (k, d) (sym (room-right i))
 
-    pub no-room : roomFor kept dropped (length (i .buffers .rows)) (length (i .buffers .pos)) (length (i .buffers .osp)) (length (i .buffers .report))
+    pub no-room : makeRoomFor kept dropped (length (i .buffers .rows)) (length (i .buffers .pos)) (length (i .buffers .osp)) (length (i .buffers .report))
         ≡ false → record { answer = Refused 16; buffers = i .buffers } ≡ makeOf i
     unfolding makeOf firstFailing
     no-room e = rw (u, sym room-is ∙ e)
 
-    pub served : roomFor kept dropped (length (i .buffers .rows)) (length (i .buffers .pos)) (length (i .buffers .osp)) (length (i .buffers .report))
-        ≡ true → madeWith (madeTables (i .upload)) (reportOf (i .upload)) (i .buffers) ≡ makeOf i
+    pub served : makeRoomFor kept dropped (length (i .buffers .rows)) (length (i .buffers .pos)) (length (i .buffers .osp)) (length (i .buffers .report))
+        ≡ true → madeWith (madeTables (i .upload)) (droppedReport (i .upload)) (i .buffers) ≡ makeOf i
     unfolding makeOf firstFailing
     served e = rw (u, sym room-is ∙ e)
 
 -- ---- a result with the words of what is made
 abbrev results : ℕ → ℕ → ℕ → ℕ → List ℕ → List ℕ → List ℕ → List ℕ → MakeResult
-results a b c d rows pos osp report = record { answer = Words a b c d; buffers = buffersOf rows pos osp report }
+results a b c d rows pos osp report = record { answer = Words a b c d; buffers = makeBuffers rows pos osp report }
 
 equal-results : {a a' b b' c c' d d' : ℕ} {r r' p p' o o' q q' : List ℕ} → a ≡ a' → b ≡ b' → c ≡ c' → d ≡ d' → r ≡ r'
     → p ≡ p' → o ≡ o' → q ≡ q'
@@ -64,9 +64,10 @@ equal-results : {a a' b b' c c' d d' : ℕ} {r r' p p' o o' q q' : List ℕ} →
 equal-results e f g h i j k l = rw (e, f, g, h, i, j, k, l)
 
 pub same-result : (i : MakeInput) (a b d : ℕ) (rows pos osp report : List ℕ)
-    → a ≡ keptCount (i .upload) * columnCount → b ≡ keptCount (i .upload) → d ≡ length (reportOf (i .upload))
+    → a ≡ keptCount (i .upload) * columnCount → b ≡ keptCount (i .upload) → d ≡ length (droppedReport (i .upload))
     → rows ≡ over (madeTables (i .upload) .rows) (i .buffers .rows) → pos ≡ over (madeTables (i .upload) .pos) (i .buffers .pos)
-    → osp ≡ over (madeTables (i .upload) .osp) (i .buffers .osp) → report ≡ over (reportOf (i .upload)) (i .buffers .report)
-    → record { answer = Words a b b d; buffers = buffersOf rows pos osp report } ≡ madeWith (madeTables (i .upload)) (reportOf (i .upload)) (i .buffers)
+    → osp ≡ over (madeTables (i .upload) .osp) (i .buffers .osp) → report ≡ over (droppedReport (i .upload)) (i .buffers .report)
+    → record { answer = Words a b b d; buffers = makeBuffers rows pos osp report } ≡ madeWith (madeTables (i .upload))
+    (droppedReport (i .upload)) (i .buffers)
 same-result i a b d rows pos osp report e f g h j k l =
     equal-results (e ∙ sym (made-length (i .upload))) (f ∙ sym (numbers-made (i .upload) Pos)) (f ∙ sym (numbers-made (i .upload) Osp)) g h j k l

@@ -6,7 +6,7 @@ use tables::MOST_ROWS;
 use uploads::Made;
 use within::make_within;
 ghost use mathlib.Core.Path.{_≡_};
-ghost use Rattle.uploads.specs.Making.{makeInput, buffersOf, makeOf};
+ghost use Rattle.uploads.specs.Making.{makeInput, makeBuffers, makeOf};
 ghost use Rattle.uploads.specs.Refusals.{MakeAnswers};
 
 // The tests of making tables, by their numbers.
@@ -26,7 +26,7 @@ pub fn make(
     osp: &mut [u32],
     report: &mut [u32],
 ) -> Made
-    ensures { λ r. ⌜ record { answer = r; buffers = buffersOf (now (rows .exit)) (now (pos .exit)) (now (osp .exit)) (now (report .exit)) }
+    ensures { λ r. ⌜ record { answer = r; buffers = makeBuffers (now (rows .exit)) (now (pos .exit)) (now (osp .exit)) (now (report .exit)) }
         ≡ makeOf (makeInput (now (upload .entry)) (now (rows .entry)) (now (pos .entry)) (now (osp .entry)) (now (report .entry))) ⌝ }
     ensures number { λ r. ⌜ MakeAnswers (makeInput (now (upload .entry)) (now (rows .entry)) (now (pos .entry)) (now (osp .entry))
         (now (report .entry))) r ⌝ }

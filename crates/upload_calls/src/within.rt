@@ -12,7 +12,7 @@ ghost use mathlib.Core.Bool.{true};
 ghost use Prim.Native.Nat.{_+_, _≤_};
 ghost use lib.ListN.{length};
 ghost use Rattle.tables.specs.Tables.{mostRows};
-ghost use Rattle.uploads.specs.Making.{makeInput, buffersOf, uploadRight, makeOf};
+ghost use Rattle.uploads.specs.Making.{makeInput, makeBuffers, uploadRight, makeOf};
 
 // Makes the tables of an upload of whole rows that are not too many.
 pub fn make_within(
@@ -27,7 +27,7 @@ pub fn make_within(
 ) -> Made
     requires { ⌜ uploadRight (now upload) ≡ true ⌝ }
     requires { ⌜ (length (now list) ≡ mostRows) × (length (now fates) ≡ mostRows) × (mostRows ≤ length (now spare) + length (now spare)) ⌝ }
-    ensures { λ r. ⌜ record { answer = r; buffers = buffersOf (now (rows .exit)) (now (pos .exit)) (now (osp .exit)) (now (report .exit)) }
+    ensures { λ r. ⌜ record { answer = r; buffers = makeBuffers (now (rows .exit)) (now (pos .exit)) (now (osp .exit)) (now (report .exit)) }
         ≡ makeOf (makeInput (now (upload .entry)) (now (rows .entry)) (now (pos .entry)) (now (osp .entry)) (now (report .entry))) ⌝ }
 {
     let count = upload.len() / COLUMNS;

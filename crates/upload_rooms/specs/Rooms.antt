@@ -6,6 +6,6 @@ use Rattle.tables.specs.Tables.{columnCount}
 use Rattle.uploads.specs.Uploads.{entryWords}
 
 -- test 16, in counts of rows and lengths of buffers
-unfoldable pub roomFor : ℕ → ℕ → ℕ → ℕ → ℕ → ℕ → Bool
-roomFor kept dropped rows pos osp report =
+unfoldable pub makeRoomFor : ℕ → ℕ → ℕ → ℕ → ℕ → ℕ → Bool
+makeRoomFor kept dropped rows pos osp report =
     leb (kept * columnCount) rows && (leb kept pos && (leb kept osp && leb (dropped * entryWords) report))

@@ -4,7 +4,7 @@ use uploads::ENTRY_WORDS;
 ghost use mathlib.Core.Path.{_≡_};
 ghost use Prim.Native.Nat.{_≤_};
 ghost use Rattle.tables.specs.Tables.{mostRows};
-ghost use Rattle.upload_rooms.specs.Rooms.{roomFor};
+ghost use Rattle.upload_rooms.specs.Rooms.{makeRoomFor};
 
 // Whether buffers of these lengths have room for the kept rows, for both lists and for the report.
 pub fn has_room(
@@ -16,7 +16,7 @@ pub fn has_room(
     report: usize,
 ) -> bool
     requires { ⌜ (kept ≤ mostRows) × (dropped ≤ mostRows) ⌝ }
-    ensures { λ r. ⌜ r ≡ roomFor kept dropped rows pos osp report ⌝ }
+    ensures { λ r. ⌜ r ≡ makeRoomFor kept dropped rows pos osp report ⌝ }
 {
     if rows < kept * COLUMNS {
         return false;

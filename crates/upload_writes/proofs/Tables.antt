@@ -18,7 +18,7 @@ use Rattle.tables.specs.declared.Order.the-variants.{Spo}
 use Rattle.tables.specs.Tables.{fieldsOf}
 use Rattle.tables.specs.RowLists.{numberBefore}
 use Rattle.tables.proofs.RowNumbers.{number-ordered}
-use Rattle.uploads.specs.Uploads.{uploadCount, keptCode, kindsGood, fateOf, isKept, isDropped, keptNumbers, keptCount, entryOf, madeRows, reportOf}
+use Rattle.uploads.specs.Uploads.{uploadCount, keptCode, kindsGood, fateOf, isKept, isDropped, keptNumbers, keptCount, entryOf, madeRows, droppedReport}
 use Rattle.uploads.proofs.Fates.{kept-good}
 use Rattle.upload_fates.specs.Judging.{goodNumbers, rightNumbers, Judged}
 use Rattle.upload_fates.proofs.RightNumbers.{right-below}
@@ -53,8 +53,8 @@ module _ (up : List ℕ) where
     kept-counted =
         ap length (keep-agree (isKeptIn fates) (isKept up) (numbers (uploadCount up)) (each-weaken same-kept (numbers (uploadCount up)) below))
 
-    pub report-words : droppedWords fates (uploadCount up) ≡ reportOf up
-    unfolding writtenFor reportOf
+    pub report-words : droppedWords fates (uploadCount up) ≡ droppedReport up
+    unfolding writtenFor droppedReport
     report-words =
         let ns = numbers (uploadCount up) in
         ap (λ l. flatten (map (λ row. row ∷ getD fates row 0 ∷ []) l))

@@ -11,10 +11,11 @@ use Rattle.words.proofs.Numbers.{kept-stands}
 use Rattle.words.proofs.Somewhere.{each-at}
 use Rattle.tables.specs.declared.Order.the-variants.{Spo}
 use Rattle.tables.specs.Tables.{mostRows, rowCount, fieldsOf}
+use Rattle.tables.specs.RowLists.{RowIn}
 use Rattle.tables.specs.RowLists.{numberBefore}
 use Rattle.tables.proofs.MadeTables.{one-number}
 use Rattle.uploads.specs.Uploads.{uploadCount, kindsGood, isKept, madeRows, madeTables}
-use Rattle.uploads.specs.Exactness.{KeptRow, RowIn, Exactly}
+use Rattle.uploads.specs.Exactness.{KeptRow, ExactlyKept}
 use Rattle.uploads.proofs.Fates.{first-kept}
 use Rattle.uploads.proofs.Kept.{sorted, sorted-kept, sorted-below, sorted-length, kept-right, made-fields}
 use Rattle.uploads.proofs.Lengths.{made-count}
@@ -42,5 +43,5 @@ module _ (up : List ℕ) where
         is = made-fields up (p .place) (omega (arith, sorted-length up)) ∙ ap (fieldsOf Spo up) (p .is) ∙ f .is;
       }
 
-  pub made-exactly : uploadCount up ≤ mostRows → Exactly up (madeTables up)
+  pub made-exactly : uploadCount up ≤ mostRows → ExactlyKept up (madeTables up)
   made-exactly few = record { from = made-from; holds = made-holds; once = one-number (madeRows up) (kept-right up few) Spo }

@@ -8,10 +8,10 @@ use Rattle.words.specs.Tests.{firstFailing}
 use Rattle.words.proofs.Buffers.{take-over}
 use Rattle.tables.specs.Tables.{Tables, tablesOf, mostRows, tableTests}
 use Rattle.tables.proofs.MadeTables.{made-accepted}
-use Rattle.uploads.specs.Uploads.{uploadCount, madeRows, madeTables, reportOf}
+use Rattle.uploads.specs.Uploads.{uploadCount, madeRows, madeTables, droppedReport}
 use Rattle.uploads.specs.Making.{MakeInput, MadeBuffers, MakeResult, madeWith, makeOf}
 use Rattle.uploads.specs.Refusals.{Makes}
-use Rattle.uploads.specs.Exactness.{tablesIn, reportIn, Exactly, Reported, MadeRight}
+use Rattle.uploads.specs.Exactness.{tablesMade, reportIn, ExactlyKept, Reported, MadeRight}
 use Rattle.uploads.proofs.Kept.{kept-right}
 use Rattle.uploads.proofs.Exact.{made-exactly}
 use Rattle.uploads.proofs.Reported.{report-exactly}
@@ -23,15 +23,15 @@ pub made-passes : (up : List ℕ) → uploadCount up ≤ mostRows → firstFaili
 made-passes up few = made-accepted (madeRows up) (kept-right up few)
 
 -- what is read back from the buffers
-read-tables : (t : Tables) (report : List ℕ) (b : MadeBuffers) → tablesIn (madeWith t report b) ≡ t
+read-tables : (t : Tables) (report : List ℕ) (b : MadeBuffers) → tablesMade (madeWith t report b) ≡ t
 read-tables t report b = rw (take-over (t .rows) (b .rows), take-over (t .pos) (b .pos), take-over (t .osp) (b .osp))
 
 module _ (i : MakeInput) (m : Makes i) where
-  pub tables-left : tablesIn (makeOf i) ≡ madeTables (i .upload)
-  tables-left = ap tablesIn (made-so i m) ∙ read-tables (madeTables (i .upload)) (reportOf (i .upload)) (i .buffers)
+  pub tables-left : tablesMade (makeOf i) ≡ madeTables (i .upload)
+  tables-left = ap tablesMade (made-so i m) ∙ read-tables (madeTables (i .upload)) (droppedReport (i .upload)) (i .buffers)
 
-  pub report-left : reportIn (makeOf i) ≡ reportOf (i .upload)
-  report-left = ap reportIn (made-so i m) ∙ take-over (reportOf (i .upload)) (i .buffers .report)
+  pub report-left : reportIn (makeOf i) ≡ droppedReport (i .upload)
+  report-left = ap reportIn (made-so i m) ∙ take-over (droppedReport (i .upload)) (i .buffers .report)
 
   few : uploadCount (i .upload) ≤ mostRows
   few = make-suffices i .0 m .few
@@ -40,6 +40,6 @@ module _ (i : MakeInput) (m : Makes i) where
   make-right =
       record {
         accepted = ap (λ t. firstFailing (tableTests t)) tables-left ∙ made-passes (i .upload) few;
-        exact = subst⁻¹ (Exactly (i .upload)) tables-left (made-exactly (i .upload) few);
+        exact = subst⁻¹ (ExactlyKept (i .upload)) tables-left (made-exactly (i .upload) few);
         told = subst⁻¹ (Reported (i .upload)) report-left (report-exactly (i .upload));
       }

@@ -15,7 +15,8 @@ use Rattle.tables.specs.declared.Order.the-variants.{Spo}
 use Rattle.tables.specs.Tables.{columnCount, fieldsOf}
 use Rattle.tables.specs.RowLists.{numberBefore, rowNumbers}
 use Rattle.tables.proofs.RowNumbers.{list-length}
-use Rattle.uploads.specs.Uploads.{uploadCount, isKept, keptNumbers, keptCount, droppedNumbers, droppedCount, entryWords, entryOf, madeRows, reportOf}
+use Rattle.uploads.specs.Uploads.{uploadCount, isKept, keptNumbers, keptCount, droppedNumbers, droppedCount}
+use Rattle.uploads.specs.Uploads.{entryWords, entryOf, madeRows, droppedReport}
 use Rattle.uploads.proofs.Kept.{made-wide, sorted-length}
 
 module _ (up : List ℕ) where
@@ -35,8 +36,8 @@ module _ (up : List ℕ) where
   pub report-wide : Wide entryWords (map (entryOf up) (droppedNumbers up))
   report-wide = each-map (λ (x : List ℕ). length x ≡ entryWords) (entryOf up) (λ row. refl) (droppedNumbers up)
 
-  pub report-length : length (reportOf up) ≡ droppedCount up * entryWords
-  unfolding reportOf
+  pub report-length : length (droppedReport up) ≡ droppedCount up * entryWords
+  unfolding droppedReport
   report-length =
       length-flatten entryWords (map (entryOf up) (droppedNumbers up)) report-wide
       ∙ ap (λ n. n * entryWords) (length-map (droppedNumbers up) (entryOf up))

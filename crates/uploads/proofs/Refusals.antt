@@ -11,9 +11,9 @@ use Rattle.words.proofs.Testing.{fails-first, all-passes}
 use Rattle.words.proofs.Refusing.{refused-by, served-when}
 use Rattle.uploads.specs.declared.Made.{Made}
 use Rattle.uploads.specs.declared.Made.the-variants.{Words, Refused}
-use Rattle.uploads.specs.Uploads.{madeTables, reportOf}
+use Rattle.uploads.specs.Uploads.{madeTables, droppedReport}
 use Rattle.uploads.specs.Making.{MadeBuffers, MakeInput, makeTests, MakeResult, madeWith, madeAs, makeOf, madeRefusal, madeWords}
-use Rattle.uploads.specs.Refusals.{wordsOf, wordsBy, MakeAnswers, Makes, MakeRefusals}
+use Rattle.uploads.specs.Refusals.{makeWordsOf, makeWordsBy, MakeAnswers, Makes, MakeRefusals}
 
 module _ (i : MakeInput) where
   not-made : (x : ℕ) → FirstFails x (makeTests i) → makeOf i ≡ record { answer = Refused x; buffers = i .buffers }
@@ -36,7 +36,7 @@ module _ (i : MakeInput) where
   number-by none = refl
   number-by (some x) = refl
 
-  words-by : (o : Option ℕ) → madeWords (madeAs i o .answer) ≡ wordsBy o (wordsOf (madeTables (i .upload)) (reportOf (i .upload)))
+  words-by : (o : Option ℕ) → madeWords (madeAs i o .answer) ≡ makeWordsBy o (makeWordsOf (madeTables (i .upload)) (droppedReport (i .upload)))
   words-by none = refl
   words-by (some x) = refl
 
@@ -45,7 +45,7 @@ module _ (i : MakeInput) where
   make-answers = record { number = number-by (firstFailing (makeTests i)); words = words-by (firstFailing (makeTests i)) }
 
   -- a call that is served writes the tables and the report over the first words of the buffers
-  pub made-so : Makes i → makeOf i ≡ madeWith (madeTables (i .upload)) (reportOf (i .upload)) (i .buffers)
+  pub made-so : Makes i → makeOf i ≡ madeWith (madeTables (i .upload)) (droppedReport (i .upload)) (i .buffers)
   unfolding makeOf
   made-so h = ap (madeAs i) (all-passes (makeTests i) (make-serves .0 h))
 

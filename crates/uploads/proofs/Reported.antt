@@ -15,7 +15,7 @@ use Rattle.words.proofs.Numbers.{numbers-below, numbers-rise, keep-stands}
 use Rattle.words.proofs.Somewhere.{each-at, map-at}
 use Rattle.words.proofs.SortedStrictly.{ascending-keep, ascending-pairs}
 use Rattle.uploads.specs.Uploads.{uploadCount, keptCode, wrongCode, repeatCode, kindsGood, fateOf, isKept, isDropped, droppedNumbers, droppedCount}
-use Rattle.uploads.specs.Uploads.{entryWords, entryOf, reportOf}
+use Rattle.uploads.specs.Uploads.{entryWords, entryOf, droppedReport}
 use Rattle.uploads.specs.Exactness.{entryCount, entryPlaceAt, codeAt, Names, Earlier, Reported}
 use Rattle.uploads.proofs.Fates.{wrong-fate, fate-wrong, repeat-fate, fate-repeat, dropped-code, earlier, earlier-repeats}
 use Rattle.uploads.proofs.Lengths.{report-wide, report-length}
@@ -24,12 +24,12 @@ module _ (up : List ℕ) where
   abbrev rows : List ℕ
   rows = droppedNumbers up
 
-  entries : entryCount (reportOf up) ≡ droppedCount up
+  entries : entryCount (droppedReport up) ≡ droppedCount up
   entries = let e = report-length up in omega arith
 
   -- the words of an entry
-  entry-at : (e c : ℕ) → e < droppedCount up → c < entryWords → getD (reportOf up) (e * entryWords + c) 0 ≡ getD (entryOf up (getD rows e 0)) c 0
-  unfolding reportOf
+  entry-at : (e c : ℕ) → e < droppedCount up → c < entryWords → getD (droppedReport up) (e * entryWords + c) 0 ≡ getD (entryOf up (getD rows e 0)) c 0
+  unfolding droppedReport
   entry-at e c h k =
       flatten-at entryWords (map (entryOf up) rows) (report-wide up) e c (omega (arith, length-entries)) k
       ∙ ap (λ x. getD x c 0) (map-at (entryOf up) rows 0 [] e h)
@@ -37,22 +37,22 @@ module _ (up : List ℕ) where
       length-entries : length (map (entryOf up) rows) ≡ droppedCount up
       length-entries = length-map rows (entryOf up)
 
-  place-is : (e : ℕ) → e < droppedCount up → entryPlaceAt (reportOf up) e ≡ getD rows e 0
+  place-is : (e : ℕ) → e < droppedCount up → entryPlaceAt (droppedReport up) e ≡ getD rows e 0
   place-is e h =
       let z : e * entryWords ≡ e * entryWords + 0 = omega arith in
-      ap (λ n. getD (reportOf up) n 0) z ∙ entry-at e 0 h (omega arith)
+      ap (λ n. getD (droppedReport up) n 0) z ∙ entry-at e 0 h (omega arith)
 
-  code-is : (e : ℕ) → e < droppedCount up → codeAt (reportOf up) e ≡ fateOf up (getD rows e 0)
+  code-is : (e : ℕ) → e < droppedCount up → codeAt (droppedReport up) e ≡ fateOf up (getD rows e 0)
   code-is e h = entry-at e 1 h (omega arith)
 
   -- a named row has the fate that is its code, and a dropped row is named with its fate
-  named-fate : (row code : ℕ) → Names (reportOf up) row code → fateOf up row ≡ code
+  named-fate : (row code : ℕ) → Names (droppedReport up) row code → fateOf up row ≡ code
   named-fate row code n =
       let l = n .there in
       let h : n .entry < droppedCount up = omega (arith, entries) in
       ap (fateOf up) (sym (n .place) ∙ place-is (n .entry) h) ∙ sym (code-is (n .entry) h) ∙ n .is
 
-  fate-named : (row code : ℕ) → row < uploadCount up → isDropped up row ≡ true → fateOf up row ≡ code → Names (reportOf up) row code
+  fate-named : (row code : ℕ) → row < uploadCount up → isDropped up row ≡ true → fateOf up row ≡ code → Names (droppedReport up) row code
   fate-named row code h d e =
       let p = keep-stands (isDropped up) (uploadCount up) row h d in
       let l = p .inside in
@@ -66,7 +66,7 @@ module _ (up : List ℕ) where
   coded : (row code : ℕ) → fateOf up row ≡ suc code → isDropped up row ≡ true
   coded row code e = ap not (ne-eqb (fateOf up row) keptCode (λ z. omega arith))
 
-  pub report-exactly : Reported up (reportOf up)
+  pub report-exactly : Reported up (droppedReport up)
   report-exactly =
       record {
         whole = let e = report-length up in omega arith;

@@ -15,9 +15,9 @@ use Rattle.words.proofs.Buffers.{overwritten}
 use Rattle.words.proofs.Testing.{testNumbered, test-passed}
 use Rattle.tables.specs.declared.Order.the-variants.{Pos, Osp}
 use Rattle.tables.specs.Tables.{columnCount, mostRows}
-use Rattle.uploads.specs.Uploads.{uploadCount, keptCount, droppedCount, entryWords, madeRows, madeTables, reportOf}
-use Rattle.uploads.specs.Making.{MadeBuffers, MakeInput, MakeResult, uploadRight, roomRight, makeTests, madeWith, makeOf, MadeWords, madeWords}
-use Rattle.uploads.specs.Refusals.{Makes, Suffices, MakeWrites}
+use Rattle.uploads.specs.Uploads.{uploadCount, keptCount, droppedCount, entryWords, madeRows, madeTables, droppedReport}
+use Rattle.uploads.specs.Making.{MadeBuffers, MakeInput, MakeResult, uploadRight, makeRoomRight, makeTests, madeWith, makeOf, MadeWords, madeWords}
+use Rattle.uploads.specs.Refusals.{Makes, MakeSuffices, MakeWrites}
 use Rattle.uploads.proofs.Lengths.{made-length, numbers-made, report-length}
 use Rattle.uploads.proofs.Refusals.{make-serves, made-so}
 
@@ -40,14 +40,14 @@ module _ (i : MakeInput) where
   abbrev up : List ℕ
   up = i .upload
 
-  pub room-right : roomRight (madeTables up) (reportOf up) (i .buffers)
+  pub room-right : makeRoomRight (madeTables up) (droppedReport up) (i .buffers)
       ≡ (leb (keptCount up * columnCount) (length (i .buffers .rows))
       && (leb (keptCount up) (length (i .buffers .pos))
       && (leb (keptCount up) (length (i .buffers .osp)) && leb (droppedCount up * entryWords) (length (i .buffers .report)))))
-  unfolding roomRight
+  unfolding makeRoomRight
   room-right = rw (made-length up, numbers-made up Pos, numbers-made up Osp, report-length up)
 
-  suffices : Makes i → Suffices i
+  suffices : Makes i → MakeSuffices i
   suffices m =
       let p = make-serves i .0 m in
       let e = test-passed 15 (makeTests i) p in
@@ -63,7 +63,7 @@ module _ (i : MakeInput) where
         report = leb-true _ _ (and-right (leb (keptCount up) (length (i .buffers .osp))) _ d);
       }
 
-  room-enough : Suffices i → roomRight (madeTables up) (reportOf up) (i .buffers) ≡ true
+  room-enough : MakeSuffices i → makeRoomRight (madeTables up) (droppedReport up) (i .buffers) ≡ true
   room-enough s =
       room-right
       ∙ rw (
@@ -74,7 +74,7 @@ module _ (i : MakeInput) where
       )
 
   -- served exactly for whole rows that are not too many and for buffers that are no shorter than what is written
-  pub make-suffices : Makes i ↔ Suffices i
+  pub make-suffices : Makes i ↔ MakeSuffices i
   make-suffices = (suffices, λ s. make-serves i .1 (upload-right up (s .whole) (s .few), (room-enough s, tt)))
 
   -- some words over a buffer, counted otherwise
@@ -91,7 +91,7 @@ module _ (i : MakeInput) where
             (counted _ _ _ (numbers-made up Pos));
         osp = subst⁻¹ (λ (r : MakeResult). Overwritten (madeTables up .osp) (i .buffers .osp) (r .buffers .osp) (keptCount up)) e
             (counted _ _ _ (numbers-made up Osp));
-        report = subst⁻¹ (λ (r : MakeResult). Overwritten (reportOf up) (i .buffers .report) (r .buffers .report) (droppedCount up * entryWords)) e
+        report = subst⁻¹ (λ (r : MakeResult). Overwritten (droppedReport up) (i .buffers .report) (r .buffers .report) (droppedCount up * entryWords)) e
             (counted _ _ _ (report-length up));
         words = ap (λ (r : MakeResult). madeWords (r .answer)) e ∙ rw (made-length up, numbers-made up Pos, numbers-made up Osp, report-length up);
       }

@@ -9,12 +9,13 @@ use lib.ListN.{length, take, getD}
 use Rattle.words.specs.Tests.{firstFailing}
 use Rattle.tables.specs.declared.Order.the-variants.{Spo}
 use Rattle.tables.specs.Tables.{Tables, tablesOf, rowCount, fieldsOf, tableTests}
+use Rattle.tables.specs.RowLists.{RowIn}
 use Rattle.uploads.specs.Uploads.{uploadCount, wrongCode, repeatCode, kindsGood, isKept, entryWords}
 use Rattle.uploads.specs.Making.{MakeInput, MakeResult, makeOf, madeWords}
 
 -- ---- what a call leaves: the first words of its buffers, as many as it answers
-abbrev pub tablesIn : MakeResult → Tables
-tablesIn r =
+abbrev pub tablesMade : MakeResult → Tables
+tablesMade r =
     let n = madeWords (r .answer) in
     tablesOf (take (n .rows) (r .buffers .rows)) (take (n .pos) (r .buffers .pos)) (take (n .osp) (r .buffers .osp))
 
@@ -29,13 +30,7 @@ pub record KeptRow (up fields : List ℕ) : Type 0 where
   pub passes : isKept up row ≡ true
   pub is : fieldsOf Spo up row ≡ fields
 
--- a row of some tables has these fields
-pub record RowIn (t : Tables) (fields : List ℕ) : Type 0 where
-  pub row : ℕ
-  pub there : row < rowCount t
-  pub is : fieldsOf Spo (t .rows) row ≡ fields
-
-pub record Exactly (up : List ℕ) (t : Tables) : Type 0 where
+pub record ExactlyKept (up : List ℕ) (t : Tables) : Type 0 where
   -- each row is that of a kept row of the upload
   pub from : (row : ℕ) → row < rowCount t → KeptRow up (fieldsOf Spo (t .rows) row)
   -- each row of right kinds, kept or a repeat, stands there
@@ -81,6 +76,6 @@ pub record Reported (up report : List ℕ) : Type 0 where
 -- ---- what a served call leaves
 pub record MadeRight (i : MakeInput) : Type 0 where
   -- the tests accept the tables
-  pub accepted : firstFailing (tableTests (tablesIn (makeOf i))) ≡ none
-  pub exact : Exactly (i .upload) (tablesIn (makeOf i))
+  pub accepted : firstFailing (tableTests (tablesMade (makeOf i))) ≡ none
+  pub exact : ExactlyKept (i .upload) (tablesMade (makeOf i))
   pub told : Reported (i .upload) (reportIn (makeOf i))

@@ -10,7 +10,7 @@ use Rattle.words.specs.Tests.{Test, firstFailing}
 use Rattle.tables.specs.Tables.{Tables, columnCount, mostRows}
 use Rattle.uploads.specs.declared.Made.{Made}
 use Rattle.uploads.specs.declared.Made.the-variants.{Words, Refused}
-use Rattle.uploads.specs.Uploads.{uploadCount, madeTables, reportOf}
+use Rattle.uploads.specs.Uploads.{uploadCount, madeTables, droppedReport}
 
 -- the buffers that a call writes to
 pub record MadeBuffers : Type 0 where
@@ -19,8 +19,8 @@ pub record MadeBuffers : Type 0 where
   pub osp : List ℕ
   pub report : List ℕ
 
-abbrev pub buffersOf : List ℕ → List ℕ → List ℕ → List ℕ → MadeBuffers
-buffersOf rows pos osp report = record { rows = rows; pos = pos; osp = osp; report = report }
+abbrev pub makeBuffers : List ℕ → List ℕ → List ℕ → List ℕ → MadeBuffers
+makeBuffers rows pos osp report = record { rows = rows; pos = pos; osp = osp; report = report }
 
 -- what a call lends
 pub record MakeInput : Type 0 where
@@ -28,7 +28,7 @@ pub record MakeInput : Type 0 where
   pub buffers : MadeBuffers
 
 abbrev pub makeInput : List ℕ → List ℕ → List ℕ → List ℕ → List ℕ → MakeInput
-makeInput upload rows pos osp report = record { upload = upload; buffers = buffersOf rows pos osp report }
+makeInput upload rows pos osp report = record { upload = upload; buffers = makeBuffers rows pos osp report }
 
 -- ---- the tests
 -- 15: whole rows, and not too many
@@ -36,15 +36,15 @@ unfoldable pub uploadRight : List ℕ → Bool
 uploadRight up = eqb (length up % columnCount) 0 && leb (uploadCount up) mostRows
 
 -- 16: each buffer has room for what is written to it
-unfoldable pub roomRight : Tables → List ℕ → MadeBuffers → Bool
-roomRight t report b =
+unfoldable pub makeRoomRight : Tables → List ℕ → MadeBuffers → Bool
+makeRoomRight t report b =
     leb (length (t .rows)) (length (b .rows))
     && (leb (length (t .pos)) (length (b .pos)) && (leb (length (t .osp)) (length (b .osp)) && leb (length report) (length (b .report))))
 
 abbrev pub makeTests : MakeInput → List Test
 makeTests i =
     (15, uploadRight (i .upload))
-    ∷ (16, roomRight (madeTables (i .upload)) (reportOf (i .upload)) (i .buffers))
+    ∷ (16, makeRoomRight (madeTables (i .upload)) (droppedReport (i .upload)) (i .buffers))
     ∷ []
 
 -- ---- what a call answers, and what it leaves
@@ -56,13 +56,13 @@ abbrev pub madeWith : Tables → List ℕ → MadeBuffers → MakeResult
 madeWith t report b =
     record {
       answer = Words (length (t .rows)) (length (t .pos)) (length (t .osp)) (length report);
-      buffers = buffersOf (over (t .rows) (b .rows)) (over (t .pos) (b .pos)) (over (t .osp) (b .osp)) (over report (b .report));
+      buffers = makeBuffers (over (t .rows) (b .rows)) (over (t .pos) (b .pos)) (over (t .osp) (b .osp)) (over report (b .report));
     }
 
 -- a refusal changes nothing
 abbrev pub madeAs : MakeInput → Option ℕ → MakeResult
 madeAs i (some n) = record { answer = Refused n; buffers = i .buffers }
-madeAs i none = madeWith (madeTables (i .upload)) (reportOf (i .upload)) (i .buffers)
+madeAs i none = madeWith (madeTables (i .upload)) (droppedReport (i .upload)) (i .buffers)
 
 unfoldable pub makeOf : MakeInput → MakeResult
 makeOf i = madeAs i (firstFailing (makeTests i))
@@ -80,9 +80,9 @@ pub record MadeWords : Type 0 where
   pub osp : ℕ
   pub report : ℕ
 
-abbrev pub noWords : MadeWords
-noWords = record { rows = 0; pos = 0; osp = 0; report = 0 }
+abbrev pub noMadeWords : MadeWords
+noMadeWords = record { rows = 0; pos = 0; osp = 0; report = 0 }
 
 abbrev pub madeWords : Made → MadeWords
 madeWords (Words rows pos osp report) = record { rows = rows; pos = pos; osp = osp; report = report }
-madeWords (Refused x) = noWords
+madeWords (Refused x) = noMadeWords

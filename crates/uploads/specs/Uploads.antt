@@ -73,5 +73,5 @@ entryWords = 2
 abbrev pub entryOf : List ℕ → ℕ → List ℕ
 entryOf up row = row ∷ fateOf up row ∷ []
 
-unfoldable pub reportOf : List ℕ → List ℕ
-reportOf up = flatten (map (entryOf up) (droppedNumbers up))
+unfoldable pub droppedReport : List ℕ → List ℕ
+droppedReport up = flatten (map (entryOf up) (droppedNumbers up))

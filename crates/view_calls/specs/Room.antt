@@ -5,5 +5,5 @@ use lib.Dec.{leb}
 use Rattle.tables.specs.Tables.{columnCount}
 
 -- buffers of these lengths have room for so many rows and both lists of them
-unfoldable pub roomFor : ℕ → ℕ → ℕ → ℕ → Bool
-roomFor seen rows pos osp = leb (seen * columnCount) rows && (leb seen pos && leb seen osp)
+unfoldable pub viewRoomFor : ℕ → ℕ → ℕ → ℕ → Bool
+viewRoomFor seen rows pos osp = leb (seen * columnCount) rows && (leb seen pos && leb seen osp)

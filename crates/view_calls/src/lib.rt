@@ -7,7 +7,7 @@ use view_grants::grant_right;
 use views::Viewed;
 use within::view_within;
 ghost use mathlib.Core.Path.{_≡_};
-ghost use Rattle.views.specs.Viewing.{viewInput, buffersOf, viewCallOf};
+ghost use Rattle.views.specs.Viewing.{viewInput, viewBuffers, viewCallOf};
 ghost use Rattle.views.specs.Refusals.{ViewAnswers};
 
 // The tests of the view call after those of the tables, by their numbers.
@@ -27,7 +27,7 @@ pub fn view(
     view_pos: &mut [u32],
     view_osp: &mut [u32],
 ) -> Viewed
-    ensures { λ r. ⌜ record { answer = r; buffers = buffersOf (now («view_rows» .exit)) (now («view_pos» .exit)) (now («view_osp» .exit)) }
+    ensures { λ r. ⌜ record { answer = r; buffers = viewBuffers (now («view_rows» .exit)) (now («view_pos» .exit)) (now («view_osp» .exit)) }
         ≡ viewCallOf (viewInput (now (rows .entry)) (now (pos .entry)) (now (osp .entry)) (now (grant .entry)) membership
         (now («view_rows» .entry)) (now («view_pos» .entry)) (now («view_osp» .entry))) ⌝ }
     ensures number { λ r. ⌜ ViewAnswers (viewInput (now (rows .entry)) (now (pos .entry)) (now (osp .entry)) (now (grant .entry)) membership

@@ -12,14 +12,14 @@ ghost use Prim.Native.Nat.{_≤_};
 ghost use lib.ListN.{length};
 ghost use Rattle.tables.specs.Tables.{tablesOf, mostRows};
 ghost use Rattle.tables.specs.Right.{Right};
-ghost use Rattle.views.specs.Viewing.{viewInput, buffersOf, grantRight, viewCallOf};
+ghost use Rattle.views.specs.Viewing.{viewInput, viewBuffers, grantRight, viewCallOf};
 ghost use Rattle.view_members.specs.Flags.{Unflagged};
-ghost use Rattle.view_calls.specs.Room.{roomFor};
+ghost use Rattle.view_calls.specs.Room.{viewRoomFor};
 
 // Whether buffers of these lengths have room for the visible rows and for both lists.
 fn has_room(seen: usize, rows: usize, pos: usize, osp: usize) -> bool
     requires { ⌜ seen ≤ mostRows ⌝ }
-    ensures { λ r. ⌜ r ≡ roomFor seen rows pos osp ⌝ }
+    ensures { λ r. ⌜ r ≡ viewRoomFor seen rows pos osp ⌝ }
 {
     if rows < seen * COLUMNS {
         return false;
@@ -47,7 +47,7 @@ pub fn view_within(
     requires { ⌜ grantRight (now grant) ≡ true ⌝ }
     requires { ⌜ length (now marks) ≡ mostRows ⌝ }
     requires { ⌜ Unflagged (now rows) (now flags) ⌝ }
-    ensures { λ r. ⌜ record { answer = r; buffers = buffersOf (now («view_rows» .exit)) (now («view_pos» .exit)) (now («view_osp» .exit)) }
+    ensures { λ r. ⌜ record { answer = r; buffers = viewBuffers (now («view_rows» .exit)) (now («view_pos» .exit)) (now («view_osp» .exit)) }
         ≡ viewCallOf (viewInput (now (rows .entry)) (now (pos .entry)) (now (osp .entry)) (now (grant .entry)) membership
         (now («view_rows» .entry)) (now («view_pos» .entry)) (now («view_osp» .entry))) ⌝ }
 {

@@ -20,7 +20,7 @@ use Rattle.tables.proofs.Columns.{fields-length}
 use Rattle.tables.proofs.Sorted as sorted
 use Rattle.views.specs.Views.{isOf}
 use Rattle.views.proofs.Visible.{of-year, of-subject, both-of}
-use Rattle.view_marks.specs.Told.{told, someTold, seenBy, FirstOf}
+use Rattle.view_marks.specs.Told.{told, someTold, seenBy, FirstOfSubject}
 
 -- ---- some number below n
 not-both : (a b : Bool) → not (a && not b) ≡ (not a || b)
@@ -73,7 +73,7 @@ module _ (rows flags : List ℕ) where
       ∙ ap (λ b. granted || b) (sym (some-next (told rows flags year s) n))
 
   -- before the first
-  pub told-before : (granted : Bool) (row : ℕ) → FirstOf rows row
+  pub told-before : (granted : Bool) (row : ℕ) → FirstOfSubject rows row
       → granted ≡ (granted || someBelow (told rows flags (fieldOf rows row yearColumn) (fieldOf rows row subjectColumn)) row)
   told-before granted row f =
       or-none granted
@@ -145,7 +145,7 @@ module _ (rows : List ℕ) (r : RowsRight rows) where
 
   -- where the row before is of another, a row is the first of its own
   pub first-next : (row : ℕ) → row < length rows / columnCount
-      → (0 < row → isOf rows (fieldOf rows row yearColumn) (fieldOf rows row subjectColumn) (row - 1) ≡ false) → FirstOf rows row
+      → (0 < row → isOf rows (fieldOf rows row yearColumn) (fieldOf rows row subjectColumn) (row - 1) ≡ false) → FirstOfSubject rows row
   first-next row l n = record { there = l; before = λ j k. go j k (decided (isOf rows (year row) (subject row) j)) }
     where
       go : (j : ℕ) → j < row → Decided (isOf rows (year row) (subject row) j) → isOf rows (year row) (subject row) j ≡ false

@@ -22,6 +22,6 @@ seenBy rows grant flags row =
     member (fieldOf rows row subjectColumn) grant || someTold rows flags (fieldOf rows row yearColumn) (fieldOf rows row subjectColumn)
 
 -- a row is the first of its subject in its year
-pub record FirstOf (rows : List ℕ) (row : ℕ) : Type 0 where
+pub record FirstOfSubject (rows : List ℕ) (row : ℕ) : Type 0 where
   pub there : row < length rows / columnCount
   pub before : (j : ℕ) → j < row → isOf rows (fieldOf rows row yearColumn) (fieldOf rows row subjectColumn) j ≡ false

@@ -20,7 +20,7 @@ ghost use Rattle.views.specs.Views.{isOf};
 ghost use Rattle.views.specs.Renumbered.{passedBefore};
 ghost use Rattle.view_grants.specs.Places.{firstFrom};
 ghost use Rattle.view_marks.specs.Marks.{markBy, marksOf};
-ghost use Rattle.view_marks.specs.Told.{someTold, seenBy, FirstOf};
+ghost use Rattle.view_marks.specs.Told.{someTold, seenBy, FirstOfSubject};
 
 // The mark of a hidden row: no row has this number.
 pub const HIDDEN: u32 = MOST_ROWS as u32;
@@ -52,7 +52,7 @@ fn is_of(rows: &[u32], row: u32, year: u32, subject: u32) -> bool
 // Whether a subject that is granted or not is seen: its rows of the year, from the first on, are looked at for a flag.
 fn subject_seen(rows: &[u32], flags: &[u8], row: u32, granted: bool) -> bool
     requires { ⌜ RowsRight (now rows) ⌝ }
-    requires { ⌜ FirstOf (now rows) row ⌝ }
+    requires { ⌜ FirstOfSubject (now rows) row ⌝ }
     requires { ⌜ length (now rows) / columnCount ≤ length (now flags) ⌝ }
     ensures { λ r. ⌜ r ≡ (granted || someTold (now (rows .entry)) (now (flags .entry)) (fieldOf (now (rows .entry)) row yearColumn)
         (fieldOf (now (rows .entry)) row subjectColumn)) ⌝ }
@@ -76,7 +76,7 @@ fn subject_seen(rows: &[u32], flags: &[u8], row: u32, granted: bool) -> bool
 fn first_seen(rows: &[u32], grant: &[u32], flags: &[u8], row: u32, from: usize) -> Seeing
     requires { ⌜ RowsRight (now rows) ⌝ }
     requires { ⌜ neighbours ltb (now grant) ≡ true ⌝ }
-    requires { ⌜ FirstOf (now rows) row ⌝ }
+    requires { ⌜ FirstOfSubject (now rows) row ⌝ }
     requires { ⌜ length (now rows) / columnCount ≤ length (now flags) ⌝ }
     requires { ⌜ from ≤ firstFrom (now grant) (fieldOf (now rows) row subjectColumn) ⌝ }
     ensures { λ r. ⌜ (r .seen ≡ seenBy (now (rows .entry)) (now (grant .entry)) (now (flags .entry)) row)

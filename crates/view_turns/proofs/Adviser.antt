@@ -12,7 +12,7 @@ use Rattle.turns.specs.Turns.{turnOf}
 use Rattle.queues.specs.Joining.{joinQueueOf}
 use Rattle.queues.specs.Serving.{serveOf}
 use Rattle.views.specs.Viewing.{ViewBuffers}
-use Rattle.views.specs.Exactness.{tablesIn}
+use Rattle.views.specs.Exactness.{tablesSeen}
 use Rattle.views.specs.Hidden.{DifferHidden, lending}
 use Rattle.views.proofs.SameCalls.{same-calls}
 use Rattle.view_turns.specs.Adviser.{turnOver, SameQueries, SameToAdviser}
@@ -31,4 +31,4 @@ pub same-to-adviser : (grant : List ℕ) (membership : ℕ) (b : ViewBuffers) (t
     → SameToAdviser (lending grant membership b t) (lending grant membership b u)
 same-to-adviser grant membership b t u p q d =
     let e = same-calls grant membership b t u p q d in
-    record { call = e; queries = same-queries _ _ (ap tablesIn e) }
+    record { call = e; queries = same-queries _ _ (ap tablesSeen e) }

@@ -10,11 +10,12 @@ use borrow.Author.Tests.{ltb-true}
 use Rattle.words.proofs.Somewhere.{each-at}
 use Rattle.tables.specs.declared.Order.the-variants.{Spo}
 use Rattle.tables.specs.Tables.{Tables, rowCount, fieldsOf}
+use Rattle.tables.specs.RowLists.{RowIn}
 use Rattle.tables.specs.Right.{Right}
 use Rattle.tables.proofs.MadeTables.{one-number}
 use Rattle.views.specs.Views.{visible, visibleNumbers, viewCount, viewRows, viewOf}
 use Rattle.views.specs.Renumbered.{newNumber}
-use Rattle.views.specs.Exactness.{RowIn, VisibleRow, Exactly}
+use Rattle.views.specs.Exactness.{VisibleRow, ExactlyVisible}
 use Rattle.views.proofs.Lengths.{view-count}
 use Rattle.views.proofs.Rows.{view-fields, view-right, numbers-seen, numbers-there}
 use Rattle.views.proofs.Renumbering.{placed}
@@ -46,7 +47,7 @@ module _ (t : Tables) (grant : List ℕ) (membership : ℕ) (w : Right t) where
         is = fields-anew t grant membership Spo row h e;
       }
 
-  pub view-exactly : Exactly t grant membership (viewOf t grant membership)
+  pub view-exactly : ExactlyVisible t grant membership (viewOf t grant membership)
   view-exactly =
       record {
         from = view-from;

@@ -23,14 +23,13 @@ use Rattle.tables.specs.declared.Order.the-variants.{Spo}
 use Rattle.tables.specs.Tables.{Tables, columnCount, rowCount, fieldOf, fieldsOf, tableTests}
 use Rattle.tables.specs.Tables.{yearColumn, subjectColumn, predicateColumn, objectColumn}
 use Rattle.tables.specs.Right.{Right}
-use Rattle.tables.specs.RowLists.{numberBefore, tablesFrom}
+use Rattle.tables.specs.RowLists.{RowIn, numberBefore, tablesFrom}
 use Rattle.tables.proofs.Ascending.{ascend}
 use Rattle.tables.proofs.Columns.{fields-length}
 use Rattle.tables.proofs.RightTables.{right}
 use Rattle.views.specs.Views.{admits, visible, visibleNumbers, viewRows, viewOf}
-use Rattle.views.specs.Exactness.{RowIn}
 use Rattle.views.specs.Hidden.{HiddenAlone, DifferHidden}
-use Rattle.views.proofs.Visible.{Seen, granted, admitted, seen, by-grant, by-row, admits-seen}
+use Rattle.views.proofs.Visible.{SeenRows, granted, admitted, seen, by-grant, by-row, admits-seen}
 use Rattle.views.proofs.Rows.{numbers-seen, numbers-there}
 use Rattle.views.proofs.Equal.{each-in-map, ascending-equal}
 
@@ -144,7 +143,7 @@ module _ (grant : List ℕ) (membership : ℕ) where
         s : fieldOf (u .rows) q subjectColumn ≡ fieldOf (t .rows) r subjectColumn
         s = same-subject (u .rows) (t .rows) q r e
 
-        go : Seen (t .rows) grant membership r → visible (u .rows) grant membership q ≡ true
+        go : SeenRows (t .rows) grant membership r → visible (u .rows) grant membership q ≡ true
         go (granted p) = by-grant (u .rows) grant membership q (ap (λ w. member w grant) s ∙ p)
         go (admitted m) =
             let n = m .which in

@@ -11,7 +11,7 @@ use Rattle.words.proofs.Refusing.{refused-by, served-when}
 use Rattle.views.specs.declared.Viewed.{Viewed}
 use Rattle.views.specs.declared.Viewed.the-variants.{Refused}
 use Rattle.views.specs.Viewing.{ViewBuffers, ViewInput, viewIn, viewTests, ViewResult, viewedWith, viewedAs, viewCallOf, viewRefusal, viewWords}
-use Rattle.views.specs.Refusals.{wordsOf, wordsBy, ViewAnswers, Views, ViewRefusals}
+use Rattle.views.specs.Refusals.{viewWordsOf, viewWordsBy, ViewAnswers, Views, ViewRefusals}
 
 module _ (i : ViewInput) where
   not-viewed : (x : ℕ) → FirstFails x (viewTests i) → viewCallOf i ≡ record { answer = Refused x; buffers = i .buffers }
@@ -34,7 +34,7 @@ module _ (i : ViewInput) where
   number-by none = refl
   number-by (some x) = refl
 
-  words-by : (o : Option ℕ) → viewWords (viewedAs i o .answer) ≡ wordsBy o (wordsOf (viewIn i))
+  words-by : (o : Option ℕ) → viewWords (viewedAs i o .answer) ≡ viewWordsBy o (viewWordsOf (viewIn i))
   words-by none = refl
   words-by (some x) = refl
 

@@ -8,7 +8,7 @@ use Rattle.words.proofs.Numbering.{rest-decides}
 use Rattle.tables.specs.Tables.{Tables, tableTests}
 use Rattle.views.specs.declared.Viewed.the-variants.{Refused}
 use Rattle.views.specs.Views.{viewOf}
-use Rattle.views.specs.Viewing.{ViewBuffers, grantRight, roomRight, ownTests, ViewResult, viewedWith, viewedAs, viewCallOf}
+use Rattle.views.specs.Viewing.{ViewBuffers, grantRight, viewRoomRight, viewOwnTests, ViewResult, viewedWith, viewedAs, viewCallOf}
 use Rattle.views.specs.Hidden.{DifferHidden, lending}
 use Rattle.views.proofs.Hidden.{same-view}
 
@@ -19,13 +19,13 @@ module _ (grant : List ℕ) (membership : ℕ) (b : ViewBuffers) where
   outcome v none = viewedWith v b
 
   abbrev by : Tables → ViewResult
-  by v = outcome v (firstFailing ((20, grantRight grant) ∷ (21, roomRight v b) ∷ []))
+  by v = outcome v (firstFailing ((20, grantRight grant) ∷ (21, viewRoomRight v b) ∷ []))
 
   by-view : (t : Tables) → firstFailing (tableTests t) ≡ none → viewCallOf (lending grant membership b t) ≡ by (viewOf t grant membership)
   unfolding viewCallOf
   by-view t e =
-      ap (viewedAs (lending grant membership b t)) (rest-decides (tableTests t) (ownTests (lending grant membership b t)) e)
-      ∙ go (firstFailing (ownTests (lending grant membership b t)))
+      ap (viewedAs (lending grant membership b t)) (rest-decides (tableTests t) (viewOwnTests (lending grant membership b t)) e)
+      ∙ go (firstFailing (viewOwnTests (lending grant membership b t)))
     where
       go : (o : Option ℕ) → viewedAs (lending grant membership b t) o ≡ outcome (viewOf t grant membership) o
       go none = refl

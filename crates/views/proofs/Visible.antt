@@ -15,10 +15,10 @@ use Rattle.tables.specs.Tables.{columnCount, yearColumn, subjectColumn, predica
 use Rattle.views.specs.Views.{isOf, admits, belongs, visible}
 
 -- visible by a grant, or by a row that admits its subject in its year
-pub data Seen (rows grant : List ℕ) (membership row : ℕ) : Type 0 where
-  granted : member (fieldOf rows row subjectColumn) grant ≡ true → Seen rows grant membership row
+pub data SeenRows (rows grant : List ℕ) (membership row : ℕ) : Type 0 where
+  granted : member (fieldOf rows row subjectColumn) grant ≡ true → SeenRows rows grant membership row
   admitted : Some (admits rows grant membership (fieldOf rows row yearColumn) (fieldOf rows row subjectColumn)) (length rows / columnCount)
-      → Seen rows grant membership row
+      → SeenRows rows grant membership row
 
 or-true : (a b : Bool) → b ≡ true → a || b ≡ true
 or-true true b e = refl
@@ -65,11 +65,11 @@ module _ (rows grant : List ℕ) (membership : ℕ) where
     other-year n = rw (ne-eqb (fieldOf rows y yearColumn) year n)
 
   -- ---- a visible row
-  pub seen : (row : ℕ) → visible rows grant membership row ≡ true → Seen rows grant membership row
+  pub seen : (row : ℕ) → visible rows grant membership row ≡ true → SeenRows rows grant membership row
   unfolding visible
   seen row e = go (decided (member (fieldOf rows row subjectColumn) grant))
     where
-      go : Decided (member (fieldOf rows row subjectColumn) grant) → Seen rows grant membership row
+      go : Decided (member (fieldOf rows row subjectColumn) grant) → SeenRows rows grant membership row
       go (yes p) = granted p
       go (no p) = admitted (some-at _ (length rows / columnCount) (rw p at e))
 

@@ -15,8 +15,8 @@ use Rattle.words.proofs.Numbering.{both-pass}
 use Rattle.words.proofs.Testing.{test-passed, passes-all, all-passes}
 use Rattle.tables.specs.declared.Order.the-variants.{Pos, Osp}
 use Rattle.tables.specs.Tables.{columnCount, tableTests}
-use Rattle.views.specs.Viewing.{ViewInput, viewIn, ViewResult, roomRight, ownTests, viewTests, viewWords}
-use Rattle.views.specs.Refusals.{Views, seenIn, Suffices, ViewWrites}
+use Rattle.views.specs.Viewing.{ViewInput, viewIn, ViewResult, viewRoomRight, viewOwnTests, viewTests, viewWords}
+use Rattle.views.specs.Refusals.{Views, seenIn, ViewSuffices, ViewWrites}
 use Rattle.views.proofs.Lengths.{view-length, numbers-view}
 use Rattle.views.proofs.Refusals.{view-serves, viewed-so}
 
@@ -35,26 +35,26 @@ module _ (i : ViewInput) where
   osp-words = numbers-view (i .tables .rows) (i .grant) (i .membership) Osp
 
   -- test 21: what is written has this many words
-  pub room-right : roomRight (viewIn i) (i .buffers)
+  pub room-right : viewRoomRight (viewIn i) (i .buffers)
       ≡ (leb (seenIn i * columnCount) (length (i .buffers .rows))
       && (leb (seenIn i) (length (i .buffers .pos)) && leb (seenIn i) (length (i .buffers .osp))))
-  unfolding roomRight
+  unfolding viewRoomRight
   room-right = rw (rows-words, pos-words, osp-words)
 
-  suffices : Views i → Suffices i
+  suffices : Views i → ViewSuffices i
   suffices m =
       let p = view-serves i .0 m in
       let a = sym room-right ∙ test-passed 21 (viewTests i) p in
       let b = and-right (leb (seenIn i * columnCount) (length (i .buffers .rows))) _ a in
       record {
-        accepted = both-pass (tableTests (i .tables)) (ownTests i) (all-passes (viewTests i) p) .0;
+        accepted = both-pass (tableTests (i .tables)) (viewOwnTests i) (all-passes (viewTests i) p) .0;
         grant = test-passed 20 (viewTests i) p;
         rows = leb-true _ _ (and-left (leb (seenIn i * columnCount) (length (i .buffers .rows))) _ a);
         pos = leb-true _ _ (and-left (leb (seenIn i) (length (i .buffers .pos))) _ b);
         osp = leb-true _ _ (and-right (leb (seenIn i) (length (i .buffers .pos))) _ b);
       }
 
-  room-enough : Suffices i → roomRight (viewIn i) (i .buffers) ≡ true
+  room-enough : ViewSuffices i → viewRoomRight (viewIn i) (i .buffers) ≡ true
   room-enough s =
       room-right
       ∙ rw (
@@ -64,7 +64,7 @@ module _ (i : ViewInput) where
       )
 
   -- served exactly for accepted tables, a right grant, and buffers that are no shorter than what is written
-  pub view-suffices : Views i ↔ Suffices i
+  pub view-suffices : Views i ↔ ViewSuffices i
   view-suffices = (
     suffices,
     λ s. let t = passes-all (tableTests (i .tables)) (s .accepted) in

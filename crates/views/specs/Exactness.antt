@@ -8,20 +8,15 @@ use lib.ListN.{take}
 use Rattle.words.specs.Tests.{firstFailing}
 use Rattle.tables.specs.declared.Order.the-variants.{Spo}
 use Rattle.tables.specs.Tables.{Tables, tablesOf, rowCount, fieldsOf, tableTests}
+use Rattle.tables.specs.RowLists.{RowIn}
 use Rattle.views.specs.Views.{visible}
 use Rattle.views.specs.Viewing.{ViewInput, ViewResult, viewCallOf, viewWords}
 
 -- what a call leaves: the first words of its buffers, as many as it answers
-abbrev pub tablesIn : ViewResult → Tables
-tablesIn r =
+abbrev pub tablesSeen : ViewResult → Tables
+tablesSeen r =
     let n = viewWords (r .answer) in
     tablesOf (take (n .rows) (r .buffers .rows)) (take (n .pos) (r .buffers .pos)) (take (n .osp) (r .buffers .osp))
-
--- a row of some tables has these fields
-pub record RowIn (t : Tables) (fields : List ℕ) : Type 0 where
-  pub row : ℕ
-  pub there : row < rowCount t
-  pub is : fieldsOf Spo (t .rows) row ≡ fields
 
 -- a visible row of some tables has these fields
 pub record VisibleRow (t : Tables) (grant : List ℕ) (membership : ℕ) (fields : List ℕ) : Type 0 where
@@ -31,7 +26,7 @@ pub record VisibleRow (t : Tables) (grant : List ℕ) (membership : ℕ) (fields
   pub is : fieldsOf Spo (t .rows) row ≡ fields
 
 -- some tables hold exactly the visible rows of others
-pub record Exactly (t : Tables) (grant : List ℕ) (membership : ℕ) (v : Tables) : Type 0 where
+pub record ExactlyVisible (t : Tables) (grant : List ℕ) (membership : ℕ) (v : Tables) : Type 0 where
   pub from : (row : ℕ) → row < rowCount v → VisibleRow t grant membership (fieldsOf Spo (v .rows) row)
   pub holds : (row : ℕ) → row < rowCount t → visible (t .rows) grant membership row ≡ true → RowIn v (fieldsOf Spo (t .rows) row)
   -- and no two are the same
@@ -40,5 +35,5 @@ pub record Exactly (t : Tables) (grant : List ℕ) (membership : ℕ) (v : Table
 -- ---- what a served call leaves
 pub record ViewRight (i : ViewInput) : Type 0 where
   -- the tests accept the tables
-  pub accepted : firstFailing (tableTests (tablesIn (viewCallOf i))) ≡ none
-  pub exact : Exactly (i .tables) (i .grant) (i .membership) (tablesIn (viewCallOf i))
+  pub accepted : firstFailing (tableTests (tablesSeen (viewCallOf i))) ≡ none
+  pub exact : ExactlyVisible (i .tables) (i .grant) (i .membership) (tablesSeen (viewCallOf i))

@@ -5,9 +5,9 @@ use mathlib.Core.Bool.{false}
 use mathlib.Core.List.{List}
 use Rattle.tables.specs.declared.Order.the-variants.{Spo}
 use Rattle.tables.specs.Tables.{Tables, rowCount, fieldsOf}
+use Rattle.tables.specs.RowLists.{RowIn}
 use Rattle.views.specs.Views.{visible}
 use Rattle.views.specs.Viewing.{ViewBuffers, ViewInput}
-use Rattle.views.specs.Exactness.{RowIn}
 
 -- each row that stands in the first tables and not in the second is hidden in the first
 abbrev pub HiddenAlone : List ℕ → ℕ → Tables → Tables → Type 0

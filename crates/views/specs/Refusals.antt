@@ -13,27 +13,27 @@ use Rattle.tables.specs.Tables.{Tables, columnCount, tableTests}
 use Rattle.views.specs.declared.Viewed.{Viewed}
 use Rattle.views.specs.declared.Viewed.the-variants.{Refused}
 use Rattle.views.specs.Views.{viewCount}
-use Rattle.views.specs.Viewing.{ViewInput, viewIn, grantRight, viewTests, viewCallOf, viewRefusal, ViewWords, noWords, viewWords}
+use Rattle.views.specs.Viewing.{ViewInput, viewIn, grantRight, viewTests, viewCallOf, viewRefusal, ViewWords, noViewWords, viewWords}
 
 -- the words of some tables; of the words that a call writes where all its tests pass, those that it writes
-abbrev pub wordsOf : Tables → ViewWords
-wordsOf t = record { rows = length (t .rows); pos = length (t .pos); osp = length (t .osp) }
+abbrev pub viewWordsOf : Tables → ViewWords
+viewWordsOf t = record { rows = length (t .rows); pos = length (t .pos); osp = length (t .osp) }
 
-abbrev pub wordsBy : Option ℕ → ViewWords → ViewWords
-wordsBy none w = w
-wordsBy (some n) w = noWords
+abbrev pub viewWordsBy : Option ℕ → ViewWords → ViewWords
+viewWordsBy none w = w
+viewWordsBy (some n) w = noViewWords
 
 -- the answer of a call by the rules' number and values (docs/RULES.md, 10)
 pub record ViewAnswers (i : ViewInput) (a : Viewed) : Type 0 where
   -- the number of the first test that fails, 0 where all pass
   pub number : viewRefusal a ≡ numberOf (firstFailing (viewTests i))
   -- the words of the view's tables where all pass, else none
-  pub words : viewWords a ≡ wordsBy (firstFailing (viewTests i)) (wordsOf (viewIn i))
+  pub words : viewWords a ≡ viewWordsBy (firstFailing (viewTests i)) (viewWordsOf (viewIn i))
 
 -- a refused call leaves the buffers as they were, and has written no words
 pub record NotViewed (i : ViewInput) : Type 0 where
   pub buffers : viewCallOf i .buffers ≡ i .buffers
-  pub words : viewWords (viewCallOf i .answer) ≡ noWords
+  pub words : viewWords (viewCallOf i .answer) ≡ noViewWords
 
 -- a call that is not refused
 abbrev pub Views : ViewInput → Type 0
@@ -57,7 +57,7 @@ abbrev pub seenIn : ViewInput → ℕ
 seenIn i = viewCount (i .tables .rows) (i .grant) (i .membership)
 
 -- accepted tables, a right grant, and buffers that are no shorter than what is written: so their exact lengths are enough
-pub record Suffices (i : ViewInput) : Type 0 where
+pub record ViewSuffices (i : ViewInput) : Type 0 where
   pub accepted : firstFailing (tableTests (i .tables)) ≡ none
   pub grant : grantRight (i .grant) ≡ true
   pub rows : seenIn i * columnCount ≤ length (i .buffers .rows)

@@ -19,8 +19,8 @@ pub record ViewBuffers : Type 0 where
   pub pos : List ℕ
   pub osp : List ℕ
 
-abbrev pub buffersOf : List ℕ → List ℕ → List ℕ → ViewBuffers
-buffersOf rows pos osp = record { rows = rows; pos = pos; osp = osp }
+abbrev pub viewBuffers : List ℕ → List ℕ → List ℕ → ViewBuffers
+viewBuffers rows pos osp = record { rows = rows; pos = pos; osp = osp }
 
 -- what a call lends
 pub record ViewInput : Type 0 where
@@ -35,7 +35,7 @@ viewInput rows pos osp grant membership view-rows view-pos view-osp =
       tables = tablesOf rows pos osp;
       grant = grant;
       membership = membership;
-      buffers = buffersOf view-rows view-pos view-osp;
+      buffers = viewBuffers view-rows view-pos view-osp;
     }
 
 -- what an adviser sees of the lent tables
@@ -51,15 +51,15 @@ unfoldable pub grantRight : List ℕ → Bool
 grantRight grant = all isName grant && neighbours ltb grant
 
 -- 21: each buffer has room for what is written to it
-unfoldable pub roomRight : Tables → ViewBuffers → Bool
-roomRight t b =
+unfoldable pub viewRoomRight : Tables → ViewBuffers → Bool
+viewRoomRight t b =
     leb (length (t .rows)) (length (b .rows)) && (leb (length (t .pos)) (length (b .pos)) && leb (length (t .osp)) (length (b .osp)))
 
-abbrev pub ownTests : ViewInput → List Test
-ownTests i = (20, grantRight (i .grant)) ∷ (21, roomRight (viewIn i) (i .buffers)) ∷ []
+abbrev pub viewOwnTests : ViewInput → List Test
+viewOwnTests i = (20, grantRight (i .grant)) ∷ (21, viewRoomRight (viewIn i) (i .buffers)) ∷ []
 
 abbrev pub viewTests : ViewInput → List Test
-viewTests i = tableTests (i .tables) ++ ownTests i
+viewTests i = tableTests (i .tables) ++ viewOwnTests i
 
 -- ---- what a call answers, and what it leaves
 pub record ViewResult : Type 0 where
@@ -70,7 +70,7 @@ abbrev pub viewedWith : Tables → ViewBuffers → ViewResult
 viewedWith t b =
     record {
       answer = Words (length (t .rows)) (length (t .pos)) (length (t .osp));
-      buffers = buffersOf (over (t .rows) (b .rows)) (over (t .pos) (b .pos)) (over (t .osp) (b .osp));
+      buffers = viewBuffers (over (t .rows) (b .rows)) (over (t .pos) (b .pos)) (over (t .osp) (b .osp));
     }
 
 -- a refusal changes nothing
@@ -93,9 +93,9 @@ pub record ViewWords : Type 0 where
   pub pos : ℕ
   pub osp : ℕ
 
-abbrev pub noWords : ViewWords
-noWords = record { rows = 0; pos = 0; osp = 0 }
+abbrev pub noViewWords : ViewWords
+noViewWords = record { rows = 0; pos = 0; osp = 0 }
 
 abbrev pub viewWords : Viewed → ViewWords
 viewWords (Words rows pos osp) = record { rows = rows; pos = pos; osp = osp }
-viewWords (Refused x) = noWords
+viewWords (Refused x) = noViewWords

@@ -5,5 +5,5 @@ use lib.Dec.{leb}
 use Rattle.tables.specs.Tables.{columnCount}
 
 -- buffers of these lengths have room for so many rows and both lists of them
-unfoldable pub roomFor : ℕ → ℕ → ℕ → ℕ → Bool
-roomFor count rows pos osp = leb (count * columnCount) rows && (leb count pos && leb count osp)
+unfoldable pub growRoomFor : ℕ → ℕ → ℕ → ℕ → Bool
+growRoomFor count rows pos osp = leb (count * columnCount) rows && (leb count pos && leb count osp)

@@ -9,9 +9,9 @@ use words::MOST_YEAR;
 ghost use mathlib.Core.Path.{_≡_};
 ghost use Prim.Native.Nat.{_≤_};
 ghost use Rattle.tables.specs.Tables.{mostRows};
-ghost use Rattle.woods.specs.Growing.{growInput, buffersOf, askedRight, growOf};
+ghost use Rattle.woods.specs.Growing.{growInput, growBuffers, askedRight, growOf};
 ghost use Rattle.woods.specs.Refusals.{GrowAnswers};
-ghost use Rattle.wood_calls.specs.Room.{roomFor};
+ghost use Rattle.wood_calls.specs.Room.{growRoomFor};
 
 // The tests of growing a wood, by their numbers.
 pub const ASKED: u32 = 24;
@@ -37,7 +37,7 @@ fn asked_right(stems: u32, year: u32) -> bool
 // Whether buffers of these lengths have room for the rows and for both lists.
 fn has_room(count: usize, rows: usize, pos: usize, osp: usize) -> bool
     requires { ⌜ count ≤ mostRows ⌝ }
-    ensures { λ r. ⌜ r ≡ roomFor count rows pos osp ⌝ }
+    ensures { λ r. ⌜ r ≡ growRoomFor count rows pos osp ⌝ }
 {
     if rows < count * COLUMNS {
         return false;
@@ -58,7 +58,7 @@ pub fn grow(
     pos: &mut [u32],
     osp: &mut [u32],
 ) -> Grown
-    ensures { λ r. ⌜ record { answer = r; buffers = buffersOf (now (rows .exit)) (now (pos .exit)) (now (osp .exit)) }
+    ensures { λ r. ⌜ record { answer = r; buffers = growBuffers (now (rows .exit)) (now (pos .exit)) (now (osp .exit)) }
         ≡ growOf (growInput seed stems year (now (rows .entry)) (now (pos .entry)) (now (osp .entry))) ⌝ }
     ensures number { λ r. ⌜ GrowAnswers (growInput seed stems year (now (rows .entry)) (now (pos .entry)) (now (osp .entry))) r ⌝ }
 {

@@ -11,7 +11,7 @@ use Rattle.tables.specs.Tables.{Tables, tablesOf, tableTests}
 use Rattle.tables.proofs.MadeTables.{made-accepted}
 use Rattle.woods.specs.Woods.{woodRows, woodOf}
 use Rattle.woods.specs.Growing.{mostStems, GrowInput, GrowBuffers, woodIn, grownWith, growOf}
-use Rattle.woods.specs.Refusals.{Grows, tablesIn, GrownRight}
+use Rattle.woods.specs.Refusals.{Grows, tablesGrown, GrownRight}
 use Rattle.woods.proofs.Stems.{wood-right}
 use Rattle.woods.proofs.Refusals.{grown-so}
 use Rattle.woods.proofs.Writes.{grow-suffices}
@@ -22,12 +22,12 @@ pub wood-passes : (seed stems year : ℕ) → stems ≤ mostStems → 1 ≤ year
 wood-passes seed stems year f b e = made-accepted (flatten (woodRows seed year stems)) (wood-right seed year stems f b e)
 
 -- what is read back from the buffers
-read-tables : (t : Tables) (b : GrowBuffers) → tablesIn (grownWith t b) ≡ t
+read-tables : (t : Tables) (b : GrowBuffers) → tablesGrown (grownWith t b) ≡ t
 read-tables t b = rw (take-over (t .rows) (b .rows), take-over (t .pos) (b .pos), take-over (t .osp) (b .osp))
 
 module _ (i : GrowInput) (m : Grows i) where
-  pub wood-left : tablesIn (growOf i) ≡ woodIn i
-  wood-left = ap tablesIn (grown-so i m) ∙ read-tables (woodIn i) (i .buffers)
+  pub wood-left : tablesGrown (growOf i) ≡ woodIn i
+  wood-left = ap tablesGrown (grown-so i m) ∙ read-tables (woodIn i) (i .buffers)
 
   pub grow-right : GrownRight i
   grow-right =

@@ -12,7 +12,7 @@ use Rattle.words.proofs.Refusing.{refused-by, served-when}
 use Rattle.woods.specs.declared.Grown.{Grown}
 use Rattle.woods.specs.declared.Grown.the-variants.{Words, Refused}
 use Rattle.woods.specs.Growing.{GrowBuffers, GrowInput, woodIn, growTests, GrowResult, grownWith, grownAs, growOf, grownRefusal, grownWords}
-use Rattle.woods.specs.Refusals.{wordsOf, wordsBy, GrowAnswers, Grows, GrowRefusals}
+use Rattle.woods.specs.Refusals.{growWordsOf, growWordsBy, GrowAnswers, Grows, GrowRefusals}
 
 module _ (i : GrowInput) where
   not-grown : (x : ℕ) → FirstFails x (growTests i) → growOf i ≡ record { answer = Refused x; buffers = i .buffers }
@@ -35,7 +35,7 @@ module _ (i : GrowInput) where
   number-by none = refl
   number-by (some x) = refl
 
-  words-by : (o : Option ℕ) → grownWords (grownAs i o .answer) ≡ wordsBy o (wordsOf (woodIn i))
+  words-by : (o : Option ℕ) → grownWords (grownAs i o .answer) ≡ growWordsBy o (growWordsOf (woodIn i))
   words-by none = refl
   words-by (some x) = refl
 

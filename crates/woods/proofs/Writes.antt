@@ -15,8 +15,8 @@ use Rattle.words.proofs.Buffers.{overwritten}
 use Rattle.words.proofs.Testing.{test-passed}
 use Rattle.tables.specs.declared.Order.the-variants.{Pos, Osp}
 use Rattle.tables.specs.Tables.{columnCount}
-use Rattle.woods.specs.Growing.{mostStems, GrowInput, woodIn, askedRight, roomRight, growTests, GrowResult, growOf, grownWords}
-use Rattle.woods.specs.Refusals.{rowsFor, Grows, Suffices, GrowWrites}
+use Rattle.woods.specs.Growing.{mostStems, GrowInput, woodIn, askedRight, growRoomRight, growTests, GrowResult, growOf, grownWords}
+use Rattle.woods.specs.Refusals.{rowsFor, Grows, GrowSuffices, GrowWrites}
 use Rattle.woods.proofs.Lengths.{rows-length, list-counts}
 use Rattle.woods.proofs.Refusals.{grow-serves, grown-so}
 
@@ -43,10 +43,10 @@ module _ (i : GrowInput) where
   abbrev count : ℕ
   count = rowsFor (i .stems)
 
-  pub room-right : roomRight (woodIn i) (i .buffers)
+  pub room-right : growRoomRight (woodIn i) (i .buffers)
       ≡ (leb (rowsFor (i .stems) * columnCount) (length (i .buffers .rows))
       && (leb (rowsFor (i .stems)) (length (i .buffers .pos)) && leb (rowsFor (i .stems)) (length (i .buffers .osp))))
-  unfolding roomRight
+  unfolding growRoomRight
   room-right =
       rw (
         rows-length (i .seed) (i .stems) (i .year),
@@ -54,7 +54,7 @@ module _ (i : GrowInput) where
         list-counts (i .seed) (i .stems) (i .year) Osp,
       )
 
-  suffices : Grows i → Suffices i
+  suffices : Grows i → GrowSuffices i
   suffices m =
       let p = grow-serves i .0 m in
       let e = test-passed 24 (growTests i) p in
@@ -69,7 +69,7 @@ module _ (i : GrowInput) where
         osp = leb-true _ _ (and-right (leb count (length (i .buffers .pos))) _ b);
       }
 
-  room-enough : Suffices i → roomRight (woodIn i) (i .buffers) ≡ true
+  room-enough : GrowSuffices i → growRoomRight (woodIn i) (i .buffers) ≡ true
   room-enough s =
       room-right
       ∙ rw (
@@ -79,7 +79,7 @@ module _ (i : GrowInput) where
       )
 
   -- served exactly for stems that are not too many, a year that rows may have, and buffers that are no shorter than what is written
-  pub grow-suffices : Grows i ↔ Suffices i
+  pub grow-suffices : Grows i ↔ GrowSuffices i
   grow-suffices =
       (suffices, λ s. grow-serves i .1 (asked-right (i .stems) (i .year) (s .few) (s .begun) (s .ended), (room-enough s, tt)))
 

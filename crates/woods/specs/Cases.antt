@@ -5,7 +5,7 @@ use mathlib.Core.List.{List, [], _∷_, _++_}
 use lib.ListN.{replicate}
 use Rattle.tables.specs.Tables.{Tables, tablesOf}
 use Rattle.woods.specs.declared.Grown.the-variants.{Words, Refused}
-use Rattle.woods.specs.Growing.{GrowInput, growInput, GrowResult, buffersOf, growOf}
+use Rattle.woods.specs.Growing.{GrowInput, growInput, GrowResult, growBuffers, growOf}
 use Rattle.woods.specs.Refusals.{Grows}
 
 -- (n1000000, n10, n116) (n1000000, n12, i220) (n1000001, n10, n106) (n1000001, n12, i615), in i2026: the stand n106 comes before n116
@@ -26,7 +26,7 @@ NotGrownBy x i = growOf i ≡ record { answer = Refused x; buffers = i .buffers 
 
 -- the answer and the buffers at exit
 abbrev pub leaving : ℕ → ℕ → ℕ → List ℕ → List ℕ → List ℕ → GrowResult
-leaving a b c rows pos osp = record { answer = Words a b c; buffers = buffersOf rows pos osp }
+leaving a b c rows pos osp = record { answer = Words a b c; buffers = growBuffers rows pos osp }
 
 -- one stem of the greatest seed, in the first year: (n1000000, n10, n105) (n1000000, n12, i331)
 abbrev pub lastSeed : Tables

@@ -22,8 +22,8 @@ pub record GrowBuffers : Type 0 where
   pub pos : List ℕ
   pub osp : List ℕ
 
-abbrev pub buffersOf : List ℕ → List ℕ → List ℕ → GrowBuffers
-buffersOf rows pos osp = record { rows = rows; pos = pos; osp = osp }
+abbrev pub growBuffers : List ℕ → List ℕ → List ℕ → GrowBuffers
+growBuffers rows pos osp = record { rows = rows; pos = pos; osp = osp }
 
 -- what a call is given
 pub record GrowInput : Type 0 where
@@ -33,7 +33,7 @@ pub record GrowInput : Type 0 where
   pub buffers : GrowBuffers
 
 abbrev pub growInput : ℕ → ℕ → ℕ → List ℕ → List ℕ → List ℕ → GrowInput
-growInput seed stems year rows pos osp = record { seed = seed; stems = stems; year = year; buffers = buffersOf rows pos osp }
+growInput seed stems year rows pos osp = record { seed = seed; stems = stems; year = year; buffers = growBuffers rows pos osp }
 
 -- the wood asked for
 abbrev pub woodIn : GrowInput → Tables
@@ -45,12 +45,12 @@ unfoldable pub askedRight : ℕ → ℕ → Bool
 askedRight stems year = leb stems mostStems && (leb 1 year && leb year mostYear)
 
 -- 25: each buffer has room for what is written to it
-unfoldable pub roomRight : Tables → GrowBuffers → Bool
-roomRight t b =
+unfoldable pub growRoomRight : Tables → GrowBuffers → Bool
+growRoomRight t b =
     leb (length (t .rows)) (length (b .rows)) && (leb (length (t .pos)) (length (b .pos)) && leb (length (t .osp)) (length (b .osp)))
 
 abbrev pub growTests : GrowInput → List Test
-growTests i = (24, askedRight (i .stems) (i .year)) ∷ (25, roomRight (woodIn i) (i .buffers)) ∷ []
+growTests i = (24, askedRight (i .stems) (i .year)) ∷ (25, growRoomRight (woodIn i) (i .buffers)) ∷ []
 
 -- ---- what a call answers, and what it leaves
 pub record GrowResult : Type 0 where
@@ -61,7 +61,7 @@ abbrev pub grownWith : Tables → GrowBuffers → GrowResult
 grownWith t b =
     record {
       answer = Words (length (t .rows)) (length (t .pos)) (length (t .osp));
-      buffers = buffersOf (over (t .rows) (b .rows)) (over (t .pos) (b .pos)) (over (t .osp) (b .osp));
+      buffers = growBuffers (over (t .rows) (b .rows)) (over (t .pos) (b .pos)) (over (t .osp) (b .osp));
     }
 
 -- a refusal changes nothing
@@ -84,9 +84,9 @@ pub record GrownWords : Type 0 where
   pub pos : ℕ
   pub osp : ℕ
 
-abbrev pub noWords : GrownWords
-noWords = record { rows = 0; pos = 0; osp = 0 }
+abbrev pub noGrownWords : GrownWords
+noGrownWords = record { rows = 0; pos = 0; osp = 0 }
 
 abbrev pub grownWords : Grown → GrownWords
 grownWords (Words rows pos osp) = record { rows = rows; pos = pos; osp = osp }
-grownWords (Refused x) = noWords
+grownWords (Refused x) = noGrownWords

@@ -12,27 +12,27 @@ use Rattle.words.specs.Tests.{Test, firstFailing, numberOf, AllPass, FirstFails
 use Rattle.tables.specs.Tables.{Tables, tablesOf, columnCount, tableTests}
 use Rattle.woods.specs.declared.Grown.{Grown}
 use Rattle.woods.specs.declared.Grown.the-variants.{Refused}
-use Rattle.woods.specs.Growing.{GrowInput, mostStems, woodIn, growTests, GrowResult, growOf, grownRefusal, GrownWords, noWords, grownWords}
+use Rattle.woods.specs.Growing.{GrowInput, mostStems, woodIn, growTests, GrowResult, growOf, grownRefusal, GrownWords, noGrownWords, grownWords}
 
 -- the words of some tables; of the words that a call writes where all its tests pass, those that it writes
-abbrev pub wordsOf : Tables → GrownWords
-wordsOf t = record { rows = length (t .rows); pos = length (t .pos); osp = length (t .osp) }
+abbrev pub growWordsOf : Tables → GrownWords
+growWordsOf t = record { rows = length (t .rows); pos = length (t .pos); osp = length (t .osp) }
 
-abbrev pub wordsBy : Option ℕ → GrownWords → GrownWords
-wordsBy none w = w
-wordsBy (some n) w = noWords
+abbrev pub growWordsBy : Option ℕ → GrownWords → GrownWords
+growWordsBy none w = w
+growWordsBy (some n) w = noGrownWords
 
 -- the answer of a call by the rules' number and values (docs/RULES.md, 10)
 pub record GrowAnswers (i : GrowInput) (a : Grown) : Type 0 where
   -- the number of the first test that fails, 0 where all pass
   pub number : grownRefusal a ≡ numberOf (firstFailing (growTests i))
   -- the words of the wood where all pass, else none
-  pub words : grownWords a ≡ wordsBy (firstFailing (growTests i)) (wordsOf (woodIn i))
+  pub words : grownWords a ≡ growWordsBy (firstFailing (growTests i)) (growWordsOf (woodIn i))
 
 -- a refused call leaves the buffers as they were, and has written no words
 pub record NotGrown (i : GrowInput) : Type 0 where
   pub buffers : growOf i .buffers ≡ i .buffers
-  pub words : grownWords (growOf i .answer) ≡ noWords
+  pub words : grownWords (growOf i .answer) ≡ noGrownWords
 
 -- a call that is not refused
 abbrev pub Grows : GrowInput → Type 0
@@ -55,7 +55,7 @@ abbrev pub rowsFor : ℕ → ℕ
 rowsFor stems = 2 * stems
 
 -- not too many stems, a year that rows may have, and buffers no shorter than what is written: so their exact lengths are enough
-pub record Suffices (i : GrowInput) : Type 0 where
+pub record GrowSuffices (i : GrowInput) : Type 0 where
   pub few : i .stems ≤ mostStems
   pub begun : 1 ≤ i .year
   pub ended : i .year ≤ mostYear
@@ -71,12 +71,12 @@ pub record GrowWrites (i : GrowInput) : Type 0 where
   pub words : grownWords (growOf i .answer) ≡ record { rows = rowsFor (i .stems) * columnCount; pos = rowsFor (i .stems); osp = rowsFor (i .stems) }
 
 -- ---- the tables written, as they are read back from the buffers
-abbrev pub tablesIn : GrowResult → Tables
-tablesIn r =
+abbrev pub tablesGrown : GrowResult → Tables
+tablesGrown r =
     let w = grownWords (r .answer) in
     tablesOf (take (w .rows) (r .buffers .rows)) (take (w .pos) (r .buffers .pos)) (take (w .osp) (r .buffers .osp))
 
 -- they pass the check, and are the wood of the seed, the count and the year alone
 pub record GrownRight (i : GrowInput) : Type 0 where
-  pub alone : tablesIn (growOf i) ≡ woodIn i
-  pub accepted : firstFailing (tableTests (tablesIn (growOf i))) ≡ none
+  pub alone : tablesGrown (growOf i) ≡ woodIn i
+  pub accepted : firstFailing (tableTests (tablesGrown (growOf i))) ≡ none

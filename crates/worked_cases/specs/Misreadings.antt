@@ -9,7 +9,7 @@ use Rattle.words.specs.Words.{name, number, unbound}
 use Rattle.words.specs.Answers.{wordsIn}
 use Rattle.turns.specs.Turns.{TurnInput, TurnResult, turnOf}
 use Rattle.merges.specs.Merging.{MergeResult, mergeOf}
-use Rattle.worked_cases.specs.Wood.{wood, notError, rows01, planWith, planA, planTwice, planTop, planUnbound, start, stem}
+use Rattle.worked_cases.specs.Wood.{wood, notError, rows01, planWith, planA, planTwice, planTop, planUnbound, startOfA, stem}
 use Rattle.worked_cases.specs.Calls.{turnCall, mergeCall}
 
 abbrev pub listIn : TurnResult → List ℕ
@@ -21,7 +21,7 @@ stateAfter r = take (r .answer .saved) (r .state)
 abbrev pub keptIn : MergeResult → List ℕ
 keptIn r = take (wordsIn (r .answer)) (r .kept)
 
-pub record Reading : Type 0 where
+pub record Misreading : Type 0 where
   pub given : List ℕ
   pub right : List ℕ
   pub wrong : List ℕ
@@ -33,18 +33,18 @@ same (x ∷ xs) [] = false
 same (x ∷ xs) (y ∷ ys) = eqb x y && same xs ys
 
 -- what is given is right, and the wrong reading differs
-abbrev pub Told : List Reading → Type 0
+abbrev pub Told : List Misreading → Type 0
 Told [] = Unit {0}
 Told (r ∷ rs) = (r .given ≡ r .right) × ((same (r .right) (r .wrong) ≡ false) × Told rs)
 
 -- a turn with all the steps that it needs, and one whose output holds one row
 abbrev pub wholeTurn : List ℕ → TurnInput
-wholeTurn plan = turnCall wood plan start 100 [] 128
+wholeTurn plan = turnCall wood plan startOfA 100 [] 128
 
 abbrev pub oneRow : List ℕ → TurnInput
 oneRow state = turnCall wood planA state 10 [] 2
 
-abbrev pub readings : List Reading
+abbrev pub readings : List Misreading
 readings =
     -- unbound sorts first
     record { given = listIn (turnOf (wholeTurn planUnbound)); right = name 1 ∷ unbound ∷ []; wrong = stem 1 45 }
@@ -59,7 +59,7 @@ readings =
     ∷ record { given = keptIn (mergeOf (mergeCall planTop (stem 2 310) 4 (stem 3 310))); right = stem 2 310; wrong = stem 3 310 }
     -- a full output uses up no step: the next turn delivers the row
     ∷ record {
-      given = listIn (turnOf (oneRow (stateAfter (turnOf (oneRow start)))));
+      given = listIn (turnOf (oneRow (stateAfter (turnOf (oneRow startOfA)))));
       right = stem 3 310;
       wrong = [];
     }

@@ -10,7 +10,7 @@ use Rattle.tables.specs.Tables.{Tables}
 use Rattle.turns.specs.declared.TurnEnding.the-variants.{Done, Spent}
 use Rattle.turns.specs.Opening.{Opened, openOf}
 use Rattle.cuts.specs.Histories.{Event, turns, merges, Phone, fresh, history}
-use Rattle.worked_cases.specs.Wood.{wood, branchA, always, rows01, topFalling, topRising, planWith, minus1, diametersAre, stateAt, start, stem}
+use Rattle.worked_cases.specs.Wood.{wood, branchA, always, rows01, topFalling, topRising, planWith, minus1, diametersAre, stateAt, startOfA, stem}
 use Rattle.worked_cases.specs.Calls.{merging, merged, Case, surveyed, turnCall, mergeCall, keptBuffer, turnCase}
 
 -- ---- plans
@@ -57,8 +57,8 @@ inSecond place = surveyWord 7 ∷ yearWord 2026 ∷ positionWord 1 1 ∷ placeWo
 abbrev pub ends : Tables → List ℕ → List ℕ → List ℕ → ℕ → List ℕ → Case
 ends t plan from threshold steps list = turnCase (turnCall t plan from 100 threshold 128) Done steps [] list
 
-abbrev pub goes : List ℕ → List ℕ → List ℕ → ℕ → List ℕ → List ℕ → Case
-goes plan from threshold steps to list = turnCase (turnCall wood plan from steps threshold 128) Spent steps to list
+abbrev pub goesPast : List ℕ → List ℕ → List ℕ → ℕ → List ℕ → List ℕ → Case
+goesPast plan from threshold steps to list = turnCase (turnCall wood plan from steps threshold 128) Spent steps to list
 
 -- a list merged into the row n2 i310, which stays
 abbrev pub stays : List ℕ → Case
@@ -71,10 +71,10 @@ stays list = (
 abbrev pub ofPrunings : List Case
 ofPrunings =
     -- a first turn of six steps lists n2 i310, and the rest takes four
-    goes largest atDiameters [] 6 sixOn (stem 2 310)
+    goesPast largest atDiameters [] 6 sixOn (stem 2 310)
     ∷ ends wood largest sixOn [] 4 (stem 3 310)
     -- with that row as threshold it takes two: n3, equal in all keys, is passed over in a step, and the second is done
-    ∷ goes largest sixOn (stem 2 310) 1 (stateAt (6 ∷ [])) []
+    ∷ goesPast largest sixOn (stem 2 310) 1 (stateAt (6 ∷ [])) []
     ∷ ends wood largest sixOn (stem 2 310) 2 []
     -- merged, the list is the same
     ∷ stays (stem 3 310)
@@ -92,14 +92,14 @@ ofPrunings =
 abbrev pub ofKnownKeys : List Case
 ofKnownKeys =
     -- nothing is pruned on a key that is not known: at the first pattern the diameter is not, and the level opens
-    goes diameterSecond start (stem 2 310) 1 (stateAt (0 ∷ 1 ∷ [])) []
-    ∷ ends wood diameterSecond start (stem 2 310) 10 []
+    goesPast diameterSecond startOfA (stem 2 310) 1 (stateAt (0 ∷ 1 ∷ [])) []
+    ∷ ends wood diameterSecond startOfA (stem 2 310) 10 []
     -- ?0 is known there: n3 comes after n2 whatever its diameter; n2 is equal, and its diameter is not known: it is finished
-    ∷ goes byStem start (stem 2 310) 6 (stateAt (2 ∷ [])) (stem 1 45)
-    ∷ goes byStem (stateAt (2 ∷ [])) (stem 2 310) 1 (stateAt (3 ∷ [])) []
-    ∷ ends wood byStem start (stem 2 310) 8 (stem 1 45)
+    ∷ goesPast byStem startOfA (stem 2 310) 6 (stateAt (2 ∷ [])) (stem 1 45)
+    ∷ goesPast byStem (stateAt (2 ∷ [])) (stem 2 310) 1 (stateAt (3 ∷ [])) []
+    ∷ ends wood byStem startOfA (stem 2 310) 8 (stem 1 45)
     -- a key that the branch never binds is known: unbound comes last by a falling key, and each of three places is passed over in a step
-    ∷ goes withoutKey (inSecond 0) (stem 2 310) 3 (inSecond 3) []
+    ∷ goesPast withoutKey (inSecond 0) (stem 2 310) 3 (inSecond 3) []
     ∷ ends wood withoutKey (inSecond 0) (stem 2 310) 4 []
     ∷ ends wood withoutKey (inSecond 0) [] 10 (name 1 ∷ unbound ∷ [])
     -- by value, not by word: with i0, i1 and i-1, rising, and n1 i0 as threshold, n3 i-1 is the one that is finished

@@ -8,7 +8,7 @@ use Rattle.words.specs.Words.{notKind, comparisonKind, atLeast, rowsKind, topKi
 use Rattle.words.specs.Sequences.{over}
 use Rattle.turns.specs.declared.TurnEnding.the-variants.{Done}
 use Rattle.worked_cases.specs.Wood.{i2026, wood, withRows, withOsp, always, rows01, topFalling, planWith, planA}
-use Rattle.worked_cases.specs.Wood.{planTop, planGroup, stateAt, start, stem}
+use Rattle.worked_cases.specs.Wood.{planTop, planGroup, stateAt, startOfA, stem}
 use Rattle.worked_cases.specs.Calls.{opening, opened, merging, merged, Case, surveyed, stateBuffer, keptBuffer, turnCall, mergeCall, turnCase}
 use Rattle.worked_cases.specs.Calls.{notOpened, notTurned, notMerged}
 
@@ -47,7 +47,7 @@ ofPlans =
     ∷ wrongPlan (planWith (word comparisonKind 6 ∷ variable 1 ∷ number 70 ∷ []) rows01) 5
     ∷ wrongPlan (planWith (word comparisonKind 0 ∷ variable 1 ∷ []) []) 5
     -- 8 deep passes, 9 deep does not
-    ∷ (opening (surveyed wood) (planWith seven rows01) (replicate 11 7), opened (record { answer = Words 4; state = stateBuffer start }))
+    ∷ (opening (surveyed wood) (planWith seven rows01) (replicate 11 7), opened (record { answer = Words 4; state = stateBuffer startOfA }))
     ∷ wrongPlan (planWith (word notKind 0 ∷ seven) rows01) 5
     ∷ wrongPlan (planWith always (topFalling 65)) 5
     ∷ wrongPlan (planWith always (word topKind 1 ∷ rows01)) 5
@@ -67,13 +67,13 @@ ofPlans =
 abbrev pub ofTurns : List Case
 ofTurns =
     notOpened wood planA (replicate 10 7) 7
-    ∷ notTurned (turnCall wood planA start 10 [] 1) 7
-    ∷ notTurned (turnCall wood planTop start 10 [] 1) 7
-    ∷ notTurned (turnCall wood planGroup start 10 [] 7) 7
+    ∷ notTurned (turnCall wood planA startOfA 10 [] 1) 7
+    ∷ notTurned (turnCall wood planTop startOfA 10 [] 1) 7
+    ∷ notTurned (turnCall wood planGroup startOfA 10 [] 7) 7
     ∷ notTurned
-    (record { survey = surveyed wood; plan = planA; state = over start (replicate 10 7); given = 4; quantum = 0; threshold = []; output = replicate 2 9 }) 7
-    ∷ notTurned (turnCall wood planA start 0 [] 2) 8
-    ∷ notTurned (turnCall wood planA start 1000001 [] 2) 8
+    (record { survey = surveyed wood; plan = planA; state = over startOfA (replicate 10 7); given = 4; quantum = 0; threshold = []; output = replicate 2 9 }) 7
+    ∷ notTurned (turnCall wood planA startOfA 0 [] 2) 8
+    ∷ notTurned (turnCall wood planA startOfA 1000001 [] 2) 8
     -- no words; a depth above the patterns; a branch that is not there; a place too few; a wrong kind; more words than the buffer has
     ∷ notTurned (turnCall wood planA [] 5 [] 2) 9
     ∷ notTurned (turnCall wood planA (stateAt (0 ∷ 2 ∷ 3 ∷ [])) 5 [] 2) 9
@@ -81,17 +81,17 @@ ofTurns =
     ∷ notTurned (turnCall wood planA (surveyWord 7 ∷ yearWord 2026 ∷ positionWord 0 2 ∷ placeWord 0 ∷ []) 5 [] 2) 9
     ∷ notTurned (turnCall wood planA (surveyWord 7 ∷ yearWord 2026 ∷ word placeKind 1 ∷ placeWord 0 ∷ []) 5 [] 2) 9
     ∷ notTurned
-    (record { survey = surveyed wood; plan = planA; state = stateBuffer start; given = 12; quantum = 5; threshold = []; output = replicate 2 9 }) 9
+    (record { survey = surveyed wood; plan = planA; state = stateBuffer startOfA; given = 12; quantum = 5; threshold = []; output = replicate 2 9 }) 9
     -- a place below its range; an upper place that is no row of its range
     ∷ notTurned (turnCall wood planA (stateAt (1 ∷ 2 ∷ [])) 5 [] 2) 10
     ∷ notTurned (turnCall wood planA (stateAt (3 ∷ 5 ∷ [])) 5 [] 2) 10
     -- a threshold with rows; of one word; with a variable. Unbound may stand in one
-    ∷ notTurned (turnCall wood planA start 5 (stem 1 45) 2) 11
-    ∷ notTurned (turnCall wood planTop start 5 (name 1 ∷ []) 2) 11
-    ∷ notTurned (turnCall wood planTop start 5 (name 1 ∷ variable 1 ∷ []) 2) 11
-    ∷ turnCase (turnCall wood planTop start 100 (name 1 ∷ unbound ∷ []) 2) Done 10 [] (stem 2 310)
+    ∷ notTurned (turnCall wood planA startOfA 5 (stem 1 45) 2) 11
+    ∷ notTurned (turnCall wood planTop startOfA 5 (name 1 ∷ []) 2) 11
+    ∷ notTurned (turnCall wood planTop startOfA 5 (name 1 ∷ variable 1 ∷ []) 2) 11
+    ∷ turnCase (turnCall wood planTop startOfA 100 (name 1 ∷ unbound ∷ []) 2) Done 10 [] (stem 2 310)
     -- equal in all keys is not strictly before
-    ∷ turnCase (turnCall wood planTop start 100 (stem 9 310) 2) Done 10 [] []
+    ∷ turnCase (turnCall wood planTop startOfA 100 (stem 9 310) 2) Done 10 [] []
     ∷ []
 
 -- ---- merging, 12 to 14

@@ -71,12 +71,12 @@ atLeast70 = word comparisonKind atLeast ∷ variable 1 ∷ number 70 ∷ []
 abbrev pub atLeast1000 : List ℕ
 atLeast1000 = word comparisonKind atLeast ∷ variable 1 ∷ number 1000 ∷ []
 
-abbrev pub isLess : ℕ → ℕ → List ℕ
-isLess a b = word comparisonKind lessThan ∷ a ∷ b ∷ []
+abbrev pub lessWords : ℕ → ℕ → List ℕ
+lessWords a b = word comparisonKind lessThan ∷ a ∷ b ∷ []
 
 -- n1 < i5, an error
 abbrev pub wrongKinds : List ℕ
-wrongKinds = isLess (name 1) (number 5)
+wrongKinds = lessWords (name 1) (number 5)
 
 abbrev pub notError : List ℕ
 notError = word notKind 0 ∷ wrongKinds
@@ -126,29 +126,29 @@ planUnbound = word headKind 2 ∷ (branchA always ++ (branchB ++ topRising 1))
 
 -- ---- states and rows
 -- a state of branch 0 at some places, over survey 7: in a year, and in that of the wood
-abbrev pub stateOf : ℕ → List ℕ → List ℕ
-stateOf year places = surveyWord 7 ∷ yearWord year ∷ positionWord 0 (length places) ∷ map placeWord places
+abbrev pub yearState : ℕ → List ℕ → List ℕ
+yearState year places = surveyWord 7 ∷ yearWord year ∷ positionWord 0 (length places) ∷ map placeWord places
 
 abbrev pub stateAt : List ℕ → List ℕ
-stateAt places = stateOf 2026 places
+stateAt places = yearState 2026 places
 
 -- without rows the year is 0
 abbrev pub startOfNothing : List ℕ
-startOfNothing = stateOf 0 (0 ∷ [])
+startOfNothing = yearState 0 (0 ∷ [])
 
-abbrev pub start : List ℕ
-start = stateAt (0 ∷ [])
+abbrev pub startOfA : List ℕ
+startOfA = stateAt (0 ∷ [])
 
 -- the record of no rows, and that of the three stems
-abbrev pub nothing : List ℕ
-nothing = 0 ∷ 0 ∷ 0 ∷ 0 ∷ 0 ∷ 0 ∷ unbound ∷ unbound ∷ []
+abbrev pub noRowsRecord : List ℕ
+noRowsRecord = 0 ∷ 0 ∷ 0 ∷ 0 ∷ 0 ∷ 0 ∷ unbound ∷ unbound ∷ []
 
 abbrev pub threeStems : List ℕ
 threeStems = 3 ∷ 0 ∷ 3 ∷ 0 ∷ 665 ∷ 0 ∷ number 45 ∷ number 310 ∷ []
 
 -- the record of one row, with the words of its sum and its number
-abbrev pub summed : ℕ → ℕ → ℕ → List ℕ
-summed low high n = 1 ∷ 0 ∷ 1 ∷ 0 ∷ low ∷ high ∷ n ∷ n ∷ []
+abbrev pub oneSummed : ℕ → ℕ → ℕ → List ℕ
+oneSummed low high n = 1 ∷ 0 ∷ 1 ∷ 0 ∷ low ∷ high ∷ n ∷ n ∷ []
 
 -- a row of a stem and its diameter
 abbrev pub stem : ℕ → ℕ → List ℕ

@@ -13,12 +13,12 @@ planAWith condition =
     0x10000001 ∷ 0x20000002 ∷ 0xC0000000 ∷ 0x0000000A ∷ 0x00000064 ∷ 0xC0000000 ∷ 0x0000000C ∷ 0xC0000001
     ∷ (condition ++ ending01)
 
-abbrev pub keeps : List ℕ → List ℕ → Case
-keeps condition rows = wholeFrom stems (planAWith condition) (atPlace 0xF0000000) 10 rows
+abbrev pub keepsRows : List ℕ → List ℕ → Case
+keepsRows condition rows = wholeFrom stems (planAWith condition) (atPlace 0xF0000000) 10 rows
 
 -- the rows that may be kept: none; n1 i45; n2 i310 and n3 i310; all three
-abbrev pub nothing : List ℕ
-nothing = []
+abbrev pub noneKept : List ℕ
+noneKept = []
 
 abbrev pub thin : List ℕ
 thin = stem1
@@ -32,10 +32,10 @@ every = stem1 ++ (stem2 ++ stem3)
 -- ---- the six comparisons: what ?1 o i45, ?1 o i310, i45 o ?1 and i310 o ?1 keep. No two lines are alike
 abbrev pub compares : ℕ → List ℕ → List ℕ → List ℕ → List ℕ → List Case
 compares o a b c d =
-    keeps (o ∷ 0xC0000001 ∷ 0x4000002D ∷ []) a
-    ∷ keeps (o ∷ 0xC0000001 ∷ 0x40000136 ∷ []) b
-    ∷ keeps (o ∷ 0x4000002D ∷ 0xC0000001 ∷ []) c
-    ∷ keeps (o ∷ 0x40000136 ∷ 0xC0000001 ∷ []) d
+    keepsRows (o ∷ 0xC0000001 ∷ 0x4000002D ∷ []) a
+    ∷ keepsRows (o ∷ 0xC0000001 ∷ 0x40000136 ∷ []) b
+    ∷ keepsRows (o ∷ 0x4000002D ∷ 0xC0000001 ∷ []) c
+    ∷ keepsRows (o ∷ 0x40000136 ∷ 0xC0000001 ∷ []) d
     ∷ []
 
 abbrev pub sixComparisons : List Case
@@ -43,9 +43,9 @@ sixComparisons =
     flatten
     (compares 0x70000000 thin thick thin thick  -- =
     ∷ compares 0x70000001 thick thin thick thin  -- ≠
-    ∷ compares 0x70000002 nothing thin thick nothing  -- <
+    ∷ compares 0x70000002 noneKept thin thick noneKept  -- <
     ∷ compares 0x70000003 thin every every thick  -- ≤
-    ∷ compares 0x70000004 thick nothing nothing thin  -- >
+    ∷ compares 0x70000004 thick noneKept noneKept thin  -- >
     ∷ compares 0x70000005 every thick thin every  -- ≥
     ∷ [])
 
@@ -53,16 +53,16 @@ sixComparisons =
 -- an error keeps none either way
 abbrev pub keptBy : Truth → List ℕ
 keptBy True = every
-keptBy False = nothing
-keptBy Error = nothing
+keptBy False = noneKept
+keptBy Error = noneKept
 
 abbrev pub keptUnderNot : Truth → List ℕ
-keptUnderNot True = nothing
+keptUnderNot True = noneKept
 keptUnderNot False = every
-keptUnderNot Error = nothing
+keptUnderNot Error = noneKept
 
 abbrev pub hasTruth : List ℕ → Truth → List Case
-hasTruth condition a = keeps condition (keptBy a) ∷ keeps (0x60000000 ∷ condition) (keptUnderNot a) ∷ []
+hasTruth condition a = keepsRows condition (keptBy a) ∷ keepsRows (0x60000000 ∷ condition) (keptUnderNot a) ∷ []
 
 -- two terms: their equality, and whether the first is less than the second
 abbrev pub twoTerms : ℕ → ℕ → Truth → Truth → List Case
@@ -122,8 +122,8 @@ connectives =
 abbrev pub nested : List Case
 nested =
     hasTruth (0x30000000 ∷ []) True
-    ++ (keeps (0x40000000 ∷ 0x70000005 ∷ 0xC0000001 ∷ 0x40000046 ∷ 0x70000002 ∷ 0xC0000001 ∷ 0x40000136 ∷ []) nothing
-    ∷ keeps (0x50000000 ∷ 0x70000005 ∷ 0xC0000001 ∷ 0x40000136 ∷ 0x70000002 ∷ 0xC0000001 ∷ 0x40000046 ∷ []) every
-    ∷ keeps (0x60000000 ∷ 0x70000005 ∷ 0xC0000001 ∷ 0x40000046 ∷ []) thin
-    ∷ keeps (0x60000000 ∷ 0x60000000 ∷ 0x70000005 ∷ 0xC0000001 ∷ 0x40000046 ∷ []) thick
+    ++ (keepsRows (0x40000000 ∷ 0x70000005 ∷ 0xC0000001 ∷ 0x40000046 ∷ 0x70000002 ∷ 0xC0000001 ∷ 0x40000136 ∷ []) noneKept
+    ∷ keepsRows (0x50000000 ∷ 0x70000005 ∷ 0xC0000001 ∷ 0x40000136 ∷ 0x70000002 ∷ 0xC0000001 ∷ 0x40000046 ∷ []) every
+    ∷ keepsRows (0x60000000 ∷ 0x70000005 ∷ 0xC0000001 ∷ 0x40000046 ∷ []) thin
+    ∷ keepsRows (0x60000000 ∷ 0x60000000 ∷ 0x70000005 ∷ 0xC0000001 ∷ 0x40000046 ∷ []) thick
     ∷ [])

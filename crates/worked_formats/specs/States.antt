@@ -53,35 +53,36 @@ throughBranches =
     ∷ []
 
 -- ---- two years: (n2,n12,i310) in 2025, (n2,n12,i330) in 2026; the plan is ?0 n12 ?1, with the word of every year before its head
-abbrev pub twoYears : Tables
-twoYears =
+abbrev pub measuredTwice : Tables
+measuredTwice =
     tablesOf (0x400007E9 ∷ 0x00000002 ∷ 0x0000000C ∷ 0x40000136 ∷ 0x400007EA ∷ 0x00000002 ∷ 0x0000000C ∷ 0x4000014A ∷ [])
     (0 ∷ 1 ∷ []) (0 ∷ 1 ∷ [])
 
-abbrev pub goesOn : List ℕ → List ℕ → List ℕ → Case
-goesOn from to list = turnCase (turnCall twoYears (0x00000000 ∷ allDiameters ending01) from 1 [] 128) Spent 1 to list
+abbrev pub oneStep : List ℕ → List ℕ → List ℕ → Case
+oneStep from to list = turnCase (turnCall measuredTwice (0x00000000 ∷ allDiameters ending01) from 1 [] 128) Spent 1 to list
 
 abbrev pub throughYears : List Case
 throughYears =
-    opensTo twoYears (0x00000000 ∷ allDiameters ending01) (0xD0000007 ∷ 0x000007E9 ∷ 0xE0000001 ∷ 0xF0000000 ∷ [])
-    ∷ goesOn (ofYear 0x000007E9 (0xE0000001 ∷ 0xF0000000 ∷ [])) (ofYear 0x000007E9 (0xE0000001 ∷ 0xF0000001 ∷ [])) (0x00000002 ∷ 0x40000136 ∷ [])
+    opensTo measuredTwice (0x00000000 ∷ allDiameters ending01) (0xD0000007 ∷ 0x000007E9 ∷ 0xE0000001 ∷ 0xF0000000 ∷ [])
+    ∷ oneStep (ofYear 0x000007E9 (0xE0000001 ∷ 0xF0000000 ∷ [])) (ofYear 0x000007E9 (0xE0000001 ∷ 0xF0000001 ∷ [])) (0x00000002 ∷ 0x40000136 ∷ [])
     -- the end of 2025 and the start of 2026 are the same place
-    ∷ goesOn (ofYear 0x000007E9 (0xE0000001 ∷ 0xF0000001 ∷ [])) (ofYear 0x000007EA (0xE0000001 ∷ 0xF0000001 ∷ [])) []
-    ∷ goesOn (ofYear 0x000007EA (0xE0000001 ∷ 0xF0000001 ∷ [])) (ofYear 0x000007EA (0xE0000001 ∷ 0xF0000002 ∷ [])) (0x00000002 ∷ 0x4000014A ∷ [])
-    ∷ turnCase (turnCall twoYears (0x00000000 ∷ allDiameters ending01) (in2026 (0xE0000001 ∷ 0xF0000002 ∷ [])) 1 [] 128) Done 1 [] []
+    ∷ oneStep (ofYear 0x000007E9 (0xE0000001 ∷ 0xF0000001 ∷ [])) (ofYear 0x000007EA (0xE0000001 ∷ 0xF0000001 ∷ [])) []
+    ∷ oneStep (ofYear 0x000007EA (0xE0000001 ∷ 0xF0000001 ∷ [])) (ofYear 0x000007EA (0xE0000001 ∷ 0xF0000002 ∷ [])) (0x00000002 ∷ 0x4000014A ∷ [])
+    ∷ turnCase (turnCall measuredTwice (0x00000000 ∷ allDiameters ending01) (in2026 (0xE0000001 ∷ 0xF0000002 ∷ [])) 1 [] 128) Done 1 [] []
     -- a place of the other year: 10
-    ∷ notTurned (turnCall twoYears (0x00000000 ∷ allDiameters ending01) (ofYear 0x000007E9 (0xE0000001 ∷ 0xF0000002 ∷ [])) 1 [] 128) 10
-    ∷ notTurned (turnCall twoYears (0x00000000 ∷ allDiameters ending01) (ofYear 0x000007EA (0xE0000001 ∷ 0xF0000000 ∷ [])) 1 [] 128) 10
+    ∷ notTurned (turnCall measuredTwice (0x00000000 ∷ allDiameters ending01) (ofYear 0x000007E9 (0xE0000001 ∷ 0xF0000002 ∷ [])) 1 [] 128) 10
+    ∷ notTurned (turnCall measuredTwice (0x00000000 ∷ allDiameters ending01) (ofYear 0x000007EA (0xE0000001 ∷ 0xF0000000 ∷ [])) 1 [] 128) 10
     ∷ []
 
 -- the latest year; 2025, which is named; 2024 and 2027, which have no rows
 abbrev pub singleYears : List Case
 singleYears =
     flatten
-    (wholeRun twoYears (allDiameters ending01) (ofYear 0x000007EA (0xE0000001 ∷ 0xF0000001 ∷ [])) 2 (0x00000002 ∷ 0x4000014A ∷ [])
-    ∷ wholeRun twoYears (0x000007E9 ∷ allDiameters ending01) (ofYear 0x000007E9 (0xE0000001 ∷ 0xF0000000 ∷ [])) 2 (0x00000002 ∷ 0x40000136 ∷ [])
-    ∷ wholeRun twoYears (0x000007E8 ∷ allDiameters ending01) (ofYear 0x000007E8 (0xE0000001 ∷ 0xF0000000 ∷ [])) 1 []
-    ∷ wholeRun twoYears (0x000007EB ∷ allDiameters ending01) (ofYear 0x000007EB (0xE0000001 ∷ 0xF0000002 ∷ [])) 1 []
+    (wholeRun measuredTwice (allDiameters ending01) (ofYear 0x000007EA (0xE0000001 ∷ 0xF0000001 ∷ [])) 2 (0x00000002 ∷ 0x4000014A ∷ [])
+    ∷ wholeRun measuredTwice (0x000007E9 ∷ allDiameters ending01) (ofYear 0x000007E9 (0xE0000001 ∷ 0xF0000000 ∷ [])) 2
+    (0x00000002 ∷ 0x40000136 ∷ [])
+    ∷ wholeRun measuredTwice (0x000007E8 ∷ allDiameters ending01) (ofYear 0x000007E8 (0xE0000001 ∷ 0xF0000000 ∷ [])) 1 []
+    ∷ wholeRun measuredTwice (0x000007EB ∷ allDiameters ending01) (ofYear 0x000007EB (0xE0000001 ∷ 0xF0000002 ∷ [])) 1 []
     ∷ [])
 
 -- ---- the most branches and the most patterns: three branches ?0 n11 n100, which are empty, and one of ?0 n10 n100 eight times

@@ -1,7 +1,7 @@
 -- Every case of the tables of thresholds, kept lists and turns' lists holds, by computation.
 use mathlib.Core.Path.{refl}
 use Rattle.worked_cases.specs.Calls.{Hold}
-use Rattle.worked_limits.specs.Faults.{thresholds, keptLengths, bestFaults, groupFaults, totalsPast, keptRoom}
+use Rattle.worked_limits.specs.Faults.{thresholds, keptLengths, bestFaults, groupFaults, totalsPast, keptBuffers}
 use Rattle.worked_cases.proofs.Holds.{computing}
 use Rattle.worked_cases.proofs.ByOutcomes.{by-outcomes}
 
@@ -28,6 +28,6 @@ pub totals-past-hold : Hold totalsPast
 unfolding computing
 totals-past-hold = by-outcomes totalsPast refl
 
-pub kept-room-hold : Hold keptRoom
+pub kept-room-hold : Hold keptBuffers
 unfolding computing
-kept-room-hold = by-outcomes keptRoom refl
+kept-room-hold = by-outcomes keptBuffers refl

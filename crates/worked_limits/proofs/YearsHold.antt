@@ -1,7 +1,7 @@
 -- Every case of the tables of the years that rows and plans may have, and of the places of years, holds, by computation.
 use mathlib.Core.Path.{refl}
 use Rattle.worked_cases.specs.Calls.{Hold}
-use Rattle.worked_limits.specs.YearLimits.{ofRows, ofPlans}
+use Rattle.worked_limits.specs.YearLimits.{ofRows, ofPlanYears}
 use Rattle.worked_limits.specs.YearPlaces.{yearOrders, yearRanges, betweenYears, yearLists}
 use Rattle.worked_cases.proofs.Holds.{computing}
 use Rattle.worked_cases.proofs.ByOutcomes.{by-outcomes}
@@ -10,9 +10,9 @@ pub of-rows-hold : Hold ofRows
 unfolding computing
 of-rows-hold = by-outcomes ofRows refl
 
-pub of-plans-hold : Hold ofPlans
+pub of-plans-hold : Hold ofPlanYears
 unfolding computing
-of-plans-hold = by-outcomes ofPlans refl
+of-plans-hold = by-outcomes ofPlanYears refl
 
 pub year-orders-hold : Hold yearOrders
 unfolding computing

@@ -12,17 +12,10 @@ use Rattle.turns.specs.declared.TurnEnding.the-variants.{Done, Spent}
 use Rattle.turns.specs.Opening.{openOf}
 use Rattle.cuts.specs.Histories.{Event, turns, merges, Phone, fresh, history}
 use Rattle.worked_cases.specs.Calls.{merging, merged, running, ran, Case, surveyed, turnCall, turnCase, mergeCall, keptBuffer}
-use Rattle.worked_cases.specs.Literals.{stems, ofYear, atPlace, opensTo, wholeFrom}
-use Rattle.worked_limits.specs.Faults.{nothing}
+use Rattle.worked_cases.specs.Literals.{stems, bare, inBare, atPlace, opensTo, wholeFrom}
+use Rattle.worked_limits.specs.Faults.{recordOfNone}
 
--- ---- tables and plans
-abbrev pub bare : Tables
-bare = record { rows = []; pos = []; osp = [] }
-
--- its only state, of year 0
-abbrev pub inBare : List ℕ
-inBare = ofYear 0x00000000 (0xE0000001 ∷ 0xF0000000 ∷ [])
-
+-- ---- plans
 -- plan A's patterns, ?0 n10 n100, ?0 n12 ?1, with a condition and an ending
 abbrev pub stemsWith : List ℕ → List ℕ → List ℕ
 stemsWith condition ending =
@@ -41,12 +34,12 @@ noStem = 0x70000005 ∷ 0xC0000001 ∷ 0x400003E8 ∷ []
 abbrev pub oneGroup : List ℕ
 oneGroup = 0xC0000000 ∷ 0xC0000001 ∷ []
 
-abbrev pub groups0 : List ℕ
-groups0 = 0xC0000001 ∷ 0xC0000000 ∷ 0xC0000001 ∷ []
+abbrev pub groupsByStem : List ℕ
+groupsByStem = 0xC0000001 ∷ 0xC0000000 ∷ 0xC0000001 ∷ []
 
 -- rows 3, numbers 3, sum 665, least i45, greatest i310
-abbrev pub threeStems : List ℕ
-threeStems = 3 ∷ 0 ∷ 3 ∷ 0 ∷ 0x00000299 ∷ 0 ∷ 0x4000002D ∷ 0x40000136 ∷ []
+abbrev pub totalsOfStems : List ℕ
+totalsOfStems = 3 ∷ 0 ∷ 3 ∷ 0 ∷ 0x00000299 ∷ 0 ∷ 0x4000002D ∷ 0x40000136 ∷ []
 
 -- a list merged into a kept one, and what is then kept
 abbrev pub adds : List ℕ → List ℕ → List ℕ → Case
@@ -59,27 +52,27 @@ abbrev pub closings : List Case
 closings =
     -- a wood without rows: done after 1 step, with the record, in an output of just its words; the uncut run has it at its end and not before
     opensTo bare (stemsWith anyStem oneGroup) inBare
-    ∷ turnCase (turnCall bare (stemsWith anyStem oneGroup) inBare 1 [] 8) Done 1 [] nothing
+    ∷ turnCase (turnCall bare (stemsWith anyStem oneGroup) inBare 1 [] 8) Done 1 [] recordOfNone
     ∷ (running bare (stemsWith anyStem oneGroup) 0, ran (some (inYear 0 (record { branch = 0; upper = []; place = 0 }))) [])
-    ∷ (running bare (stemsWith anyStem oneGroup) 1, ran none nothing)
+    ∷ (running bare (stemsWith anyStem oneGroup) 1, ran none recordOfNone)
     -- by one variable there is no group; nor is there a row or a best row
-    ∷ wholeFrom bare (stemsWith anyStem groups0) inBare 1 []
+    ∷ wholeFrom bare (stemsWith anyStem groupsByStem) inBare 1 []
     ∷ wholeFrom bare (stemsWith anyStem (0x80000001 ∷ 0xC0000001 ∷ [])) inBare 1 []
     ∷ wholeFrom bare (stemsWith anyStem (0x90000001 ∷ 0x80000001 ∷ 0xC0000001 ∷ 0xA0000001 ∷ [])) inBare 1 []
     -- no stem passes: whole in 10 steps; cut at 9 the first turn has no list, and the last one the record
-    ∷ wholeFrom stems (stemsWith noStem oneGroup) (atPlace 0xF0000000) 10 nothing
+    ∷ wholeFrom stems (stemsWith noStem oneGroup) (atPlace 0xF0000000) 10 recordOfNone
     ∷ turnCase (turnCall stems (stemsWith noStem oneGroup) (atPlace 0xF0000000) 9 [] 8) Spent 9 (atPlace 0xF0000003) []
-    ∷ turnCase (turnCall stems (stemsWith noStem oneGroup) (atPlace 0xF0000003) 1 [] 8) Done 1 [] nothing
-    ∷ wholeFrom stems (stemsWith noStem groups0) (atPlace 0xF0000000) 10 []
+    ∷ turnCase (turnCall stems (stemsWith noStem oneGroup) (atPlace 0xF0000003) 1 [] 8) Done 1 [] recordOfNone
+    ∷ wholeFrom stems (stemsWith noStem groupsByStem) (atPlace 0xF0000000) 10 []
     -- all stems pass: whole in 10 steps, one record; cut at 9 the first turn has it, and the last one, without a row of its own, that of no rows
-    ∷ wholeFrom stems (stemsWith anyStem oneGroup) (atPlace 0xF0000000) 10 threeStems
-    ∷ turnCase (turnCall stems (stemsWith anyStem oneGroup) (atPlace 0xF0000000) 9 [] 8) Spent 9 (atPlace 0xF0000003) threeStems
-    ∷ turnCase (turnCall stems (stemsWith anyStem oneGroup) (atPlace 0xF0000003) 1 [] 8) Done 1 [] nothing
+    ∷ wholeFrom stems (stemsWith anyStem oneGroup) (atPlace 0xF0000000) 10 totalsOfStems
+    ∷ turnCase (turnCall stems (stemsWith anyStem oneGroup) (atPlace 0xF0000000) 9 [] 8) Spent 9 (atPlace 0xF0000003) totalsOfStems
+    ∷ turnCase (turnCall stems (stemsWith anyStem oneGroup) (atPlace 0xF0000003) 1 [] 8) Done 1 [] recordOfNone
     -- merged: alone it is kept, twice it is the same, and beside another record it adds nothing
-    ∷ adds [] nothing nothing
-    ∷ adds nothing nothing nothing
-    ∷ adds threeStems nothing threeStems
-    ∷ adds nothing threeStems threeStems
+    ∷ adds [] recordOfNone recordOfNone
+    ∷ adds recordOfNone recordOfNone recordOfNone
+    ∷ adds totalsOfStems recordOfNone totalsOfStems
+    ∷ adds recordOfNone totalsOfStems totalsOfStems
     ∷ []
 
 -- ---- two queries cut at 9 of their 10 steps, each turn's list merged
@@ -102,7 +95,7 @@ doneWith list kept =
       saved = [];
       taken =
           record { quantum = 9; sent = []; ending = Spent; steps = 9; list = list; left = atPlace 0xF0000003 }
-          ∷ record { quantum = 9; sent = []; ending = Done; steps = 1; list = nothing; left = [] }
+          ∷ record { quantum = 9; sent = []; ending = Done; steps = 1; list = recordOfNone; left = [] }
           ∷ [];
       waiting = [];
       kept = kept;

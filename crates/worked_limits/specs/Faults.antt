@@ -112,16 +112,16 @@ bestFaults =
     ∷ [])
 
 -- a record of no key: rows, numbers and sum, low word first, least and greatest
-abbrev pub totalsOf : ℕ → ℕ → ℕ → ℕ → ℕ → ℕ → ℕ → ℕ → List ℕ
-totalsOf r s n m x y least greatest = r ∷ s ∷ n ∷ m ∷ x ∷ y ∷ least ∷ greatest ∷ []
+abbrev pub totalsLiteral : ℕ → ℕ → ℕ → ℕ → ℕ → ℕ → ℕ → ℕ → List ℕ
+totalsLiteral r s n m x y least greatest = r ∷ s ∷ n ∷ m ∷ x ∷ y ∷ least ∷ greatest ∷ []
 
 -- one row without a number
 abbrev pub plainRow : List ℕ
-plainRow = totalsOf 1 0 0 0 0 0 0xC0000000 0xC0000000
+plainRow = totalsLiteral 1 0 0 0 0 0 0xC0000000 0xC0000000
 
 -- the record of no rows
-abbrev pub nothing : List ℕ
-nothing = totalsOf 0 0 0 0 0 0 0xC0000000 0xC0000000
+abbrev pub recordOfNone : List ℕ
+recordOfNone = totalsLiteral 0 0 0 0 0 0 0xC0000000 0xC0000000
 
 abbrev pub groupFaults : List Case
 groupFaults =
@@ -150,40 +150,40 @@ groupFaults =
     ∷ faulty groupsPlan (0xA0000000 ∷ (plainRow ++ (0x9FFFFFFF ∷ plainRow)))
     ∷ faulty oneGroupPlan (plainRow ++ plainRow)
     -- rows 0: one such record passes, and only without keys; 2^32 rows are not 0
-    ∷ mergesWell oneGroupPlan nothing
-    ∷ faulty groupsPlan (0x00000001 ∷ nothing)
-    ∷ faulty groupsPlan (0xC0000000 ∷ nothing)
-    ∷ faulty oneGroupPlan (totalsOf 0 0 1 0 5 0 0x40000005 0x40000005)
-    ∷ faulty oneGroupPlan (totalsOf 0 0 0 0 1 0 0xC0000000 0xC0000000)
-    ∷ faulty oneGroupPlan (totalsOf 0 0 0 0 0 0 0x40000000 0xC0000000)
-    ∷ faulty oneGroupPlan (totalsOf 0 0 0 0 0 0 0x00000000 0x00000000)
-    ∷ faulty oneGroupPlan (totalsOf 0 0 0 0 0 0 0xC0000000 0x40000000)
-    ∷ faulty oneGroupPlan (nothing ++ nothing)
-    ∷ mergesWell oneGroupPlan (totalsOf 0 1 0 0 0 0 0xC0000000 0xC0000000)
+    ∷ mergesWell oneGroupPlan recordOfNone
+    ∷ faulty groupsPlan (0x00000001 ∷ recordOfNone)
+    ∷ faulty groupsPlan (0xC0000000 ∷ recordOfNone)
+    ∷ faulty oneGroupPlan (totalsLiteral 0 0 1 0 5 0 0x40000005 0x40000005)
+    ∷ faulty oneGroupPlan (totalsLiteral 0 0 0 0 1 0 0xC0000000 0xC0000000)
+    ∷ faulty oneGroupPlan (totalsLiteral 0 0 0 0 0 0 0x40000000 0xC0000000)
+    ∷ faulty oneGroupPlan (totalsLiteral 0 0 0 0 0 0 0x00000000 0x00000000)
+    ∷ faulty oneGroupPlan (totalsLiteral 0 0 0 0 0 0 0xC0000000 0x40000000)
+    ∷ faulty oneGroupPlan (recordOfNone ++ recordOfNone)
+    ∷ mergesWell oneGroupPlan (totalsLiteral 0 1 0 0 0 0 0xC0000000 0xC0000000)
     -- numbers above rows, in the low word and in the high one
-    ∷ mergesWell oneGroupPlan (totalsOf 2 0 2 0 5 0 0x40000000 0x40000005)
-    ∷ faulty oneGroupPlan (totalsOf 2 0 3 0 5 0 0x40000000 0x40000005)
-    ∷ faulty oneGroupPlan (totalsOf 2 0 0 1 5 0 0x40000000 0x40000005)
-    ∷ mergesWell oneGroupPlan (totalsOf 0 1 2 0 5 0 0x40000000 0x40000005)
+    ∷ mergesWell oneGroupPlan (totalsLiteral 2 0 2 0 5 0 0x40000000 0x40000005)
+    ∷ faulty oneGroupPlan (totalsLiteral 2 0 3 0 5 0 0x40000000 0x40000005)
+    ∷ faulty oneGroupPlan (totalsLiteral 2 0 0 1 5 0 0x40000000 0x40000005)
+    ∷ mergesWell oneGroupPlan (totalsLiteral 0 1 2 0 5 0 0x40000000 0x40000005)
     -- with numbers 0, a sum not 0, a least or a greatest not unbound
-    ∷ faulty oneGroupPlan (totalsOf 1 0 0 0 1 0 0xC0000000 0xC0000000)
-    ∷ faulty oneGroupPlan (totalsOf 1 0 0 0 0 1 0xC0000000 0xC0000000)
-    ∷ faulty oneGroupPlan (totalsOf 1 0 0 0 0xFFFFFFFF 0xFFFFFFFF 0xC0000000 0xC0000000)
-    ∷ faulty oneGroupPlan (totalsOf 1 0 0 0 0 0 0x40000000 0xC0000000)
-    ∷ faulty oneGroupPlan (totalsOf 1 0 0 0 0 0 0xC0000000 0x40000000)
+    ∷ faulty oneGroupPlan (totalsLiteral 1 0 0 0 1 0 0xC0000000 0xC0000000)
+    ∷ faulty oneGroupPlan (totalsLiteral 1 0 0 0 0 1 0xC0000000 0xC0000000)
+    ∷ faulty oneGroupPlan (totalsLiteral 1 0 0 0 0xFFFFFFFF 0xFFFFFFFF 0xC0000000 0xC0000000)
+    ∷ faulty oneGroupPlan (totalsLiteral 1 0 0 0 0 0 0x40000000 0xC0000000)
+    ∷ faulty oneGroupPlan (totalsLiteral 1 0 0 0 0 0 0xC0000000 0x40000000)
     -- otherwise, a least or a greatest that is no number
-    ∷ mergesWell oneGroupPlan (totalsOf 1 0 1 0 5 0 0x40000005 0x40000005)
-    ∷ faulty oneGroupPlan (totalsOf 1 0 1 0 5 0 0x00000005 0x40000005)
-    ∷ faulty oneGroupPlan (totalsOf 1 0 1 0 5 0 0x80000005 0x40000005)
-    ∷ faulty oneGroupPlan (totalsOf 1 0 1 0 5 0 0xC0000000 0x40000005)
-    ∷ faulty oneGroupPlan (totalsOf 1 0 1 0 5 0 0x40000005 0x00000005)
-    ∷ faulty oneGroupPlan (totalsOf 1 0 1 0 5 0 0x40000005 0x80000005)
-    ∷ faulty oneGroupPlan (totalsOf 1 0 1 0 5 0 0x40000005 0xC0000000)
+    ∷ mergesWell oneGroupPlan (totalsLiteral 1 0 1 0 5 0 0x40000005 0x40000005)
+    ∷ faulty oneGroupPlan (totalsLiteral 1 0 1 0 5 0 0x00000005 0x40000005)
+    ∷ faulty oneGroupPlan (totalsLiteral 1 0 1 0 5 0 0x80000005 0x40000005)
+    ∷ faulty oneGroupPlan (totalsLiteral 1 0 1 0 5 0 0xC0000000 0x40000005)
+    ∷ faulty oneGroupPlan (totalsLiteral 1 0 1 0 5 0 0x40000005 0x00000005)
+    ∷ faulty oneGroupPlan (totalsLiteral 1 0 1 0 5 0 0x40000005 0x80000005)
+    ∷ faulty oneGroupPlan (totalsLiteral 1 0 1 0 5 0 0x40000005 0xC0000000)
     -- or least above greatest
-    ∷ faulty oneGroupPlan (totalsOf 1 0 1 0 5 0 0x40000006 0x40000005)
-    ∷ mergesWell oneGroupPlan (totalsOf 2 0 2 0 11 0 0x40000005 0x40000006)
-    ∷ mergesWell oneGroupPlan (totalsOf 2 0 2 0 0xFFFFFFFF 0xFFFFFFFF 0x7FFFFFFB 0x40000004)
-    ∷ faulty oneGroupPlan (totalsOf 2 0 2 0 0xFFFFFFFF 0xFFFFFFFF 0x40000004 0x7FFFFFFB)
+    ∷ faulty oneGroupPlan (totalsLiteral 1 0 1 0 5 0 0x40000006 0x40000005)
+    ∷ mergesWell oneGroupPlan (totalsLiteral 2 0 2 0 11 0 0x40000005 0x40000006)
+    ∷ mergesWell oneGroupPlan (totalsLiteral 2 0 2 0 0xFFFFFFFF 0xFFFFFFFF 0x7FFFFFFB 0x40000004)
+    ∷ faulty oneGroupPlan (totalsLiteral 2 0 2 0 0xFFFFFFFF 0xFFFFFFFF 0x40000004 0x7FFFFFFB)
     ∷ [])
 
 -- ---- 13: rows would pass 2^64 - 1, or the sum leave -2^63 to 2^63 - 1. Numbers are never above rows, so they pass it only where rows do
@@ -196,30 +196,30 @@ overflows kept list = notMerged (mergeCall oneGroupPlan kept 8 list) 13
 abbrev pub totalsPast : List Case
 totalsPast =
     -- rows
-    addsUp (totalsOf 0xFFFFFFFE 0xFFFFFFFF 0 0 0 0 0xC0000000 0xC0000000) plainRow (totalsOf 0xFFFFFFFF 0xFFFFFFFF 0 0 0 0 0xC0000000 0xC0000000)
-    ∷ overflows (totalsOf 0xFFFFFFFF 0xFFFFFFFF 0 0 0 0 0xC0000000 0xC0000000) plainRow
-    ∷ overflows plainRow (totalsOf 0xFFFFFFFF 0xFFFFFFFF 0 0 0 0 0xC0000000 0xC0000000)
+    addsUp (totalsLiteral 0xFFFFFFFE 0xFFFFFFFF 0 0 0 0 0xC0000000 0xC0000000) plainRow (totalsLiteral 0xFFFFFFFF 0xFFFFFFFF 0 0 0 0 0xC0000000 0xC0000000)
+    ∷ overflows (totalsLiteral 0xFFFFFFFF 0xFFFFFFFF 0 0 0 0 0xC0000000 0xC0000000) plainRow
+    ∷ overflows plainRow (totalsLiteral 0xFFFFFFFF 0xFFFFFFFF 0 0 0 0 0xC0000000 0xC0000000)
     -- rows and numbers
-    ∷ addsUp (totalsOf 0xFFFFFFFE 0xFFFFFFFF 0xFFFFFFFE 0xFFFFFFFF 0 0 0x40000000 0x40000000) (totalsOf 1 0 1 0 0 0 0x40000000 0x40000000)
-    (totalsOf 0xFFFFFFFF 0xFFFFFFFF 0xFFFFFFFF 0xFFFFFFFF 0 0 0x40000000 0x40000000)
-    ∷ overflows (totalsOf 0xFFFFFFFF 0xFFFFFFFF 0xFFFFFFFF 0xFFFFFFFF 0 0 0x40000000 0x40000000) (totalsOf 1 0 1 0 0 0 0x40000000 0x40000000)
+    ∷ addsUp (totalsLiteral 0xFFFFFFFE 0xFFFFFFFF 0xFFFFFFFE 0xFFFFFFFF 0 0 0x40000000 0x40000000) (totalsLiteral 1 0 1 0 0 0 0x40000000 0x40000000)
+    (totalsLiteral 0xFFFFFFFF 0xFFFFFFFF 0xFFFFFFFF 0xFFFFFFFF 0 0 0x40000000 0x40000000)
+    ∷ overflows (totalsLiteral 0xFFFFFFFF 0xFFFFFFFF 0xFFFFFFFF 0xFFFFFFFF 0 0 0x40000000 0x40000000) (totalsLiteral 1 0 1 0 0 0 0x40000000 0x40000000)
     -- the sum, at both ends; from -1 to 0
-    ∷ addsUp (totalsOf 1 0 1 0 0xFFFFFFFE 0x7FFFFFFF 0x40000005 0x40000005) (totalsOf 1 0 1 0 1 0 0x40000001 0x40000001)
-    (totalsOf 2 0 2 0 0xFFFFFFFF 0x7FFFFFFF 0x40000001 0x40000005)
-    ∷ overflows (totalsOf 1 0 1 0 0xFFFFFFFF 0x7FFFFFFF 0x40000005 0x40000005) (totalsOf 1 0 1 0 1 0 0x40000001 0x40000001)
-    ∷ addsUp (totalsOf 1 0 1 0 1 0x80000000 0x7FFFFFFF 0x7FFFFFFF) (totalsOf 1 0 1 0 0xFFFFFFFF 0xFFFFFFFF 0x7FFFFFFF 0x7FFFFFFF)
-    (totalsOf 2 0 2 0 0 0x80000000 0x7FFFFFFF 0x7FFFFFFF)
-    ∷ overflows (totalsOf 1 0 1 0 0xFFFFFFFF 0xFFFFFFFF 0x7FFFFFFF 0x7FFFFFFF) (totalsOf 1 0 1 0 0 0x80000000 0x7FFFFFFF 0x7FFFFFFF)
-    ∷ addsUp (totalsOf 1 0 1 0 0xFFFFFFFF 0xFFFFFFFF 0x7FFFFFFF 0x7FFFFFFF) (totalsOf 1 0 1 0 1 0 0x40000001 0x40000001)
-    (totalsOf 2 0 2 0 0 0 0x7FFFFFFF 0x40000001)
+    ∷ addsUp (totalsLiteral 1 0 1 0 0xFFFFFFFE 0x7FFFFFFF 0x40000005 0x40000005) (totalsLiteral 1 0 1 0 1 0 0x40000001 0x40000001)
+    (totalsLiteral 2 0 2 0 0xFFFFFFFF 0x7FFFFFFF 0x40000001 0x40000005)
+    ∷ overflows (totalsLiteral 1 0 1 0 0xFFFFFFFF 0x7FFFFFFF 0x40000005 0x40000005) (totalsLiteral 1 0 1 0 1 0 0x40000001 0x40000001)
+    ∷ addsUp (totalsLiteral 1 0 1 0 1 0x80000000 0x7FFFFFFF 0x7FFFFFFF) (totalsLiteral 1 0 1 0 0xFFFFFFFF 0xFFFFFFFF 0x7FFFFFFF 0x7FFFFFFF)
+    (totalsLiteral 2 0 2 0 0 0x80000000 0x7FFFFFFF 0x7FFFFFFF)
+    ∷ overflows (totalsLiteral 1 0 1 0 0xFFFFFFFF 0xFFFFFFFF 0x7FFFFFFF 0x7FFFFFFF) (totalsLiteral 1 0 1 0 0 0x80000000 0x7FFFFFFF 0x7FFFFFFF)
+    ∷ addsUp (totalsLiteral 1 0 1 0 0xFFFFFFFF 0xFFFFFFFF 0x7FFFFFFF 0x7FFFFFFF) (totalsLiteral 1 0 1 0 1 0 0x40000001 0x40000001)
+    (totalsLiteral 2 0 2 0 0 0 0x7FFFFFFF 0x40000001)
     -- the carry into the high word
-    ∷ addsUp (totalsOf 0xFFFFFFFF 0 0xFFFFFFFF 0 0xFFFFFFFF 0 0x40000005 0x40000005) (totalsOf 1 0 1 0 1 0 0x40000001 0x40000001)
-    (totalsOf 0 1 0 1 0 1 0x40000001 0x40000005)
+    ∷ addsUp (totalsLiteral 0xFFFFFFFF 0 0xFFFFFFFF 0 0xFFFFFFFF 0 0x40000005 0x40000005) (totalsLiteral 1 0 1 0 1 0 0x40000001 0x40000001)
+    (totalsLiteral 0 1 0 1 0 1 0x40000001 0x40000005)
     ∷ []
 
 -- ---- 14: the kept buffer is too short for the result: two rows, two groups; just long enough
-abbrev pub keptRoom : List Case
-keptRoom =
+abbrev pub keptBuffers : List Case
+keptBuffers =
     notMerged (mergeCall bestTwo (equalRows 1) 3 (equalRows 1)) 14
     ∷ (merging (mergeCall bestTwo (equalRows 1) 4 (equalRows 1)), merged (record { answer = Words 4; kept = equalRows 2 }))
     ∷ notMerged (mergeCall groupsPlan (0x00000001 ∷ plainRow) 17 (0x00000002 ∷ plainRow)) 14
@@ -229,5 +229,5 @@ keptRoom =
     )
     -- no more than k rows, and one record for one group, need no more room
     ∷ (merging (mergeCall bestTwo (equalRows 2) 4 (equalRows 2)), merged (record { answer = Words 4; kept = equalRows 2 }))
-    ∷ addsUp plainRow plainRow (totalsOf 2 0 0 0 0 0 0xC0000000 0xC0000000)
+    ∷ addsUp plainRow plainRow (totalsLiteral 2 0 0 0 0 0 0xC0000000 0xC0000000)
     ∷ []

@@ -27,8 +27,8 @@ sixBound ending =
 abbrev pub allowed : List ℕ → Case
 allowed plan = opensTo stems plan (atPlace 0xF0000000)
 
-abbrev pub beyond : List ℕ → Case
-beyond plan = refuses stems plan 5
+abbrev pub tooMany : List ℕ → Case
+tooMany plan = refuses stems plan 5
 
 -- so many branches of one pattern
 abbrev pub equalBranches : ℕ → List ℕ
@@ -64,49 +64,49 @@ longPlan n =
 abbrev pub ofForm : List Case
 ofForm =
     -- branches, 1 to 4
-    beyond (0x10000000 ∷ ending0)
+    tooMany (0x10000000 ∷ ending0)
     ∷ allowed (0x10000001 ∷ (equalBranches 1 ++ ending0))
     ∷ allowed (0x10000004 ∷ (equalBranches 4 ++ ending0))
-    ∷ beyond (0x10000005 ∷ (equalBranches 5 ++ ending0))
+    ∷ tooMany (0x10000005 ∷ (equalBranches 5 ++ ending0))
     -- patterns, 1 to 8
-    ∷ beyond (0x10000001 ∷ 0x20000000 ∷ (0x30000000 ∷ ending0))
+    ∷ tooMany (0x10000001 ∷ 0x20000000 ∷ (0x30000000 ∷ ending0))
     ∷ allowed (0x10000001 ∷ 0x20000001 ∷ (patterns 1 ++ (0x30000000 ∷ ending0)))
     ∷ allowed (0x10000001 ∷ 0x20000008 ∷ (patterns 8 ++ (0x30000000 ∷ ending0)))
-    ∷ beyond (0x10000001 ∷ 0x20000009 ∷ (patterns 9 ++ (0x30000000 ∷ ending0)))
+    ∷ tooMany (0x10000001 ∷ 0x20000009 ∷ (patterns 9 ++ (0x30000000 ∷ ending0)))
     -- low bits 0 in true, and, or, not
     ∷ allowed (underCondition (0x30000000 ∷ []))
-    ∷ beyond (underCondition (0x30000001 ∷ []))
+    ∷ tooMany (underCondition (0x30000001 ∷ []))
     ∷ allowed (underCondition (0x40000000 ∷ 0x30000000 ∷ 0x30000000 ∷ []))
-    ∷ beyond (underCondition (0x40000001 ∷ 0x30000000 ∷ 0x30000000 ∷ []))
+    ∷ tooMany (underCondition (0x40000001 ∷ 0x30000000 ∷ 0x30000000 ∷ []))
     ∷ allowed (underCondition (0x50000000 ∷ 0x30000000 ∷ 0x30000000 ∷ []))
-    ∷ beyond (underCondition (0x50000001 ∷ 0x30000000 ∷ 0x30000000 ∷ []))
+    ∷ tooMany (underCondition (0x50000001 ∷ 0x30000000 ∷ 0x30000000 ∷ []))
     ∷ allowed (underCondition (0x60000000 ∷ 0x30000000 ∷ []))
-    ∷ beyond (underCondition (0x60000001 ∷ 0x30000000 ∷ []))
-    ∷ beyond (underCondition (0x3FFFFFFF ∷ []))
-    ∷ beyond (underCondition (0x48000000 ∷ 0x30000000 ∷ 0x30000000 ∷ []))
-    ∷ beyond (underCondition (0x58000000 ∷ 0x30000000 ∷ 0x30000000 ∷ []))
-    ∷ beyond (underCondition (0x68000000 ∷ 0x30000000 ∷ []))
+    ∷ tooMany (underCondition (0x60000001 ∷ 0x30000000 ∷ []))
+    ∷ tooMany (underCondition (0x3FFFFFFF ∷ []))
+    ∷ tooMany (underCondition (0x48000000 ∷ 0x30000000 ∷ 0x30000000 ∷ []))
+    ∷ tooMany (underCondition (0x58000000 ∷ 0x30000000 ∷ 0x30000000 ∷ []))
+    ∷ tooMany (underCondition (0x68000000 ∷ 0x30000000 ∷ []))
     -- comparisons, 0 to 5, and two terms
     ∷ allowed (underCondition (0x70000000 ∷ 0xC0000000 ∷ 0x00000001 ∷ []))
     ∷ allowed (underCondition (0x70000005 ∷ 0xC0000000 ∷ 0x00000001 ∷ []))
-    ∷ beyond (underCondition (0x70000006 ∷ 0xC0000000 ∷ 0x00000001 ∷ []))
+    ∷ tooMany (underCondition (0x70000006 ∷ 0xC0000000 ∷ 0x00000001 ∷ []))
     -- nodes, at most 31; the terms of a comparison are none
     ∷ allowed (underCondition (andTree 4 (0x30000000 ∷ [])))
     ∷ allowed (underCondition (andTree 4 leaf))
-    ∷ beyond (underCondition (nots 1 ++ andTree 4 (0x30000000 ∷ [])))
-    ∷ beyond (underCondition (nots 1 ++ andTree 4 leaf))
+    ∷ tooMany (underCondition (nots 1 ++ andTree 4 (0x30000000 ∷ [])))
+    ∷ tooMany (underCondition (nots 1 ++ andTree 4 leaf))
     -- 8 deep at most, a lone node being 1 deep
     ∷ allowed (underCondition (nots 7 ++ (0x30000000 ∷ [])))
-    ∷ beyond (underCondition (nots 8 ++ (0x30000000 ∷ [])))
+    ∷ tooMany (underCondition (nots 8 ++ (0x30000000 ∷ [])))
     ∷ allowed (underCondition (nots 7 ++ leaf))
-    ∷ beyond (underCondition (nots 8 ++ leaf))
+    ∷ tooMany (underCondition (nots 8 ++ leaf))
     ∷ allowed (underCondition (orChain 7))
-    ∷ beyond (underCondition (orChain 8))
+    ∷ tooMany (underCondition (orChain 8))
     -- 256 words at most, a year's word among them
     ∷ allowed (longPlan 1)
-    ∷ beyond (longPlan 2)
+    ∷ tooMany (longPlan 2)
     ∷ allowed (0x000007EA ∷ longPlan 0)
-    ∷ beyond (0x000007EA ∷ longPlan 1)
+    ∷ tooMany (0x000007EA ∷ longPlan 1)
     ∷ []
 
 -- ?0 to ?15, and all bound: five patterns of three variables, and ?15 n10 n100
@@ -121,29 +121,29 @@ sixteenBound ending = 0x10000001 ∷ 0x20000006 ∷ (sixteen ++ (0x0000000A ∷ 
 abbrev pub ofEndings : List Case
 ofEndings =
     -- variables of rows, 1 to 16
-    beyond (sixBound (0x80000000 ∷ []))
+    tooMany (sixBound (0x80000000 ∷ []))
     ∷ allowed (sixBound (0x80000001 ∷ 0xC0000000 ∷ []))
     ∷ allowed (sixteenBound (0x80000010 ∷ sixteen))
-    ∷ beyond (sixteenBound (0x80000011 ∷ (sixteen ++ (0xC0000000 ∷ []))))
+    ∷ tooMany (sixteenBound (0x80000011 ∷ (sixteen ++ (0xC0000000 ∷ []))))
     -- the same under top
-    ∷ beyond (sixBound (0x90000001 ∷ 0x80000000 ∷ 0xA0000000 ∷ []))
+    ∷ tooMany (sixBound (0x90000001 ∷ 0x80000000 ∷ 0xA0000000 ∷ []))
     ∷ allowed (sixteenBound (0x90000001 ∷ 0x80000010 ∷ (sixteen ++ (0xA000000F ∷ []))))
-    ∷ beyond (sixteenBound (0x90000001 ∷ 0x80000011 ∷ (sixteen ++ (0xC0000000 ∷ 0xA000000F ∷ []))))
+    ∷ tooMany (sixteenBound (0x90000001 ∷ 0x80000011 ∷ (sixteen ++ (0xC0000000 ∷ 0xA000000F ∷ []))))
     -- k, 0 to 64
     ∷ allowed (sixBound (0x90000000 ∷ (ending01 ++ (0xA0000000 ∷ []))))
     ∷ allowed (sixBound (0x90000040 ∷ (ending01 ++ (0xA0000000 ∷ []))))
-    ∷ beyond (sixBound (0x90000041 ∷ (ending01 ++ (0xA0000000 ∷ []))))
+    ∷ tooMany (sixBound (0x90000041 ∷ (ending01 ++ (0xA0000000 ∷ []))))
     -- keys, 1 to 4
-    ∷ beyond (sixBound (0x90000001 ∷ ending01))
+    ∷ tooMany (sixBound (0x90000001 ∷ ending01))
     ∷ allowed (sixBound (0x90000001 ∷ (ending01 ++ (0xA0000000 ∷ []))))
     ∷ allowed (sixBound (0x90000001 ∷ (ending01 ++ (0xA0000000 ∷ 0xB0000001 ∷ 0xA0000001 ∷ 0xB0000000 ∷ []))))
-    ∷ beyond (sixBound (0x90000001 ∷ (ending01 ++ (0xA0000000 ∷ 0xB0000001 ∷ 0xA0000001 ∷ 0xB0000000 ∷ 0xA0000000 ∷ []))))
+    ∷ tooMany (sixBound (0x90000001 ∷ (ending01 ++ (0xA0000000 ∷ 0xB0000001 ∷ 0xA0000001 ∷ 0xB0000000 ∷ 0xA0000000 ∷ []))))
     -- group variables, 0 to 4, then one measured variable
     ∷ allowed (sixBound (0xC0000000 ∷ 0xC0000000 ∷ []))
     ∷ allowed (sixBound (0xC0000004 ∷ 0xC0000000 ∷ 0xC0000001 ∷ 0xC0000002 ∷ 0xC0000003 ∷ 0xC0000004 ∷ []))
-    ∷ beyond (sixBound (0xC0000005 ∷ 0xC0000000 ∷ 0xC0000001 ∷ 0xC0000002 ∷ 0xC0000003 ∷ 0xC0000004 ∷ 0xC0000005 ∷ []))
-    ∷ beyond (sixBound (0xC0000000 ∷ []))
-    ∷ beyond (sixBound (0xC0000000 ∷ 0xC0000000 ∷ 0xC0000001 ∷ []))
+    ∷ tooMany (sixBound (0xC0000005 ∷ 0xC0000000 ∷ 0xC0000001 ∷ 0xC0000002 ∷ 0xC0000003 ∷ 0xC0000004 ∷ 0xC0000005 ∷ []))
+    ∷ tooMany (sixBound (0xC0000000 ∷ []))
+    ∷ tooMany (sixBound (0xC0000000 ∷ 0xC0000000 ∷ 0xC0000001 ∷ []))
     -- variables, ?0 to ?15, by 6: in a pattern, a condition, rows, a key, a group
     ∷ allowed
     (0x10000001 ∷ 0x20000001 ∷ 0xC000000F ∷ 0x0000000A ∷ 0x00000064 ∷ 0x70000000 ∷ 0xC000000F ∷ 0xC000000F
@@ -165,8 +165,8 @@ output n ending x = (testing (turnCall stems (allDiameters ending) (atPlace 0xF0
 abbrev pub bestBy1 : ℕ → List ℕ
 bestBy1 w = w ∷ (ending01 ++ (0xB0000001 ∷ []))
 
-abbrev pub lists : ℕ → List ℕ → Case
-lists w list = wholeFrom stems (allDiameters (bestBy1 w)) (atPlace 0xF0000003) 4 list
+abbrev pub listsBest : ℕ → List ℕ → Case
+listsBest w list = wholeFrom stems (allDiameters (bestBy1 w)) (atPlace 0xF0000003) 4 list
 
 -- the number of the test that refuses a quantum
 abbrev pub quantumOf : ℕ → Option ℕ → Case
@@ -203,10 +203,10 @@ ofBuffers =
     ∷ output 18 (bestBy1 0x90000000) (some 7)
     ∷ output 19 (bestBy1 0x90000000) (some 7)
     ∷ output 20 (bestBy1 0x90000000) none
-    ∷ lists 0x90000001 stem2
-    ∷ lists 0x90000002 (stem2 ++ stem3)
-    ∷ lists 0x90000040 (stem2 ++ (stem3 ++ stem1))
-    ∷ lists 0x90000000 (stem2 ++ (stem3 ++ stem1))
+    ∷ listsBest 0x90000001 stem2
+    ∷ listsBest 0x90000002 (stem2 ++ stem3)
+    ∷ listsBest 0x90000040 (stem2 ++ (stem3 ++ stem1))
+    ∷ listsBest 0x90000000 (stem2 ++ (stem3 ++ stem1))
     -- one group: no key and eight words; one key and eight words
     ∷ output 7 (0xC0000000 ∷ 0xC0000001 ∷ []) (some 7)
     ∷ output 8 (0xC0000000 ∷ 0xC0000001 ∷ []) none

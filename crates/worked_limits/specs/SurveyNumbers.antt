@@ -10,22 +10,22 @@ use Rattle.worked_cases.specs.Literals.{stems, ending01}
 use Rattle.worked_limits.specs.Closings.{stemsWith}
 
 -- plan A: ?0 n10 n100, ?0 n12 ?1, ?1 ≥ i70, rows ?0 ?1
-abbrev pub planA : List ℕ
-planA = stemsWith (0x70000005 ∷ 0xC0000001 ∷ 0x40000046 ∷ []) ending01
+abbrev pub literalPlanA : List ℕ
+literalPlanA = stemsWith (0x70000005 ∷ 0xC0000001 ∷ 0x40000046 ∷ []) ending01
 
 -- an opening under a number writes these words, or is refused by a number over a state buffer of so many words
 abbrev pub opensUnder : ℕ → List ℕ → Case
-opensUnder n words = (opening (underNumber n stems) planA (replicate 11 7), opened (record { answer = Words (length words); state = stateBuffer words }))
+opensUnder n words = (opening (underNumber n stems) literalPlanA (replicate 11 7), opened (record { answer = Words (length words); state = stateBuffer words }))
 
 abbrev pub notOpenedUnder : ℕ → ℕ → ℕ → Case
-notOpenedUnder n room x = (opening (underNumber n stems) planA (replicate room 7), opened (record { answer = Refused x; state = replicate room 7 }))
+notOpenedUnder n room x = (opening (underNumber n stems) literalPlanA (replicate room 7), opened (record { answer = Refused x; state = replicate room 7 }))
 
 -- a turn of one step under a number from some words to others, or refused
 abbrev pub goesUnder : ℕ → List ℕ → List ℕ → Case
-goesUnder n from to = turnCase (turnUnder (underNumber n stems) planA from 1 [] 128) Spent 1 to []
+goesUnder n from to = turnCase (turnUnder (underNumber n stems) literalPlanA from 1 [] 128) Spent 1 to []
 
 abbrev pub notUnder : ℕ → List ℕ → ℕ → Case
-notUnder n words x = notTurned (turnUnder (underNumber n stems) planA words 1 [] 128) x
+notUnder n words x = notTurned (turnUnder (underNumber n stems) literalPlanA words 1 [] 128) x
 
 abbrev pub ofSurveys : List Case
 ofSurveys =

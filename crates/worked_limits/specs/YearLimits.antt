@@ -31,17 +31,17 @@ abbrev pub plan : List ℕ
 plan = underCondition (0x30000000 ∷ [])
 
 -- the state at a place of a year
-abbrev pub startIn : ℕ → ℕ → List ℕ
-startIn year place = ofYear year (0xE0000001 ∷ place ∷ [])
+abbrev pub stateInYear : ℕ → ℕ → List ℕ
+stateInYear year place = ofYear year (0xE0000001 ∷ place ∷ [])
 
 -- ---- the years of rows
 abbrev pub ofRows : List Case
 ofRows =
     -- 1 and 9,999
-    opensTo (inOne 0x40000001) plan (startIn 0x00000001 0xF0000000)
-    ∷ wholeFrom (inOne 0x40000001) plan (startIn 0x00000001 0xF0000000) 2 (0x00000001 ∷ [])
-    ∷ opensTo (inOne 0x4000270F) plan (startIn 0x0000270F 0xF0000000)
-    ∷ wholeFrom (inOne 0x4000270F) plan (startIn 0x0000270F 0xF0000000) 2 (0x00000001 ∷ [])
+    opensTo (inOne 0x40000001) plan (stateInYear 0x00000001 0xF0000000)
+    ∷ wholeFrom (inOne 0x40000001) plan (stateInYear 0x00000001 0xF0000000) 2 (0x00000001 ∷ [])
+    ∷ opensTo (inOne 0x4000270F) plan (stateInYear 0x0000270F 0xF0000000)
+    ∷ wholeFrom (inOne 0x4000270F) plan (stateInYear 0x0000270F 0xF0000000) 2 (0x00000001 ∷ [])
     -- 0 and 10,000; the greatest number, the least, and -1
     ∷ refuses (inOne 0x40000000) plan 23
     ∷ refuses (inOne 0x40002710) plan 23
@@ -60,7 +60,7 @@ ofRows =
     ∷ refuses (inThree 0x400007EA 0x400007E9 0x40002710) plan 23
     ∷ refuses (inTwo 0x400007EA 0x400007E9) plan 3
     ∷ refuses (inTwo 0x400007EA 0x400007EA) plan 3
-    ∷ opensTo (inTwo 0x400007E9 0x400007EA) plan (startIn 0x000007EA 0xF0000001)
+    ∷ opensTo (inTwo 0x400007E9 0x400007EA) plan (stateInYear 0x000007EA 0xF0000001)
     -- rows of 3, 5, 6 and 7 words, with a number for each whole one in both lists: 1
     ∷ refuses (tablesOf (0x00000001 ∷ 0x0000000A ∷ 0x00000064 ∷ []) [] []) plan 1
     ∷ refuses (andMore (0x400007EB ∷ [])) plan 1
@@ -74,11 +74,11 @@ ofRows =
     ∷ []
 
 -- ---- the years of plans
-abbrev pub ofPlans : List Case
-ofPlans =
+abbrev pub ofPlanYears : List Case
+ofPlanYears =
     -- 1 and 9,999: the rows of the wood stand between
-    opensTo stems (0x00000001 ∷ plan) (startIn 0x00000001 0xF0000000)
-    ∷ opensTo stems (0x0000270F ∷ plan) (startIn 0x0000270F 0xF0000006)
+    opensTo stems (0x00000001 ∷ plan) (stateInYear 0x00000001 0xF0000000)
+    ∷ opensTo stems (0x0000270F ∷ plan) (stateInYear 0x0000270F 0xF0000006)
     -- 10,000, and the most that the word holds; the number counts whole: 2^14, 2^16, 2026 and 2^16, 2026 and 2^27
     ∷ refuses stems (0x00002710 ∷ plan) 23
     ∷ refuses stems (0x0FFFFFFF ∷ plan) 23

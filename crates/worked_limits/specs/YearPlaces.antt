@@ -6,14 +6,14 @@ use Rattle.tables.specs.Tables.{Tables, tablesOf}
 use Rattle.turns.specs.declared.TurnEnding.the-variants.{Spent}
 use Rattle.worked_cases.specs.Calls.{Case, turnCall, turnCase, notTurned}
 use Rattle.worked_cases.specs.Literals.{ending0, ending01, allDiameters, opensTo, refuses, wholeFrom}
-use Rattle.worked_limits.specs.YearLimits.{startIn}
+use Rattle.worked_limits.specs.YearLimits.{stateInYear}
 
 -- (n1,n2,n9) (n2,n1,n8) (n3,n3,n7), in 2024 and again in 2026
-abbrev pub inYear : ℕ → List ℕ
-inYear y = y ∷ 1 ∷ 2 ∷ 9 ∷ y ∷ 2 ∷ 1 ∷ 8 ∷ y ∷ 3 ∷ 3 ∷ 7 ∷ []
+abbrev pub rowsOfYear : ℕ → List ℕ
+rowsOfYear y = y ∷ 1 ∷ 2 ∷ 9 ∷ y ∷ 2 ∷ 1 ∷ 8 ∷ y ∷ 3 ∷ 3 ∷ 7 ∷ []
 
 abbrev pub listed : List ℕ → List ℕ → Tables
-listed pos osp = tablesOf (inYear 0x400007E8 ++ inYear 0x400007EA) pos osp
+listed pos osp = tablesOf (rowsOfYear 0x400007E8 ++ rowsOfYear 0x400007EA) pos osp
 
 -- by year, predicate, object, subject; by year, object, subject, predicate
 abbrev pub yearPos : List ℕ
@@ -36,7 +36,7 @@ allRows = asksOf 0x00000000 0xC0000000 0xC0000001 0xC0000002 (0x80000003 ∷ 0xC
 -- ---- the year is first in all three orders
 abbrev pub yearOrders : List Case
 yearOrders =
-    opensTo apart allRows (startIn 0x000007E8 0xF0000000)
+    opensTo apart allRows (stateInYear 0x000007E8 0xF0000000)
     -- POS by predicate, object, subject and then the year; OSP by object, subject, predicate and then the year; the later year first in each
     ∷ refuses (listed (1 ∷ 4 ∷ 0 ∷ 3 ∷ 2 ∷ 5 ∷ []) yearOsp) allRows 4
     ∷ refuses (listed yearPos (2 ∷ 5 ∷ 1 ∷ 4 ∷ 0 ∷ 3 ∷ [])) allRows 4
@@ -49,15 +49,15 @@ yearOrders =
     ∷ 0x400007EA ∷ 2 ∷ 1 ∷ 8 ∷ 0x400007E8 ∷ 3 ∷ 3 ∷ 7 ∷ 0x400007EA ∷ 3 ∷ 3 ∷ 7 ∷ [])
     yearPos yearOsp)
     allRows 3
-    ∷ refuses (tablesOf (inYear 0x400007EA ++ inYear 0x400007E8) yearPos yearOsp) allRows 3
+    ∷ refuses (tablesOf (rowsOfYear 0x400007EA ++ rowsOfYear 0x400007E8) yearPos yearOsp) allRows 3
     ∷ []
 
 -- ---- where a range starts in 2024 and where in 2026: the rows of a year and one step more lead from one to the other, or to done
 abbrev pub inBoth : ℕ → ℕ → ℕ → List ℕ → ℕ → ℕ → ℕ → List ℕ → List Case
 inBoth s p o ending first second steps list =
-    opensTo apart (asksOf 0x00000000 s p o ending) (startIn 0x000007E8 first)
-    ∷ turnCase (turnCall apart (asksOf 0x00000000 s p o ending) (startIn 0x000007E8 first) steps [] 128) Spent steps (startIn 0x000007EA second) list
-    ∷ wholeFrom apart (asksOf 0x00000000 s p o ending) (startIn 0x000007EA second) steps list
+    opensTo apart (asksOf 0x00000000 s p o ending) (stateInYear 0x000007E8 first)
+    ∷ turnCase (turnCall apart (asksOf 0x00000000 s p o ending) (stateInYear 0x000007E8 first) steps [] 128) Spent steps (stateInYear 0x000007EA second) list
+    ∷ wholeFrom apart (asksOf 0x00000000 s p o ending) (stateInYear 0x000007EA second) steps list
     ∷ []
 
 abbrev pub yearRanges : List Case
@@ -84,12 +84,12 @@ yearRanges =
 -- ---- 2025, which has no rows, lies between; and places of another year
 abbrev pub in2025 : ℕ → ℕ → ℕ → List ℕ → List Case
 in2025 s p o ending =
-    opensTo apart (asksOf 0x000007E9 s p o ending) (startIn 0x000007E9 0xF0000003)
-    ∷ wholeFrom apart (asksOf 0x000007E9 s p o ending) (startIn 0x000007E9 0xF0000003) 1 []
+    opensTo apart (asksOf 0x000007E9 s p o ending) (stateInYear 0x000007E9 0xF0000003)
+    ∷ wholeFrom apart (asksOf 0x000007E9 s p o ending) (stateInYear 0x000007E9 0xF0000003) 1 []
     ∷ []
 
-abbrev pub notAt : ℕ → ℕ → ℕ → Case
-notAt year place x = notTurned (turnCall apart allRows (startIn year place) 5 [] 128) x
+abbrev pub notAtYear : ℕ → ℕ → ℕ → Case
+notAtYear year place x = notTurned (turnCall apart allRows (stateInYear year place) 5 [] 128) x
 
 -- ?0 n2 ?1 of every year
 abbrev pub second : List ℕ
@@ -102,17 +102,17 @@ betweenYears =
     ∷ in2025 2 0xC0000000 0xC0000001 ending01
     ∷ in2025 0xC0000000 0xC0000001 9 ending01
     -- 2024 has places 0 to 3, its end; 2026 has 3 to 6; 2025 is not read where every year is
-    ∷ (turnCase (turnCall apart allRows (startIn 0x000007E8 0xF0000003) 1 [] 128) Spent 1 (startIn 0x000007EA 0xF0000003) []
-    ∷ notAt 0x000007E8 0xF0000004 10
-    ∷ notAt 0x000007EA 0xF0000002 10
-    ∷ notAt 0x000007EA 0xF0000007 10
-    ∷ notAt 0x000007E9 0xF0000003 9
+    ∷ (turnCase (turnCall apart allRows (stateInYear 0x000007E8 0xF0000003) 1 [] 128) Spent 1 (stateInYear 0x000007EA 0xF0000003) []
+    ∷ notAtYear 0x000007E8 0xF0000004 10
+    ∷ notAtYear 0x000007EA 0xF0000002 10
+    ∷ notAtYear 0x000007EA 0xF0000007 10
+    ∷ notAtYear 0x000007E9 0xF0000003 9
     -- a year's word counts whole: 2026 and 2^16, 2026 and 2^27
-    ∷ notAt 0x000107EA 0xF0000003 9
-    ∷ notAt 0x080007EA 0xF0000003 9
+    ∷ notAtYear 0x000107EA 0xF0000003 9
+    ∷ notAtYear 0x080007EA 0xF0000003 9
     -- a place of the year before its range, and one of 2024 in the range of 2026
-    ∷ notTurned (turnCall apart second (startIn 0x000007EA 0xF0000003) 5 [] 128) 10
-    ∷ notTurned (turnCall apart second (startIn 0x000007EA 0xF0000001) 5 [] 128) 10
+    ∷ notTurned (turnCall apart second (stateInYear 0x000007EA 0xF0000003) 5 [] 128) 10
+    ∷ notTurned (turnCall apart second (stateInYear 0x000007EA 0xF0000001) 5 [] 128) 10
     ∷ [])
     ∷ [])
 
@@ -121,7 +121,7 @@ abbrev pub twoStems : Tables
 twoStems = tablesOf (0x400007E9 ∷ 9 ∷ 12 ∷ 0x40000136 ∷ 0x400007EA ∷ 1 ∷ 12 ∷ 0x40000136 ∷ []) (0 ∷ 1 ∷ []) (0 ∷ 1 ∷ [])
 
 abbrev pub wholeOf : List ℕ → List ℕ → Case
-wholeOf ending list = wholeFrom twoStems (0x00000000 ∷ allDiameters ending) (startIn 0x000007E9 0xF0000000) 4 list
+wholeOf ending list = wholeFrom twoStems (0x00000000 ∷ allDiameters ending) (stateInYear 0x000007E9 0xF0000000) 4 list
 
 abbrev pub yearLists : List Case
 yearLists =

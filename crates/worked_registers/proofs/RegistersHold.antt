@@ -6,7 +6,7 @@ use Rattle.cuts.specs.Computing as cuts
 use Rattle.worked_cases.specs.Calls.{Hold}
 use Rattle.worked_cases.proofs.Holds.{computing}
 use Rattle.worked_cases.proofs.ByOutcomes.{by-outcomes}
-use Rattle.worked_registers.specs.Registers.{forms, lists, mergings, cutAtOne, played, doneAfterFour}
+use Rattle.worked_registers.specs.Registers.{forms, registerLists, mergings, cutAtOne, played, doneAfterFour}
 use Rattle.worked_registers.specs.Reports.{farOut, farNumber, ofFive, ofReports}
 
 -- ---- single values
@@ -36,9 +36,9 @@ pub forms-hold : Hold forms
 unfolding computing
 forms-hold = by-outcomes forms refl
 
-pub lists-hold : Hold lists
+pub lists-hold : Hold registerLists
 unfolding computing
-lists-hold = by-outcomes lists refl
+lists-hold = by-outcomes registerLists refl
 
 pub mergings-hold : Hold mergings
 unfolding computing

@@ -10,7 +10,7 @@ use Rattle.turns.specs.declared.TurnEnding.the-variants.{Done, Spent}
 use Rattle.turns.specs.Opening.{openOf}
 use Rattle.cuts.specs.Histories.{Event, turns, merges, Phone, fresh, history}
 use Rattle.worked_cases.specs.Calls.{merging, merged, testing, tested, Case, surveyed, turnCall, turnCase, mergeCall, keptBuffer, notTurned, notMerged}
-use Rattle.worked_cases.specs.Literals.{stems, ofYear, allDiameters, diameters, atPlace, opensTo, refuses, wholeFrom}
+use Rattle.worked_cases.specs.Literals.{stems, bare, inBare, allDiameters, diameters, atPlace, opensTo, refuses, wholeFrom}
 
 -- ---- plans
 -- the registers of ?1 and of ?0, in the branch ?0 n12 ?1; its run begins at place 3
@@ -50,8 +50,8 @@ of310 = 2 ∷ 0 ∷ 0 ∷ 0 ∷ 0 ∷ 0 ∷ 0 ∷ 0 ∷ 0 ∷ 0 ∷ 0 ∷ 0 ∷ 
 abbrev pub ofDiameters : List ℕ
 ofDiameters = 2 ∷ 0 ∷ 1 ∷ 0 ∷ 0 ∷ 0 ∷ 0 ∷ 0 ∷ 0 ∷ 0 ∷ 0 ∷ 0 ∷ 0 ∷ 0 ∷ 0 ∷ 0 ∷ []
 
-abbrev pub ofStems : List ℕ
-ofStems = 0 ∷ 0 ∷ 0 ∷ 0 ∷ 0 ∷ 0 ∷ 0 ∷ 0 ∷ 1 ∷ 0 ∷ 1 ∷ 0 ∷ 0 ∷ 0 ∷ 1 ∷ 0 ∷ []
+abbrev pub ofStemNames : List ℕ
+ofStemNames = 0 ∷ 0 ∷ 0 ∷ 0 ∷ 0 ∷ 0 ∷ 0 ∷ 0 ∷ 1 ∷ 0 ∷ 1 ∷ 0 ∷ 0 ∷ 0 ∷ 1 ∷ 0 ∷ []
 
 -- with n in the first register and with n in the last
 abbrev pub first : ℕ → List ℕ
@@ -80,17 +80,10 @@ forms =
     ∷ []
 
 -- ---- turns
--- a wood without rows, and its only state, of year 0
-abbrev pub bare : Tables
-bare = record { rows = []; pos = []; osp = [] }
-
-abbrev pub inBare : List ℕ
-inBare = ofYear 0x00000000 (0xE0000001 ∷ 0xF0000000 ∷ [])
-
-abbrev pub lists : List Case
-lists =
+abbrev pub registerLists : List Case
+registerLists =
     wholeFrom stems species (atPlace 0xF0000003) 4 ofDiameters
-    ∷ wholeFrom stems stemsOf (atPlace 0xF0000003) 4 ofStems
+    ∷ wholeFrom stems stemsOf (atPlace 0xF0000003) 4 ofStemNames
     -- what is unbound is not hashed
     ∷ wholeFrom stems halfBound (atPlace 0xF0000003) 8 ofDiameters
     -- of no rows all 16 are there: at done, and before; also over tables without rows
@@ -112,8 +105,8 @@ lists =
 
 -- ---- merging
 -- a list merged into a kept one in a buffer of so many words, and what is then kept
-abbrev pub keeps : List ℕ → ℕ → List ℕ → List ℕ → Case
-keeps kept room list result = (
+abbrev pub keepsRegisters : List ℕ → ℕ → List ℕ → List ℕ → Case
+keepsRegisters kept room list result = (
   merging (mergeCall species kept room list),
   merged (record { answer = Words 16; kept = over result (keptBuffer room kept) }),
 )
@@ -121,17 +114,17 @@ keeps kept room list result = (
 abbrev pub mergings : List Case
 mergings =
     -- nothing kept is all 0
-    keeps [] 16 of45 of45
-    ∷ keeps [] 20 untouched untouched
+    keepsRegisters [] 16 of45 of45
+    ∷ keepsRegisters [] 20 untouched untouched
     -- the greater of each, in either order; a list merged again adds nothing
-    ∷ keeps of45 16 of310 ofDiameters
-    ∷ keeps of310 16 of45 ofDiameters
-    ∷ keeps ofDiameters 16 of45 ofDiameters
-    ∷ keeps (first 2) 16 (first 3) (first 3)
-    ∷ keeps (first 3) 16 (first 2) (first 3)
+    ∷ keepsRegisters of45 16 of310 ofDiameters
+    ∷ keepsRegisters of310 16 of45 ofDiameters
+    ∷ keepsRegisters ofDiameters 16 of45 ofDiameters
+    ∷ keepsRegisters (first 2) 16 (first 3) (first 3)
+    ∷ keepsRegisters (first 3) 16 (first 2) (first 3)
     -- 61 at most, in either list and in each place
-    ∷ keeps (first 61) 16 untouched (first 61)
-    ∷ keeps untouched 16 (last 61) (last 61)
+    ∷ keepsRegisters (first 61) 16 untouched (first 61)
+    ∷ keepsRegisters untouched 16 (last 61) (last 61)
     ∷ notMerged (mergeCall species (first 62) 16 untouched) 12
     ∷ notMerged (mergeCall species (last 62) 16 untouched) 12
     ∷ notMerged (mergeCall species untouched 16 (first 62)) 12

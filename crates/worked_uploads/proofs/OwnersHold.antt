@@ -5,7 +5,7 @@ use Rattle.queues.specs.Joining.{joinQueueOf, listsAsWere}
 use Rattle.queues.specs.Calls.{afterCalls, deeds}
 use Rattle.worked_cases.specs.Wood.{wood}
 use Rattle.worked_cases.specs.Calls.{surveyed}
-use Rattle.worked_uploads.specs.Owners.{noOne, elevenCalls, elevenDeeds, leftOver, emptyLists, ofYear}
+use Rattle.worked_uploads.specs.Owners.{noOne, elevenCalls, elevenDeeds, leftOver, emptyLists, joinsOfYear}
 use Rattle.worked_cases.proofs.Holds.{computing}
 
 pub deeds-are : deeds (surveyed wood) noOne elevenCalls ≡ elevenDeeds
@@ -17,14 +17,14 @@ unfolding computing
 left-over = refl
 
 -- 2026 joins with a state of 2026; a state of 2025 is refused by 9, and a plan of the year 10,000 by 23, whatever its state
-pub joins-of-year : joinQueueOf (surveyed wood) emptyLists (ofYear 2026 2026) .answer ≡ Lists 1 0
+pub joins-of-year : joinQueueOf (surveyed wood) emptyLists (joinsOfYear 2026 2026) .answer ≡ Lists 1 0
 unfolding computing
 joins-of-year = refl
 
-pub other-year-refused : joinQueueOf (surveyed wood) emptyLists (ofYear 2026 2025) ≡ listsAsWere emptyLists 9
+pub other-year-refused : joinQueueOf (surveyed wood) emptyLists (joinsOfYear 2026 2025) ≡ listsAsWere emptyLists 9
 unfolding computing
 other-year-refused = refl
 
-pub late-year-refused : joinQueueOf (surveyed wood) emptyLists (ofYear 10000 2025) ≡ listsAsWere emptyLists 23
+pub late-year-refused : joinQueueOf (surveyed wood) emptyLists (joinsOfYear 10000 2025) ≡ listsAsWere emptyLists 23
 unfolding computing
 late-year-refused = refl

@@ -1,7 +1,7 @@
 -- Every case of the tables of uploads holds, by computation.
 use mathlib.Core.Path.{refl}
 use Rattle.worked_cases.specs.Calls.{Hold}
-use Rattle.worked_uploads.specs.Uploads.{ofStems, ofLengths, ofFates, ofYears, ofOrders}
+use Rattle.worked_uploads.specs.Uploads.{ofStems, ofLengths, ofFates, uploadsOfYears, ofOrders}
 use Rattle.worked_cases.proofs.Holds.{computing}
 use Rattle.worked_cases.proofs.ByOutcomes.{by-outcomes}
 
@@ -17,9 +17,9 @@ pub of-fates-hold : Hold ofFates
 unfolding computing
 of-fates-hold = by-outcomes ofFates refl
 
-pub of-years-hold : Hold ofYears
+pub of-years-hold : Hold uploadsOfYears
 unfolding computing
-of-years-hold = by-outcomes ofYears refl
+of-years-hold = by-outcomes uploadsOfYears refl
 
 pub of-orders-hold : Hold ofOrders
 unfolding computing

@@ -12,7 +12,7 @@ use Rattle.views.specs.Views.{viewOf}
 use Rattle.views.proofs.Direct.{any-membership}
 use Rattle.worked_cases.specs.Calls.{Hold}
 use Rattle.worked_cases.specs.Literals.{stems}
-use Rattle.worked_uploads.specs.Views.{ofVisible, ofYears, ofHidden, ofNumbers, ofGrants, secondStem, withDiameters}
+use Rattle.worked_uploads.specs.Views.{ofVisible, viewsOfYears, ofHidden, ofNumbers, ofGrants, secondStem, withDiameters}
 use Rattle.worked_cases.proofs.Holds.{computing}
 use Rattle.worked_cases.proofs.ByOutcomes.{by-outcomes}
 
@@ -20,9 +20,9 @@ pub of-visible-hold : Hold ofVisible
 unfolding computing
 of-visible-hold = by-outcomes ofVisible refl
 
-pub of-years-hold : Hold ofYears
+pub of-years-hold : Hold viewsOfYears
 unfolding computing
-of-years-hold = by-outcomes ofYears refl
+of-years-hold = by-outcomes viewsOfYears refl
 
 pub of-hidden-hold : Hold ofHidden
 unfolding computing

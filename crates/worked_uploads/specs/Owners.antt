@@ -9,11 +9,11 @@ use Rattle.queues.specs.declared.Entry.{Entry}
 use Rattle.queues.specs.Lists.{LentLists, lentAs}
 use Rattle.queues.specs.Joining.{Joining, newEntry}
 use Rattle.queues.specs.Calls.{Queue, QueueCall, join, serve, topUp, MadeCall, Deed, grants, turns, nothing}
-use Rattle.worked_cases.specs.Wood.{planA, stateOf, start}
+use Rattle.worked_cases.specs.Wood.{planA, yearState, startOfA}
 
 -- an owner's query, plan A from its start, with so many steps
 abbrev pub byOwner : ℕ → ℕ → Joining
-byOwner owner steps = record { owner = owner; allowance = steps; plan = planA; state = start }
+byOwner owner steps = record { owner = owner; allowance = steps; plan = planA; state = startOfA }
 
 abbrev pub vacant : Entry
 vacant = record { allowance = 0; owner = 0; planned = 0; saved = 0; plan = []; state = [] }
@@ -48,5 +48,5 @@ leftOver = record { line = []; aside = newEntry (byOwner 9 0) ∷ [] }
 abbrev pub emptyLists : LentLists
 emptyLists = lentAs (replicate 32 vacant) 0 (replicate 32 vacant) 0
 
-abbrev pub ofYear : ℕ → ℕ → Joining
-ofYear named year = record { owner = 7; allowance = 4; plan = yearWord named ∷ planA; state = stateOf year (0 ∷ []) }
+abbrev pub joinsOfYear : ℕ → ℕ → Joining
+joinsOfYear named year = record { owner = 7; allowance = 4; plan = yearWord named ∷ planA; state = yearState year (0 ∷ []) }

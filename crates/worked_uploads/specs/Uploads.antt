@@ -77,8 +77,8 @@ ofFates =
 abbrev pub inYears : List ℕ → List ℕ
 inYears ys = flatten (map (λ y. y ∷ 0x00000001 ∷ 0x0000000A ∷ 0x00000064 ∷ []) ys)
 
-abbrev pub ofYears : List Case
-ofYears =
+abbrev pub uploadsOfYears : List Case
+uploadsOfYears =
     -- of 2026, 0, 2025, 10,000 and 2026: 0 and 10,000 are reported by 1, the second 2026 is a repeat, and the two years ascend
     makeCase (makeCall (inYears (0x400007EA ∷ 0x40000000 ∷ 0x400007E9 ∷ 0x40002710 ∷ 0x400007EA ∷ [])) 8 2 2 6)
     (tablesOf (inYears (0x400007E9 ∷ 0x400007EA ∷ [])) (0 ∷ 1 ∷ []) (0 ∷ 1 ∷ [])) (1 ∷ 1 ∷ 3 ∷ 1 ∷ 4 ∷ 2 ∷ [])

@@ -3,14 +3,14 @@ use Prim.Native.Nat.{ℕ}
 use mathlib.Core.List.{List, [], _∷_}
 use lib.ListN.{replicate}
 use Rattle.tables.specs.Tables.{Tables, tablesOf}
-use Rattle.views.specs.Viewing.{ViewInput, buffersOf, viewedWith}
+use Rattle.views.specs.Viewing.{ViewInput, viewBuffers, viewedWith}
 use Rattle.worked_cases.specs.Calls.{viewing, viewed, Case, notViewed}
 use Rattle.worked_cases.specs.Literals.{stems}
 
 -- ---- short forms. Buffers of so many words hold 9 in rows, 8 in POS and 7 in OSP before the call
 abbrev pub viewCall : Tables → List ℕ → ℕ → ℕ → ℕ → ℕ → ViewInput
 viewCall t grant membership rows pos osp =
-    record { tables = t; grant = grant; membership = membership; buffers = buffersOf (replicate rows 9) (replicate pos 8) (replicate osp 7) }
+    record { tables = t; grant = grant; membership = membership; buffers = viewBuffers (replicate rows 9) (replicate pos 8) (replicate osp 7) }
 
 -- a served call: the view's tables over what the buffers held
 abbrev pub viewCase : ViewInput → Tables → Case
@@ -58,8 +58,8 @@ moved =
     ∷ 0x400007EA ∷ 0x00000001 ∷ 0x0000000A ∷ 0x00000065 ∷ 0x400007EA ∷ 0x00000001 ∷ 0x0000000C ∷ 0x4000002F ∷ [])
     (0 ∷ 1 ∷ 2 ∷ 3 ∷ []) (0 ∷ 1 ∷ 2 ∷ 3 ∷ [])
 
-abbrev pub ofYears : List Case
-ofYears =
+abbrev pub viewsOfYears : List Case
+viewsOfYears =
     -- membership of another year does not make a row visible: of n100 the rows of 2025 are seen, of n101 those of 2026
     viewCase (viewCall moved (0x64 ∷ []) 10 8 2 2)
     (tablesOf (0x400007E9 ∷ 0x00000001 ∷ 0x0000000A ∷ 0x00000064 ∷ 0x400007E9 ∷ 0x00000001 ∷ 0x0000000C ∷ 0x4000002D ∷ [])

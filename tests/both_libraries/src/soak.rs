@@ -1,6 +1,6 @@
 //! A queue of 32 owners under a long list of calls: random plans, joins, top-ups and quanta, refused calls among them. Each owner's finished
-//! list is compared with that of the same query run alone, its steps with those of that run, no more where it was sent a threshold, what is left to it with what was granted, and its
-//! waits with the promise: as many served turns as its place from the front, and no more.
+//! list is compared with that of the same query run alone, its steps with those of that run, no more where it was sent a threshold, what is left to it
+//! with what was granted, and its waits with the promise: as many served turns as its place from the front, and no more.
 
 use std::collections::BTreeMap;
 use std::process::exit;

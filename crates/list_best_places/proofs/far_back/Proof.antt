@@ -2,14 +2,14 @@
 use Prim.Native.Nat.{_-_, _*_}
 use native.Mathlib.Omega.{arith}
 use lib.ListN.{length}
-use Rattle.list_best_places.specs.Places.{Placed}
+use Rattle.list_best_places.specs.Places.{PlacedUpTo}
 use Rattle.list_best_places.proofs.RowWords.{row-length, far-whole}
 use Rattle.list_best_places.proofs.BestSearching.{placed-at}
 use Rattle.list_best_places.proofs.far_back.Statement.{statement}
 use Rattle.list_best_places.proofs.far_back.Tie as tie
 
 abbrev Inv-loop : tie.InvT-loop
-Inv-loop vars keys row list from w at₀ at = Placed vars keys row list at
+Inv-loop vars keys row list from w at₀ at = PlacedUpTo vars keys row list at
 
 abbrev μ-loop : tie.MeasureT-loop
 μ-loop vars keys row list from w at₀ at = at

@@ -1,12 +1,12 @@
 -- `near_back` meets its contract: the row comes before each row that was passed.
 use native.Mathlib.Omega.{arith}
-use Rattle.list_best_places.specs.Places.{Placed}
+use Rattle.list_best_places.specs.Places.{PlacedUpTo}
 use Rattle.list_best_places.proofs.BestSearching.{placed-back, placed-front, placed-end, row-room, length-back}
 use Rattle.list_best_places.proofs.near_back.Statement.{statement}
 use Rattle.list_best_places.proofs.near_back.Tie as tie
 
 abbrev Inv-loop : tie.InvT-loop
-Inv-loop vars keys row list upto w at₀ at = Placed vars keys row list at
+Inv-loop vars keys row list upto w at₀ at = PlacedUpTo vars keys row list at
 
 abbrev μ-loop : tie.MeasureT-loop
 μ-loop vars keys row list upto w at₀ at = at

@@ -5,12 +5,12 @@ use lib.ListN.{drop}
 use Rattle.plans.specs.Branches.{binds}
 use Rattle.plans.specs.Reading.{branchesIn}
 use Rattle.words.specs.Sequences.{member}
-use Rattle.plans.proofs.BranchWalk.{Walk, walk-start, walk-read, walk-words, walk-next, binds-stops, binds-goes, binds-end}
+use Rattle.plans.proofs.BranchWalk.{BranchesWalked, walk-start, walk-read, walk-words, walk-next, binds-stops, binds-goes, binds-end}
 use Rattle.plan_ending_variables.proofs.some_binds.Statement.{statement}
 use Rattle.plan_ending_variables.proofs.some_binds.Tie as tie
 
 abbrev Inv-loop : tie.InvT-loop
-Inv-loop p count word at₀ left₀ at left = Walk count p at left × (binds (branchesIn count p) word ≡ binds (branchesIn left (drop at p)) word)
+Inv-loop p count word at₀ left₀ at left = BranchesWalked count p at left × (binds (branchesIn count p) word ≡ binds (branchesIn left (drop at p)) word)
 
 abbrev μ-loop : tie.MeasureT-loop
 μ-loop p count word at₀ left₀ at left = left

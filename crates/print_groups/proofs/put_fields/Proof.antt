@@ -8,7 +8,7 @@ use lib.Seq.{length-take-le}
 use lib.ListN.{getD, take, length-append}
 use Rattle.print_texts.specs.Texts.{termFields}
 use Rattle.print_texts.proofs.Placements.{placed-then}
-use Rattle.print_lines.specs.Lines.{totalsIn}
+use Rattle.print_lines.specs.Lines.{totalsText}
 use Rattle.print_lines.proofs.Records.{fields-of, fields-length, last-two}
 use Rattle.print_groups.proofs.put_fields.Statement.{statement}
 use Rattle.print_groups.proofs.put_fields.Tie as tie
@@ -76,7 +76,7 @@ returns c =
     let pre = s .pre in
     let e = fields-length k g in
     let keys = termFields (take k g) in
-    let totals = totalsIn k g in
+    let totals = totalsText k g in
     let ends = termFields (getD g (k + 6) 0 ∷ getD g (k + 7) 0 ∷ []) in
     let n = length-append keys totals in
     let one = c .before .before .before .before .before .before .before .before .before .before .before .put-terms in

@@ -10,7 +10,7 @@ use Rattle.woods.specs.Growing.{GrowInput, growInput, askedRight}
 use Rattle.woods.specs.Refusals.{rowsFor}
 use Rattle.woods.proofs.Refusals.{grow-told}
 use Rattle.woods.proofs.Writes.{asked-few, asked-ended}
-use Rattle.wood_calls.specs.Room.{roomFor}
+use Rattle.wood_calls.specs.Room.{growRoomFor}
 use Rattle.wood_calls.proofs.Outcome.{wrong-asked, no-room, served, room-parts, same-result}
 use borrow.Author.Needs.{needs}
 use Rattle.wood_calls.proofs.grow.Statement.{statement}
@@ -44,7 +44,7 @@ few w = omega (arith, counted w, asked-few (start w .args .stems) (start w .args
 
 -- ---- past test 25
 has : (e : tie.Else2) → let w = e .before .before in let a = start w .args in
-    roomFor (count w) (length (a .rows .now)) (length (a .pos .now)) (length (a .osp .now)) ≡ true
+    growRoomFor (count w) (length (a .rows .now)) (length (a .pos .now)) (length (a .osp .now)) ≡ true
 has e = sym (e .before .has-room .ensures) ∙ not-false (e .before .has-room .result) (e .if2 .left)
 
 asked-right-requires : tie.Need-asked-right-requires

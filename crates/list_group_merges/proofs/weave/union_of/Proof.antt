@@ -6,14 +6,16 @@ use native.Mathlib.Nat.{div-le-self}
 use mathlib.Core.Path.{_≡_, refl, sym, _∙_}
 use lib.ListN.{length}
 use borrow.Author.Tests.{not-true, not-false}
-use Rattle.lists.specs.declared.Side.the-variants.{Before, Same, After}
+use Rattle.lists.specs.declared.Comes.the-variants.{Before, Same, After}
 use Rattle.list_group_merges.specs.Weaving.{unionOf}
-use Rattle.list_group_merges.proofs.Unions.{Counted, counted-start, counted-first, counted-new, counted-old, counted-next, counted-over, counted-end}
+use Rattle.list_group_merges.proofs.Unions.{UnionCounted, counted-start, counted-first, counted-new, counted-old}
+use Rattle.list_group_merges.proofs.Unions.{counted-next, counted-over, counted-end}
 use Rattle.list_group_merges.proofs.weave.union_of.Statement.{statement}
 use Rattle.list_group_merges.proofs.weave.union_of.Tie as tie
 
 abbrev Inv-loop : tie.InvT-loop
-Inv-loop g kept used list w x₀ y₀ n₀ x y n = Counted g kept list (unionOf g kept list (used / (g + 8)) (length list / (g + 8))) (used + length list) x y n
+Inv-loop g kept used list w x₀ y₀ n₀ x y n =
+    UnionCounted g kept list (unionOf g kept list (used / (g + 8)) (length list / (g + 8))) (used + length list) x y n
 
 abbrev μ-loop : tie.MeasureT-loop
 μ-loop g kept used list w x₀ y₀ n₀ x y n = x + y

@@ -5,7 +5,7 @@ use native.Mathlib.Omega.{arith}
 use mathlib.Core.Path.{_≡_, refl, sym, _∙_, ap}
 use mathlib.Core.List.{_++_}
 use lib.ListN.{length, take, drop}
-use Rattle.lists.specs.declared.Side.the-variants.{Before, Same, After}
+use Rattle.lists.specs.declared.Comes.the-variants.{Before, Same, After}
 use Rattle.list_group_merges.specs.Weaving.{woven}
 use Rattle.list_group_merges.specs.MergingGroups.{lastRecord}
 use Rattle.list_group_merges.proofs.Weaves.{HalfWoven, half-start, half-below, half-first, half-room, half-new, half-old, half-lays}

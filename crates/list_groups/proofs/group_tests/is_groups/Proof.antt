@@ -5,13 +5,13 @@ use mathlib.Core.Path.{sym, _∙_}
 use mathlib.Core.Bool.{true, false}
 use lib.ListN.{length}
 use borrow.Author.Tests.{not-true, not-false}
-use Rattle.list_groups.proofs.GroupTesting.{Tested, tested-start, tested-fits, tested-wrong, tested-late, tested-next, tested-end, not-whole}
+use Rattle.list_groups.proofs.GroupTesting.{TestedGroups, tested-start, tested-fits, tested-wrong, tested-late, tested-next, tested-end, not-whole}
 use Rattle.list_groups.proofs.GroupTesting.{by-records}
 use Rattle.list_groups.proofs.group_tests.is_groups.Statement.{statement}
 use Rattle.list_groups.proofs.group_tests.is_groups.Tie as tie
 
 abbrev Inv-loop : tie.InvT-loop
-Inv-loop g list w at₀ at = Tested g list at
+Inv-loop g list w at₀ at = TestedGroups g list at
 
 abbrev μ-loop : tie.MeasureT-loop
 μ-loop g list w at₀ at = length list - at

@@ -6,12 +6,12 @@ use lib.ListN.{length, drop, getD}
 use borrow.Author.Tests.{le-leb, lt-leb}
 use Rattle.words.specs.Sequences.{all}
 use Rattle.words.proofs.Walking.{all-end, all-goes, all-stops}
-use Rattle.registers.specs.Registers.{inRange, mostRank}
+use Rattle.registers.specs.Registers.{isRank, mostRank}
 use Rattle.list_registers.proofs.tests.in_range.Statement.{statement}
 use Rattle.list_registers.proofs.tests.in_range.Tie as tie
 
 abbrev Inv-loop : tie.InvT-loop
-Inv-loop list i₀ i = (i ≤ length list) × (all inRange list ≡ all inRange (drop i list))
+Inv-loop list i₀ i = (i ≤ length list) × (all isRank list ≡ all isRank (drop i list))
 
 abbrev μ-loop : tie.MeasureT-loop
 μ-loop list i₀ i = length list - i
@@ -30,7 +30,7 @@ returns c =
     let l = c .before .before .before in
     let xs = l .before .args .list .now in
     let e = lt-leb (getD xs (l .loop .i) 0) mostRank (omega arith) in
-    sym (l .loop .inv .1 ∙ all-stops xs (l .loop .i) inRange (omega arith) e)
+    sym (l .loop .inv .1 ∙ all-stops xs (l .loop .i) isRank (omega arith) e)
 
 add-i : tie.Need-add-i Inv-loop μ-loop
 add-i c = omega arith
@@ -43,12 +43,12 @@ loop-again c =
     let l = c .before .before .before in
     let xs = l .before .args .list .now in
     let e = le-leb (getD xs (l .loop .i) 0) mostRank (omega arith) in
-    (omega arith, l .loop .inv .1 ∙ all-goes xs (l .loop .i) inRange (omega arith) e)
+    (omega arith, l .loop .inv .1 ∙ all-goes xs (l .loop .i) isRank (omega arith) e)
 
 returns-2 : tie.Need-returns-2 Inv-loop μ-loop
 returns-2 c =
     let l = c .before in
-    sym (l .loop .inv .1 ∙ all-end (l .before .args .list .now) (l .loop .i) inRange (omega arith))
+    sym (l .loop .inv .1 ∙ all-end (l .before .args .list .now) (l .loop .i) isRank (omega arith))
 
 pub in-range-spec : {M : Type 1} → statement M
 in-range-spec =

@@ -1,11 +1,11 @@
 -- `branches_words` meets its contract: the words passed and those of the branches left are the words of all.
 use native.Mathlib.Omega.{arith}
-use Rattle.plans.proofs.BranchWalk.{Walk, walk-start, walk-end, walk-read, walk-words, walk-next}
+use Rattle.plans.proofs.BranchWalk.{BranchesWalked, walk-start, walk-end, walk-read, walk-words, walk-next}
 use Rattle.plan_parts.proofs.branches.branches_words.Statement.{statement}
 use Rattle.plan_parts.proofs.branches.branches_words.Tie as tie
 
 abbrev Inv-loop : tie.InvT-loop
-Inv-loop p count at₀ left₀ at left = Walk count p at left
+Inv-loop p count at₀ left₀ at left = BranchesWalked count p at left
 
 abbrev μ-loop : tie.MeasureT-loop
 μ-loop p count at₀ left₀ at left = left

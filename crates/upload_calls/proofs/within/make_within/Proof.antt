@@ -16,9 +16,9 @@ use Rattle.uploads.proofs.Kept.{kept-most}
 use Rattle.uploads.proofs.Lengths.{report-length}
 use Rattle.uploads.proofs.Writes.{upload-few}
 use Rattle.upload_fates.specs.Judging.{Judged}
-use Rattle.upload_rooms.specs.Rooms.{roomFor}
+use Rattle.upload_rooms.specs.Rooms.{makeRoomFor}
 use Rattle.upload_writes.proofs.Tables.{kept-counted, report-words}
-use Rattle.upload_rooms.proofs.Rooms.{RoomParts, room-parts}
+use Rattle.upload_rooms.proofs.Rooms.{MakeRoomParts, room-parts}
 use Rattle.upload_calls.proofs.Outcome.{dropped-is, no-room, served, same-result}
 use Rattle.upload_calls.proofs.within.make_within.Statement.{statement}
 use Rattle.upload_calls.proofs.within.make_within.Tie as tie
@@ -92,12 +92,12 @@ returns c =
 
 -- ---- where there is room
 has : (c : tie.Else1) → let k = c .before .before in let a = start k .args in
-    roomFor (k .count-kept .result) (uploadCount (upload (start k)) - k .count-kept .result)
+    makeRoomFor (k .count-kept .result) (uploadCount (upload (start k)) - k .count-kept .result)
     (length (a .rows .now)) (length (a .pos .now)) (length (a .osp .now)) (length (a .report .now)) ≡ true
 has c = sym (c .before .has-room .ensures) ∙ not-false (c .before .has-room .result) (c .if1 .left)
 
 fits : (c : tie.Else1) → let k = c .before .before in let a = start k .args in
-    RoomParts (k .count-kept .result) (uploadCount (upload (start k)) - k .count-kept .result)
+    MakeRoomParts (k .count-kept .result) (uploadCount (upload (start k)) - k .count-kept .result)
     (length (a .rows .now)) (length (a .pos .now)) (length (a .osp .now)) (length (a .report .now))
 fits c = room-parts _ _ _ _ _ _ (has c)
 

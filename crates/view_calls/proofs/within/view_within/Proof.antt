@@ -20,8 +20,8 @@ use Rattle.view_marks.proofs.Visible.{number-visible, marks-visible}
 use Rattle.view_grants.proofs.Grants.{right-ascends}
 use Rattle.views.specs.Renumbered.{passedBefore}
 use Rattle.view_writes.specs.Writing.{shownBy, shownWords, shownNumbers}
-use Rattle.view_calls.specs.Room.{roomFor}
-use Rattle.view_calls.proofs.Outcome.{RoomParts, room-parts, no-room, served, same-result}
+use Rattle.view_calls.specs.Room.{viewRoomFor}
+use Rattle.view_calls.proofs.Outcome.{ViewRoomParts, room-parts, no-room, served, same-result}
 use Rattle.view_calls.proofs.Shown.{rows-right, pos-named, osp-named, shown-count, shown-rows, shown-pos, shown-osp}
 use Rattle.view_calls.proofs.within.view_within.Statement.{statement}
 use Rattle.view_calls.proofs.within.view_within.Tie as tie
@@ -103,11 +103,11 @@ abbrev marked : tie.Else1 → Marks
 marked e = e .before .before .before .before
 
 has : (e : tie.Else1) → let a = start (marked e) .args in
-    roomFor (marked e .mark .result) (length (a .view-rows .now)) (length (a .view-pos .now)) (length (a .view-osp .now)) ≡ true
+    viewRoomFor (marked e .mark .result) (length (a .view-rows .now)) (length (a .view-pos .now)) (length (a .view-osp .now)) ≡ true
 has e = sym (e .before .has-room .ensures) ∙ not-false (e .before .has-room .result) (e .if1 .left)
 
 fits : (e : tie.Else1) → let a = start (marked e) .args in
-    RoomParts (marked e .mark .result) (length (a .view-rows .now)) (length (a .view-pos .now)) (length (a .view-osp .now))
+    ViewRoomParts (marked e .mark .result) (length (a .view-rows .now)) (length (a .view-pos .now)) (length (a .view-osp .now))
 fits e = room-parts _ _ _ _ (has e)
 
 flag-members-requires : tie.Need-flag-members-requires
