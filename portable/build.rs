@@ -36,7 +36,7 @@ const PUT_IN: [&str; 22] = [
     "list_group_totals",
     "list_longs",
     "list_row_orders",
-    "lists",
+    "list_rows",
     "plan_ending_parts",
     "state_saving",
     "step_fields",
@@ -57,8 +57,17 @@ const PUT_IN: [&str; 22] = [
 ];
 /// Those whose functions may be, also in a program that compiles the library in several units and does not optimise it as a whole. The
 /// searches of table_starts and table_ends stay calls: put where they are called before those are optimised, they are slower.
-const MAY_BE_PUT_IN: [&str; 8] =
-    ["list_endings", "list_groups", "plan_parts", "plans", "step_levels", "table_row_orders", "tables", "words"];
+const MAY_BE_PUT_IN: [&str; 9] = [
+    "list_endings",
+    "list_group_tests",
+    "list_groups",
+    "plan_parts",
+    "plans",
+    "step_levels",
+    "table_row_orders",
+    "tables",
+    "words",
+];
 /// The crate of the fixed fields that each step copies: without gaps, since the bytes of those would be copied along one by one.
 const PACKED: &str = "steps";
 

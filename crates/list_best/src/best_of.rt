@@ -1,8 +1,8 @@
 // Best-of lists: the first k rows by the keys, rows equal in all keys in their order of delivery.
 use list_best_places::place_in;
 use list_row_orders::comes_before;
-use lists::insert;
-use lists::row_of;
+use list_rows::insert;
+use list_rows::row_of;
 ghost use mathlib.Core.Path.{_≡_};
 ghost use mathlib.Core.Bool.{true};
 ghost use Prim.Native.Nat.{_≤_, _<_};

@@ -27,7 +27,7 @@ use Rattle.words.proofs.Ascending.{Ascending}
 use Rattle.list_group_totals.proofs.RecordAt as at-words
 use Rattle.lists.proofs.GroupWords.{Words, have-keys-in}
 use Rattle.lists.proofs.GroupValid.{right-ascending}
-use Rattle.list_groups.proofs.GroupTesting.{before-keys}
+use Rattle.list_groups.proofs.KeySides.{before-keys}
 use Rattle.list_group_totals.proofs.FlatGroups.{flat, flat-append, length-flat}
 use Rattle.lists.proofs.GroupsAdded.{have-addAll}
 use Rattle.list_group_merges.proofs.AddingLast.{Below, ascending-last}

@@ -1,7 +1,5 @@
 pub mod Searching
 pub mod KeySides
-pub mod RecordSteps
-pub mod GroupTesting
 pub mod DeliveredGroups
 pub mod PutAnswers
 pub mod PutGroups

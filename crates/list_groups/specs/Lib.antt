@@ -1,4 +1,3 @@
 pub mod Keys
 pub mod Finding
 pub mod TakingRows
-pub mod GroupTests

@@ -1,8 +1,6 @@
-// Lists of groups: a row counted in its group, and the test of a list.
-mod group_tests;
+// Lists of groups: a row counted in its group.
 mod groups;
 
-pub use group_tests::is_groups;
 pub use groups::by_group;
 pub use groups::put_group;
 

@@ -15,9 +15,9 @@ pub fn threshold_right(ending: &[u32], threshold: &[u32]) -> bool
             plan_ending_parts::variables(ending),
             threshold,
         ),
-        Last::Rows => lists::no_threshold(threshold),
-        Last::Group => lists::no_threshold(threshold),
-        Last::Registers => lists::no_threshold(threshold),
+        Last::Rows => list_rows::no_threshold(threshold),
+        Last::Group => list_rows::no_threshold(threshold),
+        Last::Registers => list_rows::no_threshold(threshold),
         Last::Neither => false,
     }
 }

@@ -1,14 +1,4 @@
-// The lists that a turn writes and a merge reads, as defined; and the code that lists of each kind share: rows, words moved in a buffer.
-mod rows;
-mod shifts;
-mod tests;
-
-pub use rows::put_row;
-pub use rows::row_of;
-pub use shifts::insert;
-pub use shifts::shift;
-pub use tests::is_values;
-pub use tests::no_threshold;
+// The lists that a turn writes and a merge reads, as defined.
 
 // Where one thing stands against another in an order.
 pub enum Comes {

@@ -3,7 +3,7 @@ use borrow.Author.Needs.{needs}
 use Prim.Native.Nat.{_+_}
 use native.Mathlib.Omega.{arith}
 use mathlib.Core.Path.{sym, _∙_}
-use Rattle.list_groups.proofs.GroupTesting.{not-first}
+use Rattle.list_groups.proofs.KeySides.{not-first}
 use Rattle.list_group_merges.proofs.WalkSteps.{pick-none}
 use Rattle.list_group_merges.proofs.Laying.{pick-lent}
 use Rattle.list_group_merges.proofs.weave.pick.Statement.{statement}

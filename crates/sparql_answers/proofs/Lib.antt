@@ -1,0 +1,7 @@
+pub mod Wood
+pub mod Unique
+pub mod UniqueBest
+pub mod OtherAnswers
+pub mod OtherSums
+pub mod TwoYears
+pub mod Signs
