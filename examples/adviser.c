@@ -6,6 +6,11 @@
  *     rt staticlib sotjarn
  *     cc -Ibindings/c examples/adviser.c target/staticlib/libsotjarn.a -o adviser && ./adviser
  *
+ * or without Rattle, by cargo alone:
+ *
+ *     make portable
+ *     cc -Ibindings/c examples/adviser.c portable/target/release/libsotjarn_portable.a -o adviser && ./adviser
+ *
  * examples/adviser.expected has what it prints.
  */
 #include "sotjarn.h"
@@ -79,7 +84,7 @@ static struct sotjarn_turned turn(const struct tables *seen, uint32_t *state, si
                      SOTJARN_STATE_WORDS, state_words, QUANTUM, grant, 0, output, OUTPUT);
     printf("a turn: %" PRIu32 " steps, %s\n", turned.steps, endings[turned.ending]);
     for (size_t at = 0; at < turned.list_words; at += 2)
-        printf("  stem n%" PRIu32 " %" PRIu32 "\n", SOTJARN_TERM_VALUE(output[at]), SOTJARN_TERM_VALUE(output[at + 1]));
+        printf("  stem n%" PRIu32 " %" PRId32 "\n", SOTJARN_TERM_VALUE(output[at]), SOTJARN_NUMBER_VALUE(output[at + 1]));
     return turned;
 }
 

@@ -4,27 +4,37 @@
  *     rt staticlib sotjarn
  *     cc -Ibindings/c examples/best_of.c target/staticlib/libsotjarn.a -o best_of && ./best_of
  *
- * It prints the row that was dropped, "row 2 of the upload: repeat", and 00000002 40000136: stem n2, 310.
+ * or without Rattle, by cargo alone:
+ *
+ *     make portable
+ *     cc -Ibindings/c examples/best_of.c portable/target/release/libsotjarn_portable.a -o best_of && ./best_of
+ *
+ * It prints the row that was dropped, "row 2 of the upload: repeat", and the best stem, "stem n2 310".
  */
 #include "sotjarn.h"
 #include "sotjarn_words.h"
+#include <inttypes.h>
 #include <stdio.h>
+
+#define STEM SOTJARN_VARIABLE(0)
+#define SIZE SOTJARN_VARIABLE(1)
+#define ROW(stem, predicate, object) SOTJARN_NUMBER(2026), SOTJARN_NAME(stem), SOTJARN_NAME(predicate), object
 
 /* SURVEY is the number that the upload got: another one goes with every upload */
 enum { SURVEY = 7, COUNT = 7, PLAN = 16, STATE = SOTJARN_STATE_WORDS, BEST = 1, WIDTH = 2, QUANTUM = 4 };
 
 /* rows of 2026; the third is the second again */
 static const uint32_t upload[4 * COUNT] = {
-    0x400007EA, 3, 12, 0x40000136, 0x400007EA, 2, 12, 0x40000136, 0x400007EA, 2, 12, 0x40000136, 0x400007EA, 2, 10, 100,
-    0x400007EA, 3, 10, 100, 0x400007EA, 1, 10, 100, 0x400007EA, 1, 12, 0x4000002D};
+    ROW(3, 12, SOTJARN_NUMBER(310)), ROW(2, 12, SOTJARN_NUMBER(310)), ROW(2, 12, SOTJARN_NUMBER(310)), ROW(2, 10, SOTJARN_NAME(100)),
+    ROW(3, 10, SOTJARN_NAME(100)), ROW(1, 10, SOTJARN_NAME(100)), ROW(1, 12, SOTJARN_NUMBER(45))};
 
 /* room for all that an upload of so many rows can make */
 static uint32_t rows[4 * COUNT], pos[COUNT], osp[COUNT], report[2 * COUNT];
 
 /* ?0 n10 n100, ?0 n12 ?1, condition ?1 >= i70; the best 1 of rows ?0 ?1 by ?1 falling */
 static const uint32_t plan[PLAN] = {
-    0x10000001, 0x20000002, 0xC0000000, 10, 100, 0xC0000000, 12, 0xC0000001, 0x70000005, 0xC0000001, 0x40000046,
-    0x90000000 + BEST, 0x80000000 + WIDTH, 0xC0000000, 0xC0000001, 0xB0000001};
+    SOTJARN_HEAD(1), SOTJARN_BRANCH(2), STEM, SOTJARN_NAME(10), SOTJARN_NAME(100), STEM, SOTJARN_NAME(12), SIZE,
+    SOTJARN_COMPARISON(SOTJARN_AT_LEAST), SIZE, SOTJARN_NUMBER(70), SOTJARN_TOP(BEST), SOTJARN_ROWS(WIDTH), STEM, SIZE, SOTJARN_FALLING(1)};
 
 static int refused(uint32_t number) {
     printf("refused %u\n", (unsigned)number);
@@ -66,6 +76,6 @@ int main(void) {
     } while (ending != SOTJARN_DONE);
 
     for (size_t at = 0; at < kept_words; at += WIDTH)
-        printf("%08X %08X\n", (unsigned)kept[at], (unsigned)kept[at + 1]);
+        printf("stem n%" PRIu32 " %" PRId32 "\n", SOTJARN_TERM_VALUE(kept[at]), SOTJARN_NUMBER_VALUE(kept[at + 1]));
     return 0;
 }

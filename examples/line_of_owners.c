@@ -5,6 +5,11 @@
  *     rt staticlib sotjarn
  *     cc -Ibindings/c examples/line_of_owners.c target/staticlib/libsotjarn.a -o line_of_owners && ./line_of_owners
  *
+ * or without Rattle, by cargo alone:
+ *
+ *     make portable
+ *     cc -Ibindings/c examples/line_of_owners.c portable/target/release/libsotjarn_portable.a -o line_of_owners && ./line_of_owners
+ *
  * examples/line_of_owners.expected has what it prints.
  */
 #include "sotjarn.h"
@@ -105,7 +110,7 @@ static uint32_t take(struct phone *phone, const uint32_t *words, size_t count)
     struct sotjarn_written merged;
     if (is_rows(phone)) {
         for (size_t at = 0; at < count; at += 2)
-            printf("  stem n%" PRIu32 " %" PRIu32 "\n", SOTJARN_TERM_VALUE(words[at]), SOTJARN_TERM_VALUE(words[at + 1]));
+            printf("  stem n%" PRIu32 " %" PRId32 "\n", SOTJARN_TERM_VALUE(words[at]), SOTJARN_NUMBER_VALUE(words[at + 1]));
         return 0;
     }
     merged = sotjarn_merge(phone->plan, phone->plan_len, phone->kept, OUTPUT, phone->kept_words, words, count);
@@ -118,7 +123,7 @@ static uint32_t take(struct phone *phone, const uint32_t *words, size_t count)
 static void show(const struct phone *phone)
 {
     if (phone->plan == total)
-        printf("  in all %" PRIu64 " stems, %" PRIu64 "\n", sotjarn_wide(phone->kept), sotjarn_wide(phone->kept + 4));
+        printf("  in all %" PRIu64 " stems, %" PRId64 "\n", sotjarn_wide(phone->kept), sotjarn_sum(phone->kept + 4));
     if (phone->plan == largest)
         printf("  the largest is n%" PRIu32 "\n", SOTJARN_TERM_VALUE(phone->kept[0]));
 }

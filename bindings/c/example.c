@@ -2,7 +2,8 @@
  * list with a threshold, totals merged turn by turn, the total of nothing, registers and a report on them, two owners on the line, an adviser's view, a
  * state after the next upload, two years, a wood grown from a seed, and refused calls. Each buffer comes from malloc with exactly the words
  * it needs, so that a memory checker sees every word beside it.
- * Compiles as C99 and as C++. Prints what it does; exits with 1 where something is not as the rules say. */
+ * Compiles as C99 and as C++, with the proved library or the portable one (README.md). Prints what it does; exits with 1 where something is
+ * not as the rules say. */
 #include "sotjarn.h"
 #include "sotjarn_words.h"
 
@@ -150,11 +151,13 @@ static const char *ending_name(uint32_t ending)
     return names[ending];
 }
 
-/* A term as n5, i5 or t5; - is unbound. */
+/* A term as n5, i5, i-5 or t5; - is unbound. */
 static void print_term(uint32_t word)
 {
     if (word == SOTJARN_UNBOUND)
         printf(" -");
+    else if (SOTJARN_TERM_KIND(word) == SOTJARN_KIND_NUMBER)
+        printf(" i%" PRId32, SOTJARN_NUMBER_VALUE(word));
     else
         printf(" %c%" PRIu32, "nit?"[SOTJARN_TERM_KIND(word)], SOTJARN_TERM_VALUE(word));
 }

@@ -100,15 +100,16 @@ class Grants:
     def table_damage(self, call):
         """A kind, an order, a list or a length."""
         rows, pos, osp = map(list, call.tables)
+        whole = len(rows) // COLUMNS                 # whole rows: another damage may have been there before
         way = self.rng.randrange(7)
         if way == 0 and rows:
             rows[self.rng.randrange(len(rows))] |= 3 << 30
-        elif way == 1 and len(rows) > COLUMNS:
-            at = COLUMNS * self.rng.randrange(len(rows) // COLUMNS - 1)
+        elif way == 1 and whole > 1:
+            at = COLUMNS * self.rng.randrange(whole - 1)
             one, other = rows[at:at + COLUMNS], rows[at + COLUMNS:at + 2 * COLUMNS]
             rows[at:at + 2 * COLUMNS] = other + (one if self.rng.random() < .5 else other)
-        elif way == 6 and rows:
-            rows[COLUMNS * self.rng.randrange(len(rows) // COLUMNS)] = self.rng.choice([number(0), number(MOST_YEAR + 1), number(-1)])
+        elif way == 6 and whole:
+            rows[COLUMNS * self.rng.randrange(whole)] = self.rng.choice([number(0), number(MOST_YEAR + 1), number(-1)])
         elif way == 2 and pos:
             pos[self.rng.randrange(len(pos))] = self.rng.choice([0, len(pos), len(pos) - 1])
         elif way == 3 and len(osp) > 1:
@@ -116,7 +117,7 @@ class Grants:
             osp[at:at + 2] = osp[at + 1], osp[at]
         elif way == 4:
             self.rng.choice([rows, pos, osp]).append(0)
-        elif rows:
+        elif rows and pos and osp:
             self.rng.choice([rows, pos, osp]).pop()
         return call._replace(tables=Tables(tuple(rows), tuple(pos), tuple(osp)))
 

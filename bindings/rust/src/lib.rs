@@ -62,6 +62,11 @@
 #![warn(missing_docs)]
 #![cfg_attr(not(feature = "proved"), forbid(unsafe_code))]
 
+/// The page beside this crate: its program is a documentation test.
+#[cfg(doctest)]
+#[doc = include_str!("../README.md")]
+struct Readme;
+
 mod calls;
 #[cfg(feature = "proved")]
 #[path = "proved.rs"]

@@ -17,16 +17,23 @@ fn count(result: io::Result<usize>) -> isize {
     }
 }
 
-/// Some of the bytes, written. A pipe that nobody reads any more ends the program, as it ends the proved printer.
+/// The bytes, written. Output that cannot be written ends the program: a pipe that nobody reads any more without a word, as it ends the
+/// proved printer, anything else with the reason, said once.
 pub fn write(fd: i32, bytes: &[u8]) -> isize {
     let result = match fd {
         STDOUT_FILENO => io::stdout().write_all(bytes).and_then(|()| io::stdout().flush()),
         _ => io::stderr().write_all(bytes),
     };
-    if matches!(&result, Err(error) if error.kind() == io::ErrorKind::BrokenPipe) {
-        std::process::exit(crate::FAILED.into());
+    match result {
+        Err(error) if fd == STDOUT_FILENO => {
+            if error.kind() != io::ErrorKind::BrokenPipe {
+                os::set_error(error);
+                os::fail(b"turns: standard output");
+            }
+            std::process::exit(crate::FAILED.into())
+        }
+        other => count(other.map(|()| bytes.len())),
     }
-    count(result.map(|()| bytes.len()))
 }
 
 pub fn read(fd: i32, bytes: &mut [u8]) -> isize {

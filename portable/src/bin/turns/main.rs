@@ -19,6 +19,8 @@ const FAILED: u8 = 2;
 
 const HELP: &str = "\
 usage: turns FILE
+       turns --help
+       turns --version
 
 Prints what the query of a file of words answers, turn by turn; tools/wood pack makes such a file of a text.
 The exit code is 0 where the query was played to its end, 1 where it was refused, and 2 where FILE cannot be read or the
@@ -45,9 +47,26 @@ fn print_file(path: &std::ffi::OsStr) -> ExitCode {
     }
 }
 
+/// Whether standard output was closed when the program was started. Rust's runtime opens /dev/null in its place, for reading and writing, so
+/// that writing never fails; whoever means /dev/null opens it for writing alone. Told on Linux only.
+fn output_closed() -> bool {
+    let is_null = std::fs::read_link("/proc/self/fd/1").map_or(false, |path| path.as_os_str() == "/dev/null");
+    let flags = std::fs::read_to_string("/proc/self/fdinfo/1").unwrap_or_default();
+    let both_ways = flags.lines().any(|line| line.starts_with("flags:") && line.ends_with('2'));
+    is_null && both_ways
+}
+
 fn main() -> ExitCode {
     let words: Vec<_> = env::args_os().skip(1).collect();
+    if output_closed() {
+        eprintln!("turns: standard output is closed");
+        return ExitCode::from(FAILED);
+    }
     match &words[..] {
+        [word] if word == "--version" => {
+            println!("turns {}", env!("CARGO_PKG_VERSION"));
+            ExitCode::SUCCESS
+        }
         [word] if word == "--help" || word == "-h" => {
             print!("{HELP}");
             ExitCode::SUCCESS
