@@ -8,7 +8,7 @@ use lib.ListN.{take}
 use Rattle.words.specs.Bindings.{Bindings}
 use Rattle.words.specs.Sequences.{iterate}
 use Rattle.tables.specs.Tables.{Tables}
-use Rattle.plans.specs.Endings.{rows, registers}
+use Rattle.plans.specs.Endings.{rows}
 use Rattle.plans.specs.Plans.{Plan}
 use Rattle.plans.proofs.Bounds.{EndingForm}
 use Rattle.steps.specs.Steps.{after}
@@ -23,7 +23,9 @@ use Rattle.turns.specs.Turns.{isDone, isOver}
 use Rattle.cuts.specs.Histories.{ServedTurn, stepsIn, doneIn}
 use Rattle.cuts.specs.Premises.{listsIn}
 use Rattle.cuts.specs.Uncut.{Takes, Placed, joinedLists, runList, keptAfter}
-use Rattle.cuts.specs.Unsent.{Unsent}
+use Rattle.cuts.specs.Unsent.{BestUnsent}
+use Rattle.cuts.proofs.Placing.{steps-from-start}
+use Rattle.cuts.proofs.NoThreshold.{ThresholdsPass, all-unsent}
 
 -- ---- steps added up, and done
 pub steps-append : (xs ys : List ServedTurn) → stepsIn (xs ++ ys) ≡ stepsIn xs + stepsIn ys
@@ -80,17 +82,6 @@ abbrev pub Chain : Survey → Plan → ℕ → List ServedTurn → ℕ → Type 
 Chain v q from [] end = from ≡ end
 Chain v q from (x ∷ xs) end = (to : ℕ) × (Piece v q from to x × Chain v q to xs end)
 
--- to a query of rows or of registers no threshold is sent, by test 11
-no-threshold : (vs threshold : List ℕ) → thresholdRight (rows vs) threshold ≡ true → threshold ≡ []
-unfolding thresholdRight
-no-threshold vs [] e = refl
-no-threshold vs (w ∷ ws) e = absurd (let z : _≡_ {A = ℕ} 0 1 = cc in omega arith)
-
-no-registers-threshold : (x : ℕ) (threshold : List ℕ) → thresholdRight (registers x) threshold ≡ true → threshold ≡ []
-unfolding thresholdRight
-no-registers-threshold x [] e = refl
-no-registers-threshold x (w ∷ ws) e = absurd (let z : _≡_ {A = ℕ} 0 1 = cc in omega arith)
-
 module _ (v : Survey) (q : Plan) where
   pub chain-append : (a b c : ℕ) (xs ys : List ServedTurn) → Chain v q a xs b → Chain v q b ys c → Chain v q a (xs ++ ys) c
   chain-append a b c [] ys p r = subst (λ n. Chain v q n ys c) (sym p) r
@@ -105,16 +96,13 @@ module _ (v : Survey) (q : Plan) where
   chain-placed a b [] c = c
   chain-placed a b (x ∷ xs) c = (c .0, (c .1 .0 .takes, chain-placed (c .0) b xs (c .1 .1)))
 
-  unsent : ((threshold : List ℕ) → thresholdRight (q .ending) threshold ≡ true → threshold ≡ []) → (a b : ℕ) (xs : List ServedTurn)
-      → Chain v q a xs b → Unsent xs
-  unsent f a b [] c = tt
-  unsent f a b (x ∷ xs) c = (f (x .sent) (c .1 .0 .right), unsent f (c .0) b xs (c .1 .1))
+  -- where no threshold was sent with a best-of query, as many steps as the distance
+  chain-passes : (a b : ℕ) (xs : List ServedTurn) → Chain v q a xs b → ThresholdsPass (q .ending) xs
+  chain-passes a b [] c = tt
+  chain-passes a b (x ∷ xs) c = (c .1 .0 .right, chain-passes (c .0) b xs (c .1 .1))
 
-  pub rows-unsent : (vs : List ℕ) → q .ending ≡ rows vs → (a b : ℕ) (xs : List ServedTurn) → Chain v q a xs b → Unsent xs
-  rows-unsent vs e = unsent (λ threshold r. no-threshold vs threshold (subst (λ d. thresholdRight d threshold ≡ true) e r))
-
-  pub registers-unsent : (x : ℕ) → q .ending ≡ registers x → (a b : ℕ) (xs : List ServedTurn) → Chain v q a xs b → Unsent xs
-  registers-unsent x e = unsent (λ threshold r. no-registers-threshold x threshold (subst (λ d. thresholdRight d threshold ≡ true) e r))
+  pub chain-steps : (b : ℕ) (xs : List ServedTurn) → Chain v q 0 xs b → BestUnsent (q .ending) xs → b ≡ stepsIn xs
+  chain-steps b xs c u = steps-from-start v q b xs (all-unsent (q .ending) xs (chain-passes 0 b xs c) u) (chain-placed 0 b xs c)
 
   -- ---- the thresholds and the rows of the pieces, and their lists, where done adds nothing to them
   pub sentRows : (a b : ℕ) (xs : List ServedTurn) → Chain v q a xs b → List (List ℕ × List Bindings)

@@ -1,7 +1,7 @@
 -- What every history keeps true, and what that says of it; and that it is kept when a list is taken or a turn is served.
 use Prim.Native.Nat.{ℕ, zero, suc, _≤_, _<_}
 use native.Mathlib.Omega.{arith}
-use mathlib.Core.Path.{_≡_, refl, sym, _∙_, ap, subst}
+use mathlib.Core.Path.{_≡_, refl, sym, _∙_, ap, subst, subst⁻¹}
 use mathlib.Core.Bool.{true}
 use mathlib.Core.Option.{Option, none, some}
 use mathlib.Core.List.{List, [], _∷_, _++_, flatten, append-assoc}
@@ -16,13 +16,15 @@ use Rattle.plans.proofs.Bounds.{EndingForm}
 use Rattle.steps.specs.Steps.{State, after}
 use Rattle.steps.specs.Saved.{savedWords, positionWords}
 use Rattle.lists.specs.Gathering.{gathered, takenInto}
+use Rattle.prunings.proofs.Sending.{KeepsNoBest, of-rows}
 use Rattle.turns.specs.Surveys.{Survey}
 use Rattle.turns.specs.Turns.{isDone, isOver}
 use Rattle.cuts.specs.Histories.{ServedTurn, Phone, servedIn, stepsIn, doneIn, afterServed, afterTaking}
 use Rattle.cuts.specs.Uncut.{EndsAt, AsUncut, joinedLists, runList, keptAfter, runFits}
 use Rattle.cuts.specs.Unsent.{Unsent}
 use Rattle.cuts.proofs.Placing.{placed-most, steps-from-start}
-use Rattle.cuts.proofs.Chains.{done-more, kept-some, Piece, Chain, chain-append, chain-take, chain-placed, rows-unsent, piece-adds, chain-joined}
+use Rattle.cuts.proofs.NoThreshold.{nothing-asked}
+use Rattle.cuts.proofs.Chains.{done-more, kept-some, Piece, Chain, chain-append, chain-take, chain-placed, chain-steps, piece-adds, chain-joined}
 
 pub record Kept (v : Survey) (q : Plan) (h : Phone) : Type 0 where
   pub upto : ℕ
@@ -90,7 +92,7 @@ module _ (v : Survey) (q : Plan) (form : EndingForm (q .ending)) where
     prefixes vs e j =
         let xs = take j (servedIn h) in
         let c = chain-take v q j 0 (k .reached) (servedIn h) (whole v q h k) in
-        let at = steps-from-start v q (c .0) xs (rows-unsent v q vs e 0 (c .0) xs (c .1)) (chain-placed v q 0 (c .0) xs (c .1)) in
+        let at = chain-steps v q (c .0) xs (c .1) (nothing-asked (subst⁻¹ KeepsNoBest e of-rows) xs) in
         chain-joined v q form vs e 0 (c .0) xs (c .1)
         ∙ ap (keptAfter (v .tables) q) at
         ∙ kept-rows vs e (stepsIn xs)

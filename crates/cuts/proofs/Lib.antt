@@ -1,4 +1,5 @@
 pub mod Placing
+pub mod NoThreshold
 pub mod Chains
 pub mod Accepting
 pub mod KeptValid
@@ -7,10 +8,11 @@ pub mod Turning
 pub mod MergeRefusals
 pub mod Taking
 pub mod AnyCut
-pub mod Unsent
 pub mod States
 pub mod AfterDone
+pub mod Sending
+pub mod KeptFits
+pub mod Unsent
 pub mod TurnRows
 pub mod Registers
-pub mod KeptFits
 pub mod Once

@@ -1,6 +1,6 @@
 -- Demand 3 of registers: in every history those merged so far are the uncut run's, up to where the last list taken ended; and a report counts those.
 use Prim.Native.Nat.{ℕ, zero, suc}
-use mathlib.Core.Path.{_≡_, refl, sym, _∙_, ap, subst}
+use mathlib.Core.Path.{_≡_, refl, sym, _∙_, ap, subst, subst⁻¹}
 use mathlib.Core.Bool.{true}
 use mathlib.Core.List.{List, [], map}
 use Rattle.words.specs.Sequences.{iterate, numbers}
@@ -14,6 +14,7 @@ use Rattle.lists.specs.Rows.{boundValues}
 use Rattle.lists.proofs.Closing.{registers-at}
 use Rattle.lists.proofs.Gatherings.{ValidKept}
 use Rattle.lists.proofs.RegisterLists.{registers-in, registers-gathered, registers-none}
+use Rattle.prunings.proofs.Sending.{KeepsNoBest, of-registers}
 use Rattle.turns.specs.Surveys.{Survey}
 use Rattle.turns.specs.Opening.{openOf, Opens}
 use Rattle.turns.specs.Turns.{isOver}
@@ -22,9 +23,9 @@ use Rattle.cuts.specs.Premises.{Premises}
 use Rattle.cuts.specs.Uncut.{runList, keptAfter}
 use Rattle.cuts.specs.Registers.{runRegisters, RegistersSoFar}
 use Rattle.cuts.proofs.Accepting.{opening-accepts}
-use Rattle.cuts.proofs.Chains.{registers-unsent}
+use Rattle.cuts.proofs.NoThreshold.{nothing-asked}
+use Rattle.cuts.proofs.Chains.{chain-steps}
 use Rattle.cuts.proofs.KeptValid.{kept-valid}
-use Rattle.cuts.proofs.Keeping.{taken-to}
 use Rattle.cuts.proofs.AnyCut.{history-keeps, fresh-keeps}
 
 module _ (t : Tables) (q : Plan) (x : ℕ) (ending : q .ending ≡ registers x) where
@@ -50,7 +51,7 @@ registers-so-far v plan state o es p x ending =
     let q = planOf plan in
     let h = history v plan (fresh (openOf v plan state)) es in
     let k = history-keeps v plan a es (fresh (openOf v plan state)) (fresh-keeps v plan a state o) p in
-    let at = taken-to v q h k (registers-unsent v q x ending 0 (k .upto) (h .taken) (k .taken)) in
+    let at = chain-steps v q (k .upto) (h .taken) (k .taken) (nothing-asked (subst⁻¹ KeepsNoBest ending of-registers) (h .taken)) in
     let same = ap registersIn (k .list) ∙ kept-registers (v .tables) q x ending (k .upto) ∙ ap (runRegisters (v .tables) q x) at in
     record {
       merged = same;

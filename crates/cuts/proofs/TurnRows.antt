@@ -2,7 +2,7 @@
 -- ended.
 use Prim.Native.Nat.{ℕ, _+_}
 use native.Mathlib.Omega.{arith}
-use mathlib.Core.Path.{_≡_, refl, sym, _∙_, ap, subst}
+use mathlib.Core.Path.{_≡_, refl, sym, _∙_, ap}
 use mathlib.Core.List.{List, [], _∷_, _++_, append-assoc, append-nil}
 use Rattle.words.specs.Bindings.{Bindings}
 use Rattle.words.specs.Sequences.{iterate}
@@ -19,37 +19,17 @@ use Rattle.turns.proofs.Follows.{served-run}
 use Rattle.cuts.specs.Histories.{Event, turns, merges, joins, Phone, ServedTurn, servedIn, stepsIn, turnInputOf, servedOf, afterServed, afterTurn}
 use Rattle.cuts.specs.Histories.{happens, history, fresh}
 use Rattle.cuts.specs.Premises.{Premises}
-use Rattle.cuts.specs.Unsent.{Unsent}
+use Rattle.cuts.specs.Unsent.{Unsent, BestUnsent}
 use Rattle.cuts.specs.TurnRows.{deliveredInTurn, deliveredInEvent, deliveredIn}
 use Rattle.cuts.specs.Accepting.{Accepted}
 use Rattle.cuts.proofs.Accepting.{opening-accepts}
-use Rattle.cuts.proofs.Placing.{unsent-left, unsent-right, steps-from-start}
+use Rattle.cuts.proofs.Placing.{steps-from-start}
 use Rattle.cuts.proofs.Chains.{steps-more, chain-placed}
 use Rattle.cuts.proofs.Keeping.{Kept, whole, served-more}
 use Rattle.cuts.proofs.Turning.{on}
 use Rattle.cuts.proofs.AnyCut.{history-keeps, fresh-keeps}
 use Rattle.cuts.proofs.AfterDone.{merge-same, join-same}
-
--- ---- what was sent no threshold after an event was sent none before
-module _ (v : Survey) (plan : List ℕ) where
-  turn-before : (h : Phone) (x : ServedTurn) (e : TurnEnding) → Unsent (servedIn (afterTurn h x e)) → Unsent (servedIn h)
-  turn-before h x ending.Done u = unsent-left (servedIn h) (x ∷ []) (subst Unsent (served-more h x) u)
-  turn-before h x ending.Spent u = unsent-left (servedIn h) (x ∷ []) (subst Unsent (served-more h x) u)
-  turn-before h x ending.Full u = unsent-left (servedIn h) (x ∷ []) (subst Unsent (served-more h x) u)
-  turn-before h x (ending.Refused y) u = u
-
-  event-before : (h : Phone) (e : Event) → Unsent (servedIn (happens v plan h e)) → Unsent (servedIn h)
-  unfolding happens
-  event-before h (turns behind quantum threshold output) u =
-      let r = turnOf (turnInputOf v plan h behind quantum threshold output) in
-      turn-before h (servedOf quantum threshold r) (r .answer .ending) u
-  event-before h (merges behind) u = subst Unsent (merge-same v plan h behind .served) u
-  event-before h joins u = subst Unsent (join-same v plan h .served) u
-
-  pub history-before : (es : List Event) (h : Phone) → Unsent (servedIn (history v plan h es)) → Unsent (servedIn h)
-  unfolding history
-  history-before [] h u = u
-  history-before (e ∷ es) h u = event-before h e (history-before es (happens v plan h e) u)
+use Rattle.cuts.proofs.Sending.{last-unsent, event-before, history-before, none-sent-but-best, premises-hold}
 
 module _ (v : Survey) (plan : List ℕ) (a : Accepted (v .tables) plan) where
   abbrev t : Tables
@@ -76,7 +56,7 @@ module _ (v : Survey) (plan : List ℕ) (a : Accepted (v .tables) plan) where
 
       served-adds : Served i → Unsent (servedIn (afterServed h x)) → rowsTo h ++ rowsOf (served i) ≡ rowsTo (afterServed h x)
       served-adds serve w =
-          let none-sent : threshold ≡ [] = unsent-right (servedIn h) (x ∷ []) (subst Unsent (served-more h x) w) .0 in
+          let none-sent = last-unsent h x w in
           let o = on v plan a h k behind quantum threshold output serve in
           let far = o .as-far none-sent in
           let sum = ap stepsIn (served-more h x) ∙ steps-more (servedIn h) x in
@@ -114,13 +94,13 @@ module _ (v : Survey) (plan : List ℕ) (a : Accepted (v .tables) plan) where
       ∙ ap (λ l. l ++ deliveredIn v plan (happens v plan h e) es) (event-adds h k (event-before v plan h e w) e w)
       ∙ history-adds es (happens v plan h e) (history-keeps v plan a (e ∷ []) h k (p .0, tt)) (p .1) u
 
--- from a fresh opening
+-- from a fresh opening: of a best-of query where no threshold was sent, of rows, groups and registers always
 pub rows-are-uncut : (v : Survey) (plan state : List ℕ) → Opens v plan state → (es : List Event)
-    → Premises v plan (fresh (openOf v plan state)) es
-    → Unsent (servedIn (history v plan (fresh (openOf v plan state)) es))
+    → BestUnsent (planOf plan .ending) (servedIn (history v plan (fresh (openOf v plan state)) es))
     → deliveredIn v plan (fresh (openOf v plan state)) es
     ≡ after (v .tables) (planOf plan) (stepsIn (servedIn (history v plan (fresh (openOf v plan state)) es))) .delivered
 unfolding stepsIn after iterate
-rows-are-uncut v plan state o es p u =
+rows-are-uncut v plan state o es u =
     let a = opening-accepts v plan state o in
-    history-adds v plan a es (fresh (openOf v plan state)) (fresh-keeps v plan a state o) p u
+    history-adds v plan a es (fresh (openOf v plan state)) (fresh-keeps v plan a state o) (premises-hold v plan state es u)
+    (none-sent-but-best v plan state es u)

@@ -4,7 +4,7 @@ use native.Mathlib.Omega.{arith}
 use mathlib.Core.Path.{_≡_, refl, sym, _∙_, ap, subst, subst⁻¹}
 use mathlib.Core.Bool.{Bool, true, false}
 use mathlib.Core.Option.{Option, none, some}
-use mathlib.Core.List.{List, [], _∷_}
+use mathlib.Core.List.{List}
 use lib.Dec.{leb}
 use lib.ListN.{length}
 use lib.Seq.{take-append-seam}
@@ -24,6 +24,7 @@ use Rattle.lists.proofs.TopLists.{Fine}
 use Rattle.lists.proofs.Closing.{top-at, few-fit}
 use Rattle.lists.proofs.FullLists.{deliveredBy, sent-fine}
 use Rattle.lists.proofs.Gatherings.{some-width}
+use Rattle.prunings.proofs.Sending.{of-groups}
 use Rattle.turns.specs.Surveys.{Survey}
 use Rattle.turns.specs.declared.TurnEnding.{TurnEnding}
 use Rattle.turns.specs.declared.TurnEnding.the-variants.{Done, Spent, Full, Refused}
@@ -43,14 +44,9 @@ use Rattle.cuts.specs.Histories.{ServedTurn, Phone, servedIn, turnInputO
 use Rattle.cuts.specs.Premises.{listsIn}
 use Rattle.cuts.specs.Accepting.{Accepted}
 use Rattle.cuts.proofs.Accepting.{accepted-form}
+use Rattle.cuts.proofs.NoThreshold.{takes-none}
 use Rattle.cuts.proofs.Chains.{Piece, sentRows, sent-lists, sent-rows}
 use Rattle.cuts.proofs.Keeping.{Kept, whole, serving-keeps}
-
--- to a query of groups no threshold is sent, by test 11
-no-threshold : (vs : List ℕ) (m : ℕ) (threshold : List ℕ) → thresholdRight (group vs m) threshold ≡ true → threshold ≡ []
-unfolding thresholdRight
-no-threshold vs m [] e = refl
-no-threshold vs m (w ∷ ws) e = absurd (let z : _≡_ {A = ℕ} 0 1 = cc in omega arith)
 
 module _ (v : Survey) (plan : List ℕ) (a : Accepted (v .tables) plan) (h : Phone) (k : Kept v (planOf plan) h) where
   abbrev t : Tables
@@ -132,7 +128,7 @@ module _ (v : Survey) (plan : List ℕ) (a : Accepted (v .tables) plan) (h : Pho
       totals-fit (group vs m) r =
           let own = ap (λ (u : Run). length (u .delivered)) (served-run i serve) in
           let few = progress-rows t q threshold (roomFor i) (stateIn (givenState i)) quantum in
-          few-fit (group vs m) (on .rows) (omega (arith, ap length (on .delivered (no-threshold vs m threshold r)), own, few, turn-limits i serve .most))
+          few-fit (group vs m) (on .rows) (omega (arith, ap length (on .delivered (takes-none of-groups threshold r)), own, few, turn-limits i serve .most))
 
       pub piece : Fine (q .ending) (after t q n .delivered) threshold → Piece v q n position x
       piece fine =

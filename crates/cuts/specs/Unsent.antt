@@ -1,4 +1,5 @@
--- What demand 3 says of a history in which no threshold was sent: positions are steps added up, and the history is as the uncut run step for step.
+-- What demand 3 says of a history in which no threshold was sent, as with rows, groups and registers none can be: positions are steps added up, and
+-- the history is as the uncut run step for step.
 -- Assumes nothing: these are definitions.
 use Prim.Native.Nat.{ℕ, _≤_}
 use mathlib.Core.Path.{_≡_}
@@ -6,7 +7,7 @@ use mathlib.Core.Logic.{_↔_}
 use mathlib.Core.Bool.{true}
 use mathlib.Core.List.{List, [], _∷_}
 use lib.ListN.{take}
-use Rattle.plans.specs.Endings.{rows}
+use Rattle.plans.specs.Endings.{Ending, rows, top, group, registers}
 use Rattle.plans.specs.Plans.{Plan}
 use Rattle.steps.specs.Steps.{after}
 use Rattle.steps.specs.Saved.{savedWords}
@@ -18,6 +19,13 @@ use Rattle.cuts.specs.Uncut.{EndsAt, joinedLists, runList, keptAfter}
 abbrev pub Unsent : List ServedTurn → Type 0
 Unsent [] = Unit {0}
 Unsent (x ∷ xs) = (x .sent ≡ []) × Unsent xs
+
+-- none was sent with a best-of query. Of rows, groups and registers nothing is asked, for with these test 11 refuses every threshold
+abbrev pub BestUnsent : Ending → List ServedTurn → Type 0
+BestUnsent (rows vs) xs = Unit {0}
+BestUnsent (top k vs keys) xs = Unsent xs
+BestUnsent (group vs m) xs = Unit {0}
+BestUnsent (registers v) xs = Unit {0}
 
 -- each served turn took at least one step and no more than its quantum
 abbrev pub WithinQuantum : List ServedTurn → Type 0

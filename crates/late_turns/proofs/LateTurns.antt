@@ -30,8 +30,7 @@ use Rattle.cuts.specs.Premises.{Premises, listsIn}
 use Rattle.cuts.specs.Uncut.{EndsAt, keptAfter}
 use Rattle.cuts.specs.Accepting.{Accepted}
 use Rattle.cuts.proofs.Accepting.{opening-accepts, accepted-form}
-use Rattle.cuts.proofs.Placing.{steps-from-start}
-use Rattle.cuts.proofs.Chains.{Chain, piece-adds, kept-some, chain-placed, sentRows, sent-lists, sent-rows}
+use Rattle.cuts.proofs.Chains.{Chain, piece-adds, kept-some, chain-placed, chain-steps, sentRows, sent-lists, sent-rows}
 use Rattle.cuts.proofs.Keeping.{Kept, end-later, whole}
 use Rattle.cuts.proofs.AnyCut.{history-keeps, fresh-keeps}
 use Rattle.late.specs.Apart.{Apart}
@@ -123,7 +122,7 @@ module _ (v : Survey) (plan : List ℕ) (a : Accepted (v .tables) plan) (h : Pho
       record {
         reached = n;
         placed = chain-placed v q 0 n (servedIn h) chain;
-        unsent = λ u. steps-from-start v q n (servedIn h) u (chain-placed v q 0 n (servedIn h) chain);
+        unsent = chain-steps v q n (servedIn h) chain;
         groups = λ vs m e w i p b f. group-once plan (listsIn (servedIn h)) vs m e w i p b f ∙ group-taken vs m e;
         registers = λ u e w i p b f.
             register-once plan (listsIn (servedIn h)) u e (all-there v q u e 0 n (servedIn h) chain) w i p b f ∙ registers-taken u e;

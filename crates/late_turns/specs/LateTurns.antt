@@ -17,7 +17,7 @@ use Rattle.turns.specs.Surveys.{Survey}
 use Rattle.cuts.specs.Histories.{Phone, servedIn, stepsIn, doneIn}
 use Rattle.cuts.specs.Premises.{listsIn}
 use Rattle.cuts.specs.Uncut.{EndsAt, Placed, keptAfter, runList}
-use Rattle.cuts.specs.Unsent.{Unsent}
+use Rattle.cuts.specs.Unsent.{BestUnsent}
 use Rattle.late.specs.Apart.{Apart}
 use Rattle.late.specs.Ways.{Way, turnsAlong, isMerge, given, EachOnce}
 use Rattle.late.specs.AnyOrder.{Reordered, SameEnd}
@@ -30,8 +30,8 @@ pub record LateAsUncut (v : Survey) (plan : List ℕ) (h : Phone) : Type 0 where
   -- the position of the uncut run where the last served turn ended: each turn took it on from where the one before it ended
   pub reached : ℕ
   pub placed : Placed v (planOf plan) 0 (servedIn h) reached
-  -- as many steps as the turns took, where no threshold was sent
-  pub unsent : Unsent (servedIn h) → reached ≡ stepsIn (servedIn h)
+  -- as many steps as the turns took: of a best-of query where no threshold was sent, of rows, groups and registers always
+  pub unsent : BestUnsent (planOf plan .ending) (servedIn h) → reached ≡ stepsIn (servedIn h)
   -- groups and registers: whatever the order and the grouping, as long as each turn's list is merged once
   pub groups : (vs : List ℕ) (m : ℕ) → planOf plan .ending ≡ group vs m
       → (w : Way) → isMerge w ≡ true → EachOnce (listsIn (servedIn h)) w → GivesUncut v plan h reached w

@@ -1,5 +1,6 @@
 pub mod Wood
 pub mod Unique
+pub mod UniqueRows
 pub mod UniqueBest
 pub mod OtherAnswers
 pub mod OtherSums

@@ -18,12 +18,13 @@ use Rattle.cuts.specs.Histories.{Event, Phone, servedIn, stepsIn, doneIn, histo
 use Rattle.cuts.specs.Premises.{Premises}
 use Rattle.cuts.specs.TurnRows.{deliveredIn}
 use Rattle.cuts.specs.Uncut.{EndsAt, runFits, runList}
-use Rattle.cuts.specs.Unsent.{Unsent}
+use Rattle.cuts.specs.Unsent.{BestUnsent}
 use Rattle.cuts.specs.Accepting.{Accepted}
 use Rattle.cuts.proofs.Accepting.{opening-accepts}
 use Rattle.cuts.proofs.AnyCut.{any-cut}
 use Rattle.cuts.proofs.TurnRows.{rows-are-uncut}
 use Rattle.cuts.proofs.Placing.{placed-most}
+use Rattle.cuts.proofs.Sending.{none-sent-but-best, premises-hold}
 use Rattle.cuts.proofs.Unsent.{upto-is}
 use Rattle.sparql.specs.Algebra.{ToList}
 use Rattle.sparql.specs.Reading.{mappingOf, solutionsOf, isWord}
@@ -61,9 +62,12 @@ finished v plan state o es p done taken =
     let c = any-cut v plan state o es p in
     let f = c .finished done taken in
     let all-taken : servedIn h ≡ h .taken = ap (λ l. h .taken ++ l) taken ∙ append-nil (h .taken) in
-    let to : Unsent (servedIn h) → c .upto ≡ stepsIn (h .taken) = λ u. upto-is v (planOf plan) h u c in
-    let rows : Unsent (servedIn h) → deliveredIn v plan (fresh (openOf v plan state)) es ≡ after (v .tables) (planOf plan) (c .upto) .delivered = λ u.
-    rows-are-uncut v plan state o es p u
+    let to : BestUnsent (planOf plan .ending) (servedIn h) → c .upto ≡ stepsIn (h .taken)
+    = λ u. upto-is v (planOf plan) h (none-sent-but-best v plan state es u) c in
+    let rows : BestUnsent (planOf plan .ending) (servedIn h)
+    → deliveredIn v plan (fresh (openOf v plan state)) es ≡ after (v .tables) (planOf plan) (c .upto) .delivered
+    = λ u.
+    rows-are-uncut v plan state o es u
     ∙ ap (λ l. after (v .tables) (planOf plan) (stepsIn l) .delivered) all-taken
     ∙ ap (λ n. after (v .tables) (planOf plan) n .delivered) (sym (to u)) in
     let k = run-answers (v .tables) plan (opening-accepts v plan state o) (c .upto) (f .0) (c .fits) (h .kept) (f .1) in
@@ -75,3 +79,11 @@ finished v plan state o es p done taken =
       years = λ u. subst (YearByYear (v .tables) (planOf plan)) (sym (rows u)) (k .years);
       as-many = λ u. sym (to u);
     }
+
+-- the same with no premise of demand 3: of rows, groups and registers it holds of itself, and of a best-of query where no threshold was sent
+pub finished-unsent : (v : Survey) (plan state : List ℕ) → Opens v plan state → (es : List Event)
+    → BestUnsent (planOf plan .ending) (servedIn (history v plan (fresh (openOf v plan state)) es))
+    → doneIn (servedIn (history v plan (fresh (openOf v plan state)) es)) ≡ true
+    → history v plan (fresh (openOf v plan state)) es .waiting ≡ []
+    → FinishedBy (v .tables) plan (deliveredIn v plan (fresh (openOf v plan state)) es) (history v plan (fresh (openOf v plan state)) es)
+finished-unsent v plan state o es u = finished v plan state o es (premises-hold v plan state es u)

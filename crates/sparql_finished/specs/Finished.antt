@@ -11,7 +11,7 @@ use Rattle.plans.specs.Plans.{planOf}
 use Rattle.steps.specs.Steps.{after}
 use Rattle.cuts.specs.Histories.{Phone, servedIn, stepsIn}
 use Rattle.cuts.specs.Uncut.{EndsAt}
-use Rattle.cuts.specs.Unsent.{Unsent}
+use Rattle.cuts.specs.Unsent.{BestUnsent}
 use Rattle.sparql.specs.Algebra.{ToList}
 use Rattle.sparql.specs.Reading.{mappingOf, solutionsOf, isWord}
 use Rattle.sparql.specs.Answers.{YearByYear, Answer}
@@ -25,17 +25,18 @@ pub record SparqlAnswer (t : Tables) (plan : List ℕ) (steps : ℕ) (list : Lis
   pub answer : Answer t (planOf plan) (after t (planOf plan) steps .delivered) (planOf plan .ending) list
   pub words : all isWord list ≡ true
 
--- a query whose turns delivered some rows, joined in order: the kept list is the answer, whatever thresholds were sent. Where none was, these rows too
--- are SPARQL's solutions, each as often, year after year, and the turns' steps are the whole run's
+-- a query whose turns delivered some rows, joined in order: the kept list is the answer, whatever thresholds were sent. Of rows, groups and registers
+-- always, and of a best-of query where none was sent, these rows too are SPARQL's solutions, each as often, year after year, and the turns' steps are
+-- the whole run's
 pub record FinishedBy (t : Tables) (plan : List ℕ) (rows : List Bindings) (h : Phone) : Type 0 where
   -- the steps of the whole uncut run
   pub steps : ℕ
   pub kept : SparqlAnswer t plan steps (h .kept)
   -- the turns took no more
   pub no-more : stepsIn (h .taken) ≤ steps
-  pub delivered : Unsent (servedIn h) → ToList (solutionsOf t (planOf plan)) (map mappingOf rows)
-  pub years : Unsent (servedIn h) → YearByYear t (planOf plan) rows
-  pub as-many : Unsent (servedIn h) → stepsIn (h .taken) ≡ steps
+  pub delivered : BestUnsent (planOf plan .ending) (servedIn h) → ToList (solutionsOf t (planOf plan)) (map mappingOf rows)
+  pub years : BestUnsent (planOf plan .ending) (servedIn h) → YearByYear t (planOf plan) rows
+  pub as-many : BestUnsent (planOf plan .ending) (servedIn h) → stepsIn (h .taken) ≡ steps
 
 -- the first words of the kept buffer, so many as answered, are the answer, and those past them are as they were
 pub record PlayedOut (t : Tables) (plan before kept : List ℕ) (words : ℕ) : Type 0 where
