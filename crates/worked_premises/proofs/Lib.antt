@@ -1,0 +1,5 @@
+pub mod Opening
+pub mod UntidyHold
+pub mod AmongOthersHold
+pub mod LastTurnHold
+pub mod HiddenRowsHold

@@ -1,0 +1,4 @@
+pub mod Untidy
+pub mod AmongOthers
+pub mod LastTurn
+pub mod HiddenRows
