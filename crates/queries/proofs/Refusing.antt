@@ -45,7 +45,7 @@ second-fails : (a b : Bool) → a ≡ true → a && b ≡ false → b ≡ false
 second-fails true b p h = h
 second-fails false b p h = absurd-true p refl
 
-empty-right : (e : Ending) → thresholdRight e [] ≡ true
+pub empty-right : (e : Ending) → thresholdRight e [] ≡ true
 unfolding thresholdRight
 empty-right e = refl
 

@@ -1,13 +1,13 @@
 -- A turn of the front entry, and which entries are an owner's after it.
-use Prim.Native.Nat.{ℕ, _+_, _-_}
+use Prim.Native.Nat.{ℕ, zero, suc, _+_, _-_}
 use native.Mathlib.Omega.{arith}
 use mathlib.Core.Path.{_≡_, refl, sym, _∙_, ap, subst}
 use mathlib.Core.Bool.{Bool, true, false, cond}
 use mathlib.Core.Option.{Option, none, some}
 use mathlib.Core.List.{List, [], _∷_, _++_, append-assoc}
 use lib.ListN.{take}
-use lib.Dec.{eqb}
-use borrow.Author.Tests.{eqb-false, ne-eqb}
+use lib.Dec.{eqb, leb}
+use borrow.Author.Tests.{eqb-false, ne-eqb, le-leb}
 use Rattle.words.specs.Sequences.{member}
 use Rattle.words.specs.Tests.{firstFailing}
 use Rattle.words.proofs.Booleans.{or-left, or-right}
@@ -17,7 +17,7 @@ use Rattle.turns.specs.declared.TurnEnding.{TurnEnding}
 use Rattle.turns.specs.declared.TurnEnding.the-variants as ending
 use Rattle.turns.specs.Turns.{TurnResult}
 use Rattle.queues.specs.declared.Entry.{Entry}
-use Rattle.queues.specs.Lists.{LentLists, lineOf, asideOf, ownersIn}
+use Rattle.queues.specs.Lists.{LentLists, lineOf, asideOf, ownersIn, hasSteps, hasNone}
 use Rattle.queues.specs.Serving.{Serving, ServeResult, entryAfter, frontTurn, goesBack, turnedTo, frontServed, servedAs, serveOf, serveTests}
 use Rattle.queues.specs.Serving.{serviceWith}
 use Rattle.queues.specs.Calls.{Queue, serve, MadeCall, lentTo, afterService, afterCall}
@@ -63,12 +63,19 @@ pub record FrontTold (v : Survey) (s : Serving) (e : Entry) (y : ServeResult) : 
   pub output : y .output ≡ frontTurn v s e .output
   pub served : (x : ℕ) → frontTurn v s e .answer .ending ≡ ending.Refused x → ⊥
 
+abbrev pub NotDone : Survey → Serving → Entry → Type 0
+NotDone v s e = ¬ (frontTurn v s e .answer .ending ≡ ending.Done)
+
+pub some-left : (n : ℕ) → eqb n 0 ≡ false → leb 1 n ≡ true
+some-left zero e = absurd (eqb-false 0 0 e refl)
+some-left (suc n) e = le-leb 1 (suc n) (omega arith)
+
 pub data Serviced (v : Survey) (s : Serving) (q : Queue) (y : ServeResult) : Queue → Type 0 where
   not-served : isServed (y .answer .turned .ending) ≡ false → Serviced v s q y q
   off : (e : Entry) (es : List Entry) → q .line ≡ e ∷ es → FrontTold v s e y → Serviced v s q y (queue es (q .aside))
-  on : (e : Entry) (es : List Entry) → q .line ≡ e ∷ es → FrontTold v s e y
+  on : (e : Entry) (es : List Entry) → q .line ≡ e ∷ es → FrontTold v s e y → NotDone v s e → hasSteps (entryAfter e (frontTurn v s e)) ≡ true
       → Serviced v s q y (queue (es ++ (entryAfter e (frontTurn v s e) ∷ [])) (q .aside))
-  out : (e : Entry) (es : List Entry) → q .line ≡ e ∷ es → FrontTold v s e y
+  out : (e : Entry) (es : List Entry) → q .line ≡ e ∷ es → FrontTold v s e y → NotDone v s e → hasNone (entryAfter e (frontTurn v s e)) ≡ true
       → Serviced v s q y (queue es (q .aside ++ (entryAfter e (frontTurn v s e) ∷ [])))
 
 module _ (v : Survey) (q : Queue) (m : MadeCall) (s : Serving) where
@@ -100,9 +107,9 @@ module _ (v : Survey) (q : Queue) (m : MadeCall) (s : Serving) where
         subst (λ (x : Queue). Serviced v s q (serviceWith held e r line aside) x)
         (sym (left (serviceWith held e r line aside) (r .answer .ending) h ∙ both-taken held line aside line aside′ refl f)) k
 
-    back : ((x : ℕ) → r .answer .ending ≡ ending.Refused x → ⊥)
+    back : ((x : ℕ) → r .answer .ending ≡ ending.Refused x → ⊥) → NotDone v s e
         → Serviced v s q (goesBack held e es r) (afterService q (goesBack held e es r) (goesBack held e es r .answer .turned .ending))
-    back h = by-left (eqb (e .allowance - r .answer .steps) 0)
+    back h f = by-left (eqb (e .allowance - r .answer .steps) 0) refl
       where
         d : Entry
         d = entryAfter e r
@@ -110,19 +117,22 @@ module _ (v : Survey) (q : Queue) (m : MadeCall) (s : Serving) where
         choose : Bool → ServeResult
         choose b = cond b (serviceWith held e r es (asideOf held ++ (d ∷ []))) (serviceWith held e r (es ++ (d ∷ [])) (asideOf held))
 
-        by-left : (b : Bool) → Serviced v s q (choose b) (afterService q (choose b) (choose b .answer .turned .ending))
-        by-left true =
+        by-left : (b : Bool) → eqb (e .allowance - r .answer .steps) 0 ≡ b
+            → Serviced v s q (choose b) (afterService q (choose b) (choose b .answer .turned .ending))
+        by-left true z =
             to es (asideOf held ++ (d ∷ [])) (q .aside ++ (d ∷ [])) h (ap (λ (ds : List Entry). ds ++ (d ∷ [])) (aside-lent q m))
-            (out e es front (told es (asideOf held ++ (d ∷ [])) h))
-        by-left false = to (es ++ (d ∷ [])) (asideOf held) (q .aside) h (aside-lent q m) (on e es front (told (es ++ (d ∷ [])) (asideOf held) h))
+            (out e es front (told es (asideOf held ++ (d ∷ [])) h) f z)
+        by-left false z =
+            to (es ++ (d ∷ [])) (asideOf held) (q .aside) h (aside-lent q m)
+            (on e es front (told (es ++ (d ∷ [])) (asideOf held) h) f (some-left (e .allowance - r .answer .steps) z))
 
     by-ending : (x : TurnEnding) → r .answer .ending ≡ x
         → Serviced v s q (turnedTo held s e es r x) (afterService q (turnedTo held s e es r x) (turnedTo held s e es r x .answer .turned .ending))
     by-ending ending.Done is =
         let h : (x : ℕ) → r .answer .ending ≡ ending.Refused x → ⊥ = λ x f. let z : _≡_ {A = ℕ} 0 1 = cc in omega arith in
         to es (asideOf held) (q .aside) h (aside-lent q m) (off e es front (told es (asideOf held) h))
-    by-ending ending.Spent is = back (λ x f. let z : _≡_ {A = ℕ} 0 1 = cc in omega arith)
-    by-ending ending.Full is = back (λ x f. let z : _≡_ {A = ℕ} 0 1 = cc in omega arith)
+    by-ending ending.Spent is = back (λ x f. let z : _≡_ {A = ℕ} 0 1 = cc in omega arith) (λ f. let z : _≡_ {A = ℕ} 0 1 = cc in omega arith)
+    by-ending ending.Full is = back (λ x f. let z : _≡_ {A = ℕ} 0 1 = cc in omega arith) (λ f. let z : _≡_ {A = ℕ} 0 1 = cc in omega arith)
     by-ending (ending.Refused x) is = not-served refl
 
   by-line : (es : List Entry) → lineOf held ≡ es

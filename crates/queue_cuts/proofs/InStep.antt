@@ -193,12 +193,12 @@ module _ (v : Survey) (owner : ℕ) (plan : List ℕ) where
     serve-step (off e es front told) =
         step-of e es front told es (q .aside) [] [] (sym (append-nil es)) (sym (append-nil (q .aside))) (λ _. (none-of-no-one owner, none-of-no-one owner))
         (λ hers at. gone (at .behind-none) (at .aside-none))
-    serve-step (on e es front told) =
+    serve-step (on e es front told f left) =
         let d = entryAfter e (frontTurn v s e) in
         step-of e es front told (one-end es d) (q .aside) (d ∷ []) [] refl (sym (append-nil (q .aside)))
         (λ f. (other owner d [] f (none-of-no-one owner), none-of-no-one owner))
         (λ hers at. in-line es [] d refl (still-holds v plan owner s e h (at .holds) (told .served)) (at .behind-none) (none-of-no-one owner) (at .aside-none))
-    serve-step (out e es front told) =
+    serve-step (out e es front told f left) =
         let d = entryAfter e (frontTurn v s e) in
         step-of e es front told es (one-end (q .aside) d) [] (d ∷ []) (sym (append-nil es)) refl
         (λ f. (none-of-no-one owner, other owner d [] f (none-of-no-one owner)))

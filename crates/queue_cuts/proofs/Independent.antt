@@ -34,7 +34,7 @@ use Rattle.queue_cuts.specs.Owners.{Independent, Finished}
 
 -- ---- from joining on
 -- a joined entry holds its plan and its state
-entry-holds : (j : Joining) → HoldsQuery (j .owner) (j .plan) (j .state) (newEntry j)
+pub entry-holds : (j : Joining) → HoldsQuery (j .owner) (j .plan) (j .state) (newEntry j)
 entry-holds j =
     record {
       its = refl;

@@ -1,0 +1,2 @@
+pub mod QueueCases
+pub mod Queues
