@@ -48,8 +48,8 @@ abbrev pub atThird : List ℕ
 atThird = atPlace 0xF0000005
 
 -- an entry in the list that its owner's steps say, with 5 past its plan and 7 past its state. Its plan's array is as short as it may be
-abbrev pub holding : List ℕ → List ℕ → ℕ → ℕ → Entry
-holding plan state owner steps =
+abbrev pub entryHolding : List ℕ → List ℕ → ℕ → ℕ → Entry
+entryHolding plan state owner steps =
     record {
       allowance = steps;
       owner = owner;
@@ -60,7 +60,7 @@ holding plan state owner steps =
     }
 
 abbrev pub waits : ℕ → ℕ → Entry
-waits owner steps = holding stemsQuery atStart owner steps
+waits owner steps = entryHolding stemsQuery atStart owner steps
 
 -- so many owners from a number on, with so many steps each
 abbrev pub crowd : ℕ → ℕ → ℕ → List Entry

@@ -11,7 +11,7 @@ use Rattle.queues.specs.Joining.{Joining}
 use Rattle.queues.specs.Serving.{Serving}
 use Rattle.worked_cases.specs.Calls.{surveyed}
 use Rattle.worked_cases.specs.Literals.{stems, in2026, atPlace, allDiameters}
-use Rattle.worked_queues.specs.QueueCases.{QueueCase, joining, serving, topping, stemsQuery, atStart, atSecond, atThird, holding, waits, crowd}
+use Rattle.worked_queues.specs.QueueCases.{QueueCase, joining, serving, topping, stemsQuery, atStart, atSecond, atThird, entryHolding, waits, crowd}
 use Rattle.worked_queues.specs.QueueCases.{leftover, inBuffers, bothLists, joinsWith, newcomer, arrived, leavesLists, notJoined, notToppedUp}
 use Rattle.worked_queues.specs.QueueCases.{plainly, leavesServed, notServing}
 
@@ -29,8 +29,8 @@ faultySurveys =
     ∷ []
 
 -- ---- lists with a fault, whoever joins, is served or is topped up: owners 1 to 3 wait, 4 and 5 are set aside
-abbrev pub threeWait : List Entry
-threeWait = waits 1 2 ∷ waits 2 4 ∷ waits 3 6 ∷ []
+abbrev pub threeInLine : List Entry
+threeInLine = waits 1 2 ∷ waits 2 4 ∷ waits 3 6 ∷ []
 
 abbrev pub twoAside : List Entry
 twoAside = waits 4 0 ∷ waits 5 0 ∷ []
@@ -38,35 +38,35 @@ twoAside = waits 4 0 ∷ waits 5 0 ∷ []
 abbrev pub by17 : List LentLists
 by17 =
     -- a second entry in the line, set aside, and across both, at any places
-    bothLists (threeWait ++ (waits 2 4 ∷ [])) twoAside
+    bothLists (threeInLine ++ (waits 2 4 ∷ [])) twoAside
     ∷ bothLists (waits 1 2 ∷ waits 1 1 ∷ []) twoAside
-    ∷ bothLists threeWait (waits 4 0 ∷ waits 5 0 ∷ waits 4 0 ∷ [])
-    ∷ bothLists threeWait (waits 4 0 ∷ waits 5 0 ∷ waits 1 0 ∷ [])
-    ∷ bothLists threeWait (waits 3 0 ∷ waits 4 0 ∷ waits 5 0 ∷ [])
+    ∷ bothLists threeInLine (waits 4 0 ∷ waits 5 0 ∷ waits 4 0 ∷ [])
+    ∷ bothLists threeInLine (waits 4 0 ∷ waits 5 0 ∷ waits 1 0 ∷ [])
+    ∷ bothLists threeInLine (waits 3 0 ∷ waits 4 0 ∷ waits 5 0 ∷ [])
     -- 0 steps in the line, and steps set aside
-    ∷ bothLists (threeWait ++ (waits 6 0 ∷ [])) twoAside
-    ∷ bothLists threeWait (twoAside ++ (waits 6 1 ∷ []))
-    ∷ bothLists threeWait (waits 6 1 ∷ twoAside)
+    ∷ bothLists (threeInLine ++ (waits 6 0 ∷ [])) twoAside
+    ∷ bothLists threeInLine (twoAside ++ (waits 6 1 ∷ []))
+    ∷ bothLists threeInLine (waits 6 1 ∷ twoAside)
     -- that, and buffers of 31; that, in over 32 entries, the fault being the last
-    ∷ inBuffers 31 31 threeWait (waits 6 1 ∷ twoAside)
-    ∷ inBuffers 40 40 (threeWait ++ crowd 20 32 5) (twoAside ++ (waits 1 0 ∷ []))
+    ∷ inBuffers 31 31 threeInLine (waits 6 1 ∷ twoAside)
+    ∷ inBuffers 40 40 (threeInLine ++ crowd 20 32 5) (twoAside ++ (waits 1 0 ∷ []))
     ∷ []
 
 abbrev pub by18 : List LentLists
 by18 =
     -- buffers of 31
-    inBuffers 31 32 threeWait twoAside
-    ∷ inBuffers 32 31 threeWait twoAside
+    inBuffers 31 32 threeInLine twoAside
+    ∷ inBuffers 32 31 threeInLine twoAside
     -- 33 entries in all, the most in the line, set aside, and half of them in each
-    ∷ inBuffers 40 40 (threeWait ++ crowd 20 28 5) twoAside
+    ∷ inBuffers 40 40 (threeInLine ++ crowd 20 28 5) twoAside
     ∷ inBuffers 40 40 (waits 1 2 ∷ []) (twoAside ++ crowd 20 30 0)
-    ∷ inBuffers 40 40 (threeWait ++ crowd 20 14 5) (twoAside ++ crowd 50 14 0)
+    ∷ inBuffers 40 40 (threeInLine ++ crowd 20 14 5) (twoAside ++ crowd 50 14 0)
     -- a count past its buffer
     ∷ record { line = replicate 32 leftover; waiting = 0; aside = twoAside ++ crowd 20 30 0; resting = 33 }
     ∷ []
 
 abbrev pub faultyLists : List LentLists
-faultyLists = bothLists threeWait twoAside ∷ (by17 ++ by18)
+faultyLists = bothLists threeInLine twoAside ∷ (by17 ++ by18)
 
 -- ---- joining
 -- the plan: 00000000 at its end, which is no ending; a variable in its ending that no branch binds; the year 10,000. The state: a depth that is not
@@ -89,20 +89,20 @@ ofJoins =
     -- with steps to the end of the line, without to the end of the list set aside
     (joining survey7 (bothLists [] []) (newcomer 9 4), leavesLists 1 (arrived 9 4 ∷ []) 0 [])
     ∷ (joining survey7 (bothLists [] []) (newcomer 9 0), leavesLists 0 [] 1 (arrived 9 0 ∷ []))
-    ∷ (joining survey7 (bothLists threeWait twoAside) (newcomer 9 1), leavesLists 4 (threeWait ++ (arrived 9 1 ∷ [])) 2 twoAside)
-    ∷ (joining survey7 (bothLists threeWait twoAside) (newcomer 9 0), leavesLists 3 threeWait 3 (twoAside ++ (arrived 9 0 ∷ [])))
+    ∷ (joining survey7 (bothLists threeInLine twoAside) (newcomer 9 1), leavesLists 4 (threeInLine ++ (arrived 9 1 ∷ [])) 2 twoAside)
+    ∷ (joining survey7 (bothLists threeInLine twoAside) (newcomer 9 0), leavesLists 3 threeInLine 3 (twoAside ++ (arrived 9 0 ∷ [])))
     -- owner 0, and the greatest with the most steps, are owners like any other
-    ∷ (joining survey7 (bothLists threeWait twoAside) (newcomer 0 4), leavesLists 4 (threeWait ++ (arrived 0 4 ∷ [])) 2 twoAside)
+    ∷ (joining survey7 (bothLists threeInLine twoAside) (newcomer 0 4), leavesLists 4 (threeInLine ++ (arrived 0 4 ∷ [])) 2 twoAside)
     ∷ (
-      joining survey7 (bothLists threeWait twoAside) (newcomer 0xFFFFFFFF 0xFFFFFFFFFFFFFFFF),
-      leavesLists 4 (threeWait ++ (arrived 0xFFFFFFFF 0xFFFFFFFFFFFFFFFF ∷ [])) 2 twoAside,
+      joining survey7 (bothLists threeInLine twoAside) (newcomer 0xFFFFFFFF 0xFFFFFFFFFFFFFFFF),
+      leavesLists 4 (threeInLine ++ (arrived 0xFFFFFFFF 0xFFFFFFFFFFFFFFFF ∷ [])) 2 twoAside,
     )
     -- a second entry by joining: in the line, set aside
-    ∷ notJoined survey7 (bothLists threeWait twoAside) (newcomer 1 4) 17
-    ∷ notJoined survey7 (bothLists threeWait twoAside) (newcomer 3 0) 17
-    ∷ notJoined survey7 (bothLists threeWait twoAside) (newcomer 4 4) 17
-    ∷ notJoined survey7 (bothLists threeWait twoAside) (newcomer 5 0) 17
-    ∷ notJoined survey7 (inBuffers 31 31 threeWait twoAside) (newcomer 5 0) 17
+    ∷ notJoined survey7 (bothLists threeInLine twoAside) (newcomer 1 4) 17
+    ∷ notJoined survey7 (bothLists threeInLine twoAside) (newcomer 3 0) 17
+    ∷ notJoined survey7 (bothLists threeInLine twoAside) (newcomer 4 4) 17
+    ∷ notJoined survey7 (bothLists threeInLine twoAside) (newcomer 5 0) 17
+    ∷ notJoined survey7 (inBuffers 31 31 threeInLine twoAside) (newcomer 5 0) 17
     -- a 32nd entry, to the line and set aside
     ∷ (joining survey7 (bothLists (crowd 20 31 5) []) (newcomer 9 4), leavesLists 32 (crowd 20 31 5 ++ (arrived 9 4 ∷ [])) 0 [])
     ∷ (
@@ -133,20 +133,20 @@ ofServes =
     -- unfinished with steps left: to the back of the line
     (
       serving survey7 (bothLists (waits 1 4 ∷ waits 2 4 ∷ []) twoAside) (plainly 1 4),
-      leavesServed 1 Spent 1 4 1 3 2 (waits 2 4 ∷ holding stemsQuery atSecond 1 3 ∷ []) 2 twoAside (1 ∷ 9 ∷ 9 ∷ 9 ∷ []),
+      leavesServed 1 Spent 1 4 1 3 2 (waits 2 4 ∷ entryHolding stemsQuery atSecond 1 3 ∷ []) 2 twoAside (1 ∷ 9 ∷ 9 ∷ 9 ∷ []),
     )
     ∷ (
       serving survey7 (bothLists (waits 1 4 ∷ waits 2 4 ∷ []) twoAside) (plainly 10 1),
-      leavesServed 1 Full 1 4 1 3 2 (waits 2 4 ∷ holding stemsQuery atSecond 1 3 ∷ []) 2 twoAside (1 ∷ []),
+      leavesServed 1 Full 1 4 1 3 2 (waits 2 4 ∷ entryHolding stemsQuery atSecond 1 3 ∷ []) 2 twoAside (1 ∷ []),
     )
     -- with none: to the end of the list set aside. Behind the line its place keeps its entry
     ∷ (
       serving survey7 (bothLists (waits 1 2 ∷ waits 2 4 ∷ []) twoAside) (plainly 10 4),
-      leavesServed 1 Spent 2 4 2 0 1 (waits 2 4 ∷ waits 2 4 ∷ []) 3 (twoAside ++ (holding stemsQuery atThird 1 0 ∷ [])) (1 ∷ 2 ∷ 9 ∷ 9 ∷ []),
+      leavesServed 1 Spent 2 4 2 0 1 (waits 2 4 ∷ waits 2 4 ∷ []) 3 (twoAside ++ (entryHolding stemsQuery atThird 1 0 ∷ [])) (1 ∷ 2 ∷ 9 ∷ 9 ∷ []),
     )
     ∷ (
       serving survey7 (bothLists (waits 1 1 ∷ []) []) (plainly 10 1),
-      leavesServed 1 Spent 1 4 1 0 0 (waits 1 1 ∷ []) 1 (holding stemsQuery atSecond 1 0 ∷ []) (1 ∷ []),
+      leavesServed 1 Spent 1 4 1 0 0 (waits 1 1 ∷ []) 1 (entryHolding stemsQuery atSecond 1 0 ∷ []) (1 ∷ []),
     )
     -- done: it leaves, with what was left
     ∷ (
@@ -156,46 +156,46 @@ ofServes =
     -- 8 is on the quantum of the call, whatever is left: 1,000,000 runs for the two steps that are, 1,000,001 and 0 are refused
     ∷ (
       serving survey7 (bothLists (waits 1 2 ∷ []) []) (plainly 1000000 4),
-      leavesServed 1 Spent 2 4 2 0 0 (waits 1 2 ∷ []) 1 (holding stemsQuery atThird 1 0 ∷ []) (1 ∷ 2 ∷ 9 ∷ 9 ∷ []),
+      leavesServed 1 Spent 2 4 2 0 0 (waits 1 2 ∷ []) 1 (entryHolding stemsQuery atThird 1 0 ∷ []) (1 ∷ 2 ∷ 9 ∷ 9 ∷ []),
     )
     ∷ notServing survey7 (bothLists (waits 1 2 ∷ []) []) (plainly 1000001 4) 8
     ∷ notServing survey7 (bothLists (waits 1 2 ∷ []) []) (plainly 0 4) 8
     -- 32 entries in all, the most in the line, set aside, and half of them in each
     ∷ (
       serving survey7 (bothLists (waits 1 4 ∷ crowd 20 31 5) []) (plainly 1 4),
-      leavesServed 1 Spent 1 4 1 3 32 (crowd 20 31 5 ++ (holding stemsQuery atSecond 1 3 ∷ [])) 0 [] (1 ∷ 9 ∷ 9 ∷ 9 ∷ []),
+      leavesServed 1 Spent 1 4 1 3 32 (crowd 20 31 5 ++ (entryHolding stemsQuery atSecond 1 3 ∷ [])) 0 [] (1 ∷ 9 ∷ 9 ∷ 9 ∷ []),
     )
     ∷ (
       serving survey7 (bothLists (waits 1 1 ∷ []) (crowd 20 31 0)) (plainly 1 4),
-      leavesServed 1 Spent 1 4 1 0 0 (waits 1 1 ∷ []) 32 (crowd 20 31 0 ++ (holding stemsQuery atSecond 1 0 ∷ [])) (1 ∷ 9 ∷ 9 ∷ 9 ∷ []),
+      leavesServed 1 Spent 1 4 1 0 0 (waits 1 1 ∷ []) 32 (crowd 20 31 0 ++ (entryHolding stemsQuery atSecond 1 0 ∷ [])) (1 ∷ 9 ∷ 9 ∷ 9 ∷ []),
     )
     ∷ (
       serving survey7 (bothLists (waits 1 4 ∷ crowd 20 15 5) (crowd 60 16 0)) (plainly 1 4),
-      leavesServed 1 Spent 1 4 1 3 16 (crowd 20 15 5 ++ (holding stemsQuery atSecond 1 3 ∷ [])) 16 (crowd 60 16 0) (1 ∷ 9 ∷ 9 ∷ 9 ∷ []),
+      leavesServed 1 Spent 1 4 1 3 16 (crowd 20 15 5 ++ (entryHolding stemsQuery atSecond 1 3 ∷ [])) 16 (crowd 60 16 0) (1 ∷ 9 ∷ 9 ∷ 9 ∷ []),
     )
     ∷ []
 
 -- the front entry and the call: its plan, an output of no words, both quanta, its state, and a threshold that no row query has
 abbrev pub faultyServes : List ((Entry × Serving) × ℕ)
 faultyServes =
-    ((holding (allDiameters (0x00000000 ∷ [])) atStart 1 2, plainly 1 4), 5)
+    ((entryHolding (allDiameters (0x00000000 ∷ [])) atStart 1 2, plainly 1 4), 5)
     ∷ ((record { allowance = 2; owner = 1; planned = 10; saved = 4; plan = stemsQuery ++ (5 ∷ []); state = atStart ++ replicate 7 0 }, plainly 1 4), 5)
-    ∷ ((holding (allDiameters (0x80000001 ∷ 0xC0000002 ∷ [])) atStart 1 2, plainly 1 4), 6)
-    ∷ ((holding (0x00002710 ∷ stemsQuery) atStart 1 2, plainly 1 4), 23)
+    ∷ ((entryHolding (allDiameters (0x80000001 ∷ 0xC0000002 ∷ [])) atStart 1 2, plainly 1 4), 6)
+    ∷ ((entryHolding (0x00002710 ∷ stemsQuery) atStart 1 2, plainly 1 4), 23)
     ∷ ((waits 1 2, plainly 1 0), 7)
     ∷ ((waits 1 2, plainly 0 4), 8)
     ∷ ((waits 1 2, plainly 1000001 4), 8)
-    ∷ ((holding stemsQuery (in2026 (0xE0000002 ∷ 0xF0000003 ∷ 0xF0000000 ∷ [])) 1 2, plainly 1 4), 9)
+    ∷ ((entryHolding stemsQuery (in2026 (0xE0000002 ∷ 0xF0000003 ∷ 0xF0000000 ∷ [])) 1 2, plainly 1 4), 9)
     ∷ ((record { allowance = 2; owner = 1; planned = 8; saved = 12; plan = stemsQuery; state = atStart ++ replicate 7 0 }, plainly 1 4), 9)
-    ∷ ((holding stemsQuery (0xD0000006 ∷ 0x000007EA ∷ 0xE0000001 ∷ 0xF0000003 ∷ []) 1 2, plainly 1 4), 22)
-    ∷ ((holding stemsQuery (atPlace 0xF0000002) 1 2, plainly 1 4), 10)
+    ∷ ((entryHolding stemsQuery (0xD0000006 ∷ 0x000007EA ∷ 0xE0000001 ∷ 0xF0000003 ∷ []) 1 2, plainly 1 4), 22)
+    ∷ ((entryHolding stemsQuery (atPlace 0xF0000002) 1 2, plainly 1 4), 10)
     ∷ ((waits 1 2, record { quantum = 1; threshold = 1 ∷ []; output = replicate 4 9 }), 11)
     -- two of these
-    ∷ ((holding (allDiameters (0x00000000 ∷ [])) atStart 1 2, plainly 0 0), 5)
+    ∷ ((entryHolding (allDiameters (0x00000000 ∷ [])) atStart 1 2, plainly 0 0), 5)
     ∷ ((waits 1 2, plainly 0 0), 7)
-    ∷ ((holding stemsQuery [] 1 2, plainly 1000001 4), 8)
-    ∷ ((holding stemsQuery (0xD0000006 ∷ 0x000007EA ∷ 0xE0000001 ∷ 0xF0000002 ∷ []) 1 2, plainly 1 4), 22)
-    ∷ ((holding stemsQuery (atPlace 0xF0000002) 1 2, record { quantum = 1; threshold = 1 ∷ []; output = replicate 4 9 }), 10)
+    ∷ ((entryHolding stemsQuery [] 1 2, plainly 1000001 4), 8)
+    ∷ ((entryHolding stemsQuery (0xD0000006 ∷ 0x000007EA ∷ 0xE0000001 ∷ 0xF0000002 ∷ []) 1 2, plainly 1 4), 22)
+    ∷ ((entryHolding stemsQuery (atPlace 0xF0000002) 1 2, record { quantum = 1; threshold = 1 ∷ []; output = replicate 4 9 }), 10)
     ∷ []
 
 -- lists with a front entry: right ones, and those that 17, 18 and both refuse
@@ -210,7 +210,7 @@ listsBehind e =
 abbrev pub ofServeFaults : List QueueCase
 ofServeFaults =
     flatten
-    (map (λ (f : Survey × ℕ). map (λ (l : LentLists). notServing (f .0) l (plainly 0 0) (f .1)) (listsBehind (holding [] [] 1 2))) faultySurveys
+    (map (λ (f : Survey × ℕ). map (λ (l : LentLists). notServing (f .0) l (plainly 0 0) (f .1)) (listsBehind (entryHolding [] [] 1 2))) faultySurveys
     ++ (map (λ (f : (Entry × Serving) × ℕ). map (λ (l : LentLists). notServing survey7 l (f .0 .1) (f .1)) (listsBehind (f .0 .0))) faultyServes
     ++ (map (λ (l : LentLists). notServing survey7 l (plainly 1 4) 17) by17
     ∷ map (λ (l : LentLists). notServing survey7 l (plainly 1 4) 18) by18
@@ -256,23 +256,23 @@ ofTopUps =
     -- from any place of the list set aside to the end of the line, with the amount; the others keep their order
     (topping (bothLists [] (waits 4 0 ∷ [])) 4 1, leavesLists 1 (waits 4 1 ∷ []) 0 (waits 4 0 ∷ []))
     ∷ (
-      topping (bothLists threeWait (waits 6 0 ∷ twoAside)) 6 7,
-      leavesLists 4 (threeWait ++ (waits 6 7 ∷ [])) 2 (waits 4 0 ∷ waits 5 0 ∷ waits 5 0 ∷ []),
+      topping (bothLists threeInLine (waits 6 0 ∷ twoAside)) 6 7,
+      leavesLists 4 (threeInLine ++ (waits 6 7 ∷ [])) 2 (waits 4 0 ∷ waits 5 0 ∷ waits 5 0 ∷ []),
     )
     ∷ (
-      topping (bothLists threeWait (waits 6 0 ∷ twoAside)) 4 0x100000000,
-      leavesLists 4 (threeWait ++ (waits 4 0x100000000 ∷ [])) 2 (waits 6 0 ∷ waits 5 0 ∷ waits 5 0 ∷ []),
+      topping (bothLists threeInLine (waits 6 0 ∷ twoAside)) 4 0x100000000,
+      leavesLists 4 (threeInLine ++ (waits 4 0x100000000 ∷ [])) 2 (waits 6 0 ∷ waits 5 0 ∷ waits 5 0 ∷ []),
     )
     ∷ (
-      topping (bothLists threeWait (waits 6 0 ∷ twoAside)) 5 1,
-      leavesLists 4 (threeWait ++ (waits 5 1 ∷ [])) 2 (waits 6 0 ∷ waits 4 0 ∷ waits 5 0 ∷ []),
+      topping (bothLists threeInLine (waits 6 0 ∷ twoAside)) 5 1,
+      leavesLists 4 (threeInLine ++ (waits 5 1 ∷ [])) 2 (waits 6 0 ∷ waits 4 0 ∷ waits 5 0 ∷ []),
     )
     -- an amount of 0; an owner in the line, in neither list, and past the lists in both buffers
-    ∷ notToppedUp (bothLists threeWait twoAside) 4 0 17
-    ∷ notToppedUp (bothLists threeWait twoAside) 2 5 17
-    ∷ notToppedUp (bothLists threeWait twoAside) 6 5 17
+    ∷ notToppedUp (bothLists threeInLine twoAside) 4 0 17
+    ∷ notToppedUp (bothLists threeInLine twoAside) 2 5 17
+    ∷ notToppedUp (bothLists threeInLine twoAside) 6 5 17
     ∷ notToppedUp (bothLists (waits 2 4 ∷ []) twoAside) 1 5 17
-    ∷ notToppedUp (inBuffers 31 31 threeWait twoAside) 4 0 17
+    ∷ notToppedUp (inBuffers 31 31 threeInLine twoAside) 4 0 17
     -- 32 entries in all
     ∷ (
       topping (bothLists (crowd 20 31 5) (waits 4 0 ∷ [])) 4 3,
