@@ -42,6 +42,10 @@ bySeventh =
     ∷ word branchKind 8
     ∷ (flatten (replicate 6 stand) ++ ((variable 0 ∷ name 12 ∷ variable 1 ∷ stand) ++ (always ++ topFalling 1)))
 
+-- n1 at the first six patterns, and some places below
+abbrev pub atSeventh : List ℕ → List ℕ
+atSeventh places = stateAt (0 ∷ 0 ∷ 0 ∷ 0 ∷ 0 ∷ 0 ∷ places)
+
 abbrev pub ofLaterPatterns : List Case
 ofLaterPatterns =
     -- n1 comes before n2 i310, and is finished in five steps
@@ -66,6 +70,6 @@ ofLaterPatterns =
     -- a third level that is open already is finished
     ∷ ends wood bySecond (stateAt (2 ∷ 5 ∷ 4 ∷ [])) (stem 2 310) 4 []
     -- of eight levels the last is passed over, in one step
-    ∷ goesPast bySeventh (stateAt (0 ∷ 0 ∷ 0 ∷ 0 ∷ 0 ∷ 0 ∷ 1 ∷ [])) (stem 2 310) 1 (stateAt (0 ∷ 0 ∷ 0 ∷ 0 ∷ 0 ∷ 0 ∷ 2 ∷ [])) []
-    ∷ goesPast bySeventh (stateAt (0 ∷ 0 ∷ 0 ∷ 0 ∷ 0 ∷ 0 ∷ 1 ∷ [])) (stem 2 40) 1 (stateAt (0 ∷ 0 ∷ 0 ∷ 0 ∷ 0 ∷ 0 ∷ 1 ∷ 0 ∷ [])) []
+    ∷ goesPast bySeventh (atSeventh (1 ∷ [])) (stem 2 310) 1 (atSeventh (2 ∷ [])) []
+    ∷ goesPast bySeventh (atSeventh (1 ∷ [])) (stem 2 40) 1 (atSeventh (1 ∷ 0 ∷ [])) []
     ∷ []
