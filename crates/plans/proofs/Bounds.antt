@@ -22,6 +22,7 @@ use Rattle.plans.specs.Conditions.{Condition, Read, next, readCondition,
 use Rattle.plans.specs.Branches.{Branch, patternWidth, mostPatterns, patternCount, withCondition, readBranch, readBranches, nthBranch}
 use Rattle.plans.specs.Endings.{Ending, rows, top, group, registers, mostRowVariables, mostBest, defaultBest, mostKeys, mostGroupVariables}
 use Rattle.plans.specs.Endings.{bestCount, rowWidth, rowVariables, afterRows, rowsForm, isKey, keysForm, lastOf, formAs, endingForm, endingAs, endingAt}
+pub use Rattle.plans.specs.Forms.{BranchForm, RowForm, TopForm, GroupForm, EndingForm}
 use Rattle.plans.specs.Plans.{Plan, mostBranches, mostPlanWords, branchCount, withEnding, readPlan, hasForm, planOr, branchAt}
 
 -- ---- what was read where a reader's answer is there
@@ -45,13 +46,6 @@ named-at-most true false n m e = omega arith
 named-at-most true true n m e = leb-true n m (sym e)
 
 -- ---- branches
--- from 1 to 8 patterns of three terms each
-pub record BranchForm (b : Branch) : Type 0 where
-  pub patterns : ℕ
-  pub width : length (b .terms) ≡ patternWidth * patterns
-  pub least : 1 ≤ patterns
-  pub most : patterns ≤ mostPatterns
-
 with-condition : (n : ℕ) (ws : List ℕ) (c : Read Condition) (x : Branch × ℕ) → withCondition n ws c ≡ some x
     → x .0 .terms ≡ take (patternWidth * n) (drop 1 ws)
 with-condition n ws none x e = absurd (none-some e)
@@ -96,33 +90,6 @@ form-at (b ∷ bs) zero h l = h .0
 form-at (b ∷ bs) (suc i) h l = form-at bs i (h .1) (omega arith)
 
 -- ---- endings
--- from 1 to 16 variables
-pub record RowForm (vs : List ℕ) : Type 0 where
-  pub least : 1 ≤ length vs
-  pub most : length vs ≤ mostRowVariables
-  pub variables : all isVariable vs ≡ true
-
--- from 1 to 64 rows, and from 1 to 4 keys
-pub record TopForm (k : ℕ) (vs keys : List ℕ) : Type 0 where
-  pub row : RowForm vs
-  pub least : 1 ≤ k
-  pub most : k ≤ mostBest
-  pub someKey : 1 ≤ length keys
-  pub fewKeys : length keys ≤ mostKeys
-  pub areKeys : all isKey keys ≡ true
-
--- at most 4 variables, and the measured one
-pub record GroupForm (vs : List ℕ) (measured : ℕ) : Type 0 where
-  pub most : length vs ≤ mostGroupVariables
-  pub variables : all isVariable vs ≡ true
-  pub measure : isVariable measured ≡ true
-
-abbrev pub EndingForm : Ending → Type 0
-EndingForm (rows vs) = RowForm vs
-EndingForm (top k vs keys) = TopForm k vs keys
-EndingForm (group vs m) = GroupForm vs m
-EndingForm (registers v) = isVariable v ≡ true
-
 row-form : (ws : List ℕ) → rowsForm ws ≡ true → RowForm (rowVariables ws)
 unfolding rowsForm
 row-form ws e =
@@ -191,7 +158,7 @@ form-as Registers ws t g e =
     subst (λ w. isVariable w ≡ true) (getD-drop 1 ws 0 0) (all-at isVariable (drop 1 ws) 0 0 v (omega arith))
 form-as Neither ws t g e = absurd-true refl (sym e)
 
-ending-form : (ws : List ℕ) → endingForm ws ≡ true → EndingForm (endingAt ws)
+pub ending-form : (ws : List ℕ) → endingForm ws ≡ true → EndingForm (endingAt ws)
 unfolding lastOf
 ending-form ws e =
     let w = getD ws 0 0 in

@@ -11,3 +11,8 @@ pub mod EndingRead
 pub mod Former
 pub mod YearWords
 pub mod PlanRead
+pub mod ConditionWords
+pub mod BranchWords
+pub mod EndingWords
+pub mod VariableRules
+pub mod PlanWords

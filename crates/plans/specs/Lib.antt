@@ -5,4 +5,6 @@ pub mod Former
 pub mod Years
 pub mod Plans
 pub mod Reading
+pub mod Forms
+pub mod Grammar
 pub mod Computing

@@ -13,4 +13,5 @@ pub mod YearSteps
 pub mod Ends
 pub mod SavedWords
 pub mod AcceptedStates
+pub mod StateForms
 pub mod Values

@@ -4,4 +4,5 @@ pub mod Positions
 pub mod Years
 pub mod Steps
 pub mod Saved
+pub mod StateForms
 pub mod Computing

@@ -9,3 +9,4 @@ pub mod Endings
 pub mod Unsent
 pub mod OnTheRun
 pub mod AfterDone
+pub mod WrongForms

@@ -8,4 +8,5 @@ pub mod Closes
 pub mod Endings
 pub mod OnTheRun
 pub mod AfterDone
+pub mod WrongForms
 pub mod Computing

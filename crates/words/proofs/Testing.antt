@@ -1,12 +1,12 @@
 -- Tests in order: the first of two lists to fail decides, and a call is served exactly when all of its tests pass.
 use Prim.Native.Nat.{ℕ}
 use mathlib.Core.Path.{_≡_, refl, sym, _∙_, ap}
-use mathlib.Core.Bool.{Bool, true, false, cond}
+use mathlib.Core.Bool.{Bool, true, false, cond, _&&_}
 use mathlib.Core.Option.{Option, none, some}
 use mathlib.Core.List.{List, [], _∷_, _++_}
 use lib.Dec.{eqb}
 use native.Mathlib.Omega.{arith}
-use borrow.Author.Tests.{eqb-true}
+use borrow.Author.Tests.{eqb-true, eq-eqb}
 use Rattle.words.specs.Tests.{Test, firstFailing, AllPass, FirstFails, here, there, testsBefore}
 use Rattle.words.proofs.Booleans.{absurd-true}
 
@@ -99,3 +99,25 @@ fails-at n ((m, b) ∷ xs) e h = go (eqb n m) refl e h (fails-at n xs)
         → (testNumbered n xs ≡ false → AllPass (testsBefore n xs) → FirstFails n xs) → FirstFails n ((m, b) ∷ xs)
     go true p f k ih = rw (f, ← eqb-true n m p) here
     go false p f k ih = rw (k .0) (there (ih f (k .1)))
+
+-- those before it pass
+pub passed-before : (n : ℕ) (xs : List Test) → FirstFails n xs → AllPass (testsBefore n xs)
+passed-before n xs here = rw (eq-eqb n n refl) tt
+passed-before n xs (there {m = m} {xs = ys} h) = go (eqb n m) (passed-before n ys h)
+  where
+    go : (b : Bool) → AllPass (testsBefore n ys) → AllPass (cond b [] ((m, true) ∷ testsBefore n ys))
+    go true ih = tt
+    go false ih = (refl, ih)
+
+-- and not every test with its number does
+abbrev pub eachNumbered : ℕ → List Test → Bool
+eachNumbered n [] = true
+eachNumbered n (x ∷ xs) = cond (eqb n (x .0)) (x .1 && eachNumbered n xs) (eachNumbered n xs)
+
+pub first-not-passed : (n : ℕ) (xs : List Test) → FirstFails n xs → eachNumbered n xs ≡ false
+first-not-passed n xs here = rw (eq-eqb n n refl) refl
+first-not-passed n xs (there {m = m} {xs = ys} h) = go (eqb n m) (first-not-passed n ys h)
+  where
+    go : (b : Bool) → eachNumbered n ys ≡ false → cond b (true && eachNumbered n ys) (eachNumbered n ys) ≡ false
+    go true e = e
+    go false e = e

@@ -3,3 +3,4 @@ pub mod Finished
 pub mod ByOutcomes
 pub mod YearsHold
 pub mod PruningsHold
+pub mod DeepPruningsHold

@@ -3,6 +3,7 @@ pub mod Calls
 pub mod Starred
 pub mod Years
 pub mod Prunings
+pub mod DeepPrunings
 pub mod Refusals
 pub mod Misreadings
 pub mod FinishedCut

@@ -1,9 +1,10 @@
--- Every case of the tables of kinds, of orders and of states holds, by computation.
+-- Every case of the tables of kinds, of orders, of states and of terms holds, by computation.
 use mathlib.Core.Path.{refl}
 use Rattle.worked_cases.specs.Calls.{Hold}
 use Rattle.worked_formats.specs.Kinds.{kinds, otherKinds}
 use Rattle.worked_formats.specs.Orders.{fixedFields, emptyRanges, fixedEarlier, threeOrders, repeated}
 use Rattle.worked_formats.specs.States.{throughBranches, throughYears, singleYears, deepStates, wrongStates}
+use Rattle.worked_formats.specs.Terms.{anyTerms}
 use Rattle.worked_cases.proofs.Holds.{computing}
 use Rattle.worked_cases.proofs.ByOutcomes.{by-outcomes}
 
@@ -57,3 +58,8 @@ deep-states-hold = by-outcomes deepStates refl
 pub wrong-states-hold : Hold wrongStates
 unfolding computing
 wrong-states-hold = by-outcomes wrongStates refl
+
+-- any term in any place of a pattern
+pub any-terms-hold : Hold anyTerms
+unfolding computing
+any-terms-hold = by-outcomes anyTerms refl

@@ -1,3 +1,4 @@
 pub mod Kinds
 pub mod Orders
 pub mod States
+pub mod Terms

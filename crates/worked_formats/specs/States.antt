@@ -163,4 +163,11 @@ wrongStates =
     ∷ refusedBy 10 (in2026 (0xE0000012 ∷ 0xF0000001 ∷ 0xF0000005 ∷ []))
     ∷ refusedBy 10 (in2026 (0xE0000012 ∷ 0xF0000001 ∷ 0xF0000002 ∷ []))
     ∷ refusedBy 10 (in2026 (0xE0000012 ∷ 0xF0000003 ∷ 0xF0000006 ∷ []))
+    -- any number of 28 bits is a place, and no matter of 9: 65,536, 65,537 and 2^28 - 1, as the last place and as one above it
+    ∷ refusedBy 10 (in2026 (0xE0000011 ∷ 0xF0010000 ∷ []))
+    ∷ refusedBy 10 (in2026 (0xE0000011 ∷ 0xF0010001 ∷ []))
+    ∷ refusedBy 10 (in2026 (0xE0000011 ∷ 0xFFFFFFFF ∷ []))
+    ∷ refusedBy 10 (in2026 (0xE0000012 ∷ 0xF0000000 ∷ 0xF0010001 ∷ []))
+    ∷ refusedBy 10 (in2026 (0xE0000012 ∷ 0xF0010001 ∷ 0xF0000001 ∷ []))
+    ∷ refusedBy 10 (in2026 (0xE0000012 ∷ 0xFFFFFFFF ∷ 0xFFFFFFFF ∷ []))
     ∷ []
