@@ -1,3 +1,4 @@
 pub mod FileWords
 pub mod LaidOut
 pub mod Examples
+pub mod FileSizes

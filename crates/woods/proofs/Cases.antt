@@ -41,6 +41,7 @@ pub growing-worked : GrowingWorked
 unfolding computing
 growing-worked =
     record {
+      draws = refl;
       first-stems = refl;
       last-seed = refl;
       no-stems = refl;

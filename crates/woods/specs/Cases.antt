@@ -1,10 +1,11 @@
--- Worked cases in literal words: the first stems of seed 1, and calls at their limits. Assumes nothing: these are definitions.
+-- Worked cases in literal words: draws, stems of the seed 1 and of the greatest one, and calls at their limits. Assumes nothing: these are definitions.
 use Prim.Native.Nat.{ℕ}
 use mathlib.Core.Path.{_≡_}
-use mathlib.Core.List.{List, [], _∷_, _++_}
+use mathlib.Core.List.{List, [], _∷_, _++_, map}
 use lib.ListN.{replicate}
 use Rattle.tables.specs.Tables.{Tables, tablesOf}
 use Rattle.woods.specs.declared.Grown.the-variants.{Words, Refused}
+use Rattle.woods.specs.Woods.{nextDraw}
 use Rattle.woods.specs.Growing.{GrowInput, growInput, GrowResult, growBuffers, growOf}
 use Rattle.woods.specs.Refusals.{Grows}
 
@@ -28,19 +29,26 @@ NotGrownBy x i = growOf i ≡ record { answer = Refused x; buffers = i .buffers 
 abbrev pub leaving : ℕ → ℕ → ℕ → List ℕ → List ℕ → List ℕ → GrowResult
 leaving a b c rows pos osp = record { answer = Words a b c; buffers = growBuffers rows pos osp }
 
--- one stem of the greatest seed, in the first year: (n1000000, n10, n105) (n1000000, n12, i331)
+-- three stems of the greatest seed, in the first year: (n1000000, n10, n105) (n1000000, n12, i331) (n1000001, n10, n115) (n1000001, n12, i563)
+-- (n1000002, n10, n109) (n1000002, n12, i304). With those of seed 1 their stands are drawn as 15496 33046 15445 8835 47029 and their diameters as
+-- 24200 46195 12311 41343 57284: only mod 20 and mod 600 leave these remainders
 abbrev pub lastSeed : Tables
 lastSeed =
-    tablesOf (0x40000001 ∷ 0x000F4240 ∷ 0x0000000A ∷ 0x00000069 ∷ 0x40000001 ∷ 0x000F4240 ∷ 0x0000000C ∷ 0x4000014B ∷ [])
-    (0 ∷ 1 ∷ []) (0 ∷ 1 ∷ [])
+    tablesOf
+    (0x40000001 ∷ 0x000F4240 ∷ 0x0000000A ∷ 0x00000069 ∷ 0x40000001 ∷ 0x000F4240 ∷ 0x0000000C ∷ 0x4000014B
+    ∷ 0x40000001 ∷ 0x000F4241 ∷ 0x0000000A ∷ 0x00000073 ∷ 0x40000001 ∷ 0x000F4241 ∷ 0x0000000C ∷ 0x40000233
+    ∷ 0x40000001 ∷ 0x000F4242 ∷ 0x0000000A ∷ 0x0000006D ∷ 0x40000001 ∷ 0x000F4242 ∷ 0x0000000C ∷ 0x40000130 ∷ [])
+    (0 ∷ 4 ∷ 2 ∷ 5 ∷ 1 ∷ 3 ∷ []) (0 ∷ 4 ∷ 2 ∷ 5 ∷ 1 ∷ 3 ∷ [])
 
 -- ---- the cases
 pub record GrowingWorked : Type 0 where
+  -- what a draw moves x to: the addend, the factor more, the last below 2^32, and the first that passes it
+  pub draws : map nextDraw (0 ∷ 1 ∷ 1971 ∷ 1972 ∷ []) ≡ 0x3C6EF35F ∷ 0x3C88596C ∷ 0xFFFBA976 ∷ 0x00150F83 ∷ []
   -- two stems, with a word to spare in each buffer: it stays
   pub first-stems : growOf (growCall 1 2 2026 17 5 5)
       ≡ leaving 16 4 4 (firstStems .rows ++ (9 ∷ [])) (firstStems .pos ++ (8 ∷ [])) (firstStems .osp ++ (7 ∷ []))
   -- exact lengths are enough; any seed of 32 bits
-  pub last-seed : growOf (growCall 4294967295 1 1 8 2 2) ≡ leaving 8 2 2 (lastSeed .rows) (lastSeed .pos) (lastSeed .osp)
+  pub last-seed : growOf (growCall 4294967295 3 1 24 6 6) ≡ leaving 24 6 6 (lastSeed .rows) (lastSeed .pos) (lastSeed .osp)
   -- no stems write nothing
   pub no-stems : growOf (growCall 1 0 2026 1 1 1) ≡ leaving 0 0 0 (9 ∷ []) (8 ∷ []) (7 ∷ [])
   pub no-room-asked : growOf (growCall 1 0 2026 0 0 0) ≡ leaving 0 0 0 [] [] []

@@ -1,13 +1,13 @@
 -- Every case of the tables of registers and of reports holds, by computation; and a query cut after its first step keeps the registers of the whole.
 use mathlib.Core.Path.{_≡_, refl}
-use mathlib.Core.List.{[], _∷_}
+use mathlib.Core.List.{[], _∷_, map}
 use Rattle.registers.specs.Registers.{registersOf}
 use Rattle.cuts.specs.Computing as cuts
 use Rattle.worked_cases.specs.Calls.{Hold}
 use Rattle.worked_cases.proofs.Holds.{computing}
 use Rattle.worked_cases.proofs.ByOutcomes.{by-outcomes}
 use Rattle.worked_registers.specs.Registers.{forms, registerLists, mergings, cutAtOne, played, doneAfterFour}
-use Rattle.worked_registers.specs.Reports.{farOut, farNumber, ofFive, ofReports}
+use Rattle.worked_registers.specs.Reports.{farOut, farNumber, ofFive, wideWords, ofWideWords, ofReports}
 
 -- ---- single values
 pub far-out : registersOf (0x0000FECF ∷ []) ≡ farOut
@@ -30,6 +30,11 @@ five-number = refl
 pub five-text : registersOf (0x80000005 ∷ []) ≡ ofFive
 unfolding computing
 five-text = refl
+
+-- each of the four bytes is read where it stands
+pub wide-words : map (λ w. registersOf (w ∷ [])) wideWords ≡ ofWideWords
+unfolding computing
+wide-words = refl
 
 -- ---- tables
 pub forms-hold : Hold forms

@@ -1,5 +1,5 @@
 -- Registers of single values and reports, in literal words, each limit on both sides.
-use Prim.Native.Nat.{ℕ}
+use Prim.Native.Nat.{ℕ, _-_}
 use mathlib.Core.List.{List, [], _∷_, _++_}
 use lib.ListN.{length, replicate}
 use Rattle.words.specs.declared.Written.the-variants.{Words}
@@ -19,6 +19,18 @@ farNumber = 0 ∷ 0 ∷ 0 ∷ 0 ∷ 1 ∷ 0 ∷ 0 ∷ 0 ∷ 0 ∷ 0 ∷ 0 ∷ 0 
 -- n5, i5 and t5, which differ in their highest bits alone, share register and rank
 abbrev pub ofFive : List ℕ
 ofFive = 0 ∷ 0 ∷ 1 ∷ 0 ∷ 0 ∷ 0 ∷ 0 ∷ 0 ∷ 0 ∷ 0 ∷ 0 ∷ 0 ∷ 0 ∷ 0 ∷ 0 ∷ 0 ∷ []
+
+-- one register touched, and what it has
+abbrev pub touched : ℕ → ℕ → List ℕ
+touched i n = replicate i 0 ++ (n ∷ replicate (15 - i) 0)
+
+-- single words: n65535, n65536, n8388607, n16777216 and t65231; i495942401 and t634260780, whose hashes are 20003678192C9529 and A00017961556E6A3. A byte
+-- left out, in another's place or read by another power of two gives one of them another register or another rank
+abbrev pub wideWords : List ℕ
+wideWords = 0x0000FFFF ∷ 0x00010000 ∷ 0x007FFFFF ∷ 0x01000000 ∷ 0x8000FECF ∷ 0x5D8F7B01 ∷ 0xA5CE0D2C ∷ []
+
+abbrev pub ofWideWords : List (List ℕ)
+ofWideWords = touched 9 1 ∷ touched 4 1 ∷ touched 9 2 ∷ touched 4 1 ∷ touched 5 13 ∷ touched 2 15 ∷ touched 10 16 ∷ []
 
 -- a report on a kept list in a buffer of so many words, into a buffer of so many
 abbrev pub reportCall : List ℕ → ℕ → ℕ → ReportInput
