@@ -2,7 +2,7 @@
 -- totals up to the end of the turn or for its list's room, by 13 or 14.
 use Prim.Native.Nat.{ℕ}
 use native.Mathlib.Omega.{arith}
-use mathlib.Core.Path.{_≡_, refl, sym, _∙_, ap, ap₂, subst}
+use mathlib.Core.Path.{_≡_, refl, sym, _∙_, ap, subst}
 use mathlib.Core.Logic.{_⊎_, inl, inr}
 use mathlib.Core.Bool.{Bool, true, false, cond, _&&_}
 use mathlib.Core.Option.{none, some}
@@ -27,7 +27,7 @@ use Rattle.lists.specs.Gathering.{gathered, merged, takenInto, keptRight, listR
 use Rattle.words.proofs.EachMore.{each-right}
 use Rattle.lists.proofs.Values.{AllValues}
 use Rattle.lists.specs.Closing.{listAt}
-use Rattle.lists.proofs.Gatherings.{Valid, Gathering, valid-kept}
+use Rattle.lists.proofs.Gatherings.{Valid, valid-kept}
 use Rattle.lists.proofs.OneRow.{none-right, none-totals}
 use Rattle.lists.proofs.Closing.{at-valid, at-fit}
 use Rattle.turns.specs.Surveys.{Survey}

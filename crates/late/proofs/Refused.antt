@@ -1,13 +1,13 @@
 -- A way over lists that test 12 passes is refused by 13 or 14 alone, for best-of lists and registers by 14 alone.
-use Prim.Native.Nat.{ℕ, zero, suc, _<_}
+use Prim.Native.Nat.{ℕ}
 use native.Mathlib.Omega.{arith}
 use mathlib.Core.Path.{_≡_, refl, sym, _∙_, ap, subst⁻¹}
-use mathlib.Core.Logic.{_⊎_, _↔_, inl, inr}
+use mathlib.Core.Logic.{_⊎_, inl, inr}
 use mathlib.Core.Bool.{Bool, true, false, _&&_, _||_}
 use mathlib.Core.Option.{Option, none, some}
 use mathlib.Core.List.{List, [], _∷_, _++_}
-use lib.Dec.{leb, ltb}
-use lib.ListN.{length, take, getD, length-append}
+use lib.Dec.{leb}
+use lib.ListN.{length, take, length-append}
 use lib.Seq.{take-append-seam}
 use borrow.Author.Tests.{le-leb, ltb-true}
 use Rattle.words.specs.declared.Written.{Written}
@@ -27,7 +27,7 @@ use Rattle.lists.proofs.GroupLists.{gathered-nil}
 use Rattle.lists.proofs.GroupValid.{gathered-right, merged-right}
 use Rattle.lists.proofs.RegisterLists.{right-kept}
 use Rattle.lists.proofs.RegisterMerging.{merge-right}
-use Rattle.merges.specs.Merging.{MergeInput, mergedWords, mergeOf, mergeTests, listTests}
+use Rattle.merges.specs.Merging.{mergedWords, mergeOf, mergeTests, listTests}
 use Rattle.merges.proofs.Refusals.{merge-refusals}
 use Rattle.late.specs.Ways.{Way, empty, turn, into, inputOf, writtenIn, mergedBy, given}
 use Rattle.late.specs.Refused.{WayRefusedBy, among-kept, among-lists, merging, isEmptyWay, fromTurns, WaysRefused}
@@ -79,7 +79,8 @@ module _ (plan : List ℕ) (accepted : AllPass (planTests plan)) where
 
         go : (o : Option (List ℕ)) → given plan lists a ≡ o → (u : Option (List ℕ)) → given plan lists b ≡ u
             → next o (λ kept. next u (λ list. mergedBy plan kept behind list)) ≡ none
-            → (given plan lists a ≡ none → (x : ℕ) × WayRefusedBy plan lists x a) → (given plan lists b ≡ none → (x : ℕ) × WayRefusedBy plan lists x b)
+            → (given plan lists a ≡ none → (x : ℕ) × WayRefusedBy plan lists x a)
+            → (given plan lists b ≡ none → (x : ℕ) × WayRefusedBy plan lists x b)
             → (x : ℕ) × WayRefusedBy plan lists x (into a behind b)
         go none p u q z f g = let r = f p in (r .0, among-kept (r .1))
         go (some kept) p none q z f g = let r = g q in (r .0, among-lists (r .1))
@@ -207,7 +208,8 @@ module _ (plan : List ℕ) (accepted : AllPass (planTests plan)) (lists : List (
   any-way : (d : Ending) → planOf plan .ending ≡ d → all (listRight (planOf plan .ending)) lists ≡ true → listRight d [] ≡ true
       → ((l : List ℕ) → keptRight d l ≡ listRight d l) → Stays d → (w : Way) (x : ℕ) → WayRefusedBy plan lists x w → By x
   any-way d ending each empties same stays =
-      any-by-two plan accepted lists (ap (λ c. listRight c []) ending ∙ empties) (subst⁻¹ (λ c. (l : List ℕ) → keptRight c l ≡ listRight c l) ending same)
+      any-by-two plan accepted lists (ap (λ c. listRight c []) ending ∙ empties)
+      (subst⁻¹ (λ c. (l : List ℕ) → keptRight c l ≡ listRight c l) ending same)
       (subst⁻¹ Stays ending stays) each
 
   -- where each of the lists passes test 12

@@ -36,7 +36,8 @@ pub record WaysRefused (plan : List ℕ) (lists : List (List ℕ)) : Type 0 wher
   -- a way gives no list exactly where one of its merges is refused
   pub refused : (w : Way) → (given plan lists w ≡ none) ↔ ((x : ℕ) × WayRefusedBy plan lists x w)
   -- groups: by 13 or 14, where a total leaves its range or a buffer is too short, whatever the order and the grouping, turns merged again too
-  pub groups : (vs : List ℕ) (m : ℕ) → planOf plan .ending ≡ group vs m → (w : Way) (x : ℕ) → WayRefusedBy plan lists x w → (x ≡ 13) ⊎ (x ≡ 14)
+  pub groups : (vs : List ℕ) (m : ℕ) → planOf plan .ending ≡ group vs m → (w : Way) (x : ℕ) → WayRefusedBy plan lists x w
+      → (x ≡ 13) ⊎ (x ≡ 14)
   -- best-of lists and registers: by 14
   pub tops : (k : ℕ) (vs keys : List ℕ) → planOf plan .ending ≡ top k vs keys → (w : Way) (x : ℕ) → WayRefusedBy plan lists x w → x ≡ 14
   pub registers : (v : ℕ) → planOf plan .ending ≡ endings.registers v → (w : Way) → fromTurns lists w ≡ true
