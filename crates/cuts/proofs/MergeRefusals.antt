@@ -2,7 +2,7 @@
 -- totals up to the end of the turn or for its list's room, by 13 or 14.
 use Prim.Native.Nat.{ℕ}
 use native.Mathlib.Omega.{arith}
-use mathlib.Core.Path.{_≡_, refl, sym, _∙_, ap, ap₂, subst}
+use mathlib.Core.Path.{_≡_, refl, sym, _∙_, ap, subst}
 use mathlib.Core.Logic.{_⊎_, inl, inr}
 use mathlib.Core.Bool.{Bool, true, false, cond, _&&_}
 use mathlib.Core.Option.{none, some}
@@ -24,10 +24,10 @@ use Rattle.plans.specs.Years.{yearAllowed}
 use Rattle.plans.specs.Plans.{Plan, planOf, hasForm, readPlan, variablesRight}
 use Rattle.steps.specs.Steps.{after}
 use Rattle.lists.specs.Gathering.{gathered, merged, takenInto, keptRight, listRight, totalsFit, rowsFit}
-use Rattle.words.proofs.Each.{Each}
+use Rattle.words.proofs.EachMore.{each-right}
 use Rattle.lists.proofs.Values.{AllValues}
 use Rattle.lists.specs.Closing.{listAt}
-use Rattle.lists.proofs.Gatherings.{Valid, Gathering, valid-kept}
+use Rattle.lists.proofs.Gatherings.{Valid, valid-kept}
 use Rattle.lists.proofs.OneRow.{none-right, none-totals}
 use Rattle.lists.proofs.Closing.{at-valid, at-fit}
 use Rattle.turns.specs.Surveys.{Survey}
@@ -41,11 +41,6 @@ use Rattle.cuts.specs.Accepting.{Accepted}
 use Rattle.cuts.proofs.Accepting.{accepted-form, accepted-gathering, accepted-values}
 use Rattle.cuts.proofs.Chains.{Piece, kept-going, piece-adds}
 use Rattle.cuts.proofs.Keeping.{Kept, next}
-
--- the later of two lists' elements
-each-later : {A : Type 0} (P : A → Type 0) (xs ys : List A) → Each P (xs ++ ys) → Each P ys
-each-later P [] ys p = p
-each-later P (x ∷ xs) ys p = each-later P xs ys (p .1)
 
 valid-right : (e : Ending) → MergesLists e → (list : List ℕ) → Valid e list → listRight e list ≡ true
 valid-right (rows vs) m list v = absurd m
@@ -79,6 +74,18 @@ merged-taken (rows vs) kept list r = absurd-true refl (sym r)
 merged-taken (top k vs keys) kept list r = refl
 merged-taken (group vs m) kept list r = refl
 merged-taken (registers x) kept list r = refl
+
+-- the list of a turn that takes the run from a position to another passes test 12
+pub piece-right : (v : Survey) (plan : List ℕ) → Accepted (v .tables) plan → MergesLists (planOf plan .ending)
+    → (from to : ℕ) (x : ServedTurn) → Piece v (planOf plan) from to x → listRight (planOf plan .ending) (x .list) ≡ true
+piece-right v plan a m from to x piece =
+    let t = v .tables in
+    let q = planOf plan in
+    ap (listRight (q .ending)) (piece .list)
+    ∙ valid-right (q .ending) m _
+    (at-valid (q .ending) (accepted-form t plan a .ending) (x .sent) (isOver (after t q to .state)) (piece .rows)
+    (each-right (λ (b : Bindings). all isValue b ≡ true) (after t q from .delivered) (piece .rows)
+    (subst AllValues (piece .more) (accepted-values t plan a to))))
 
 module _ (v : Survey) (plan : List ℕ) (a : Accepted (v .tables) plan) (h : Phone) (k : Kept v (planOf plan) h) where
   abbrev t : Tables
@@ -116,12 +123,7 @@ module _ (v : Survey) (plan : List ℕ) (a : Accepted (v .tables) plan) (h : Pho
     over = isOver (after t q to .state)
 
     list-right : listRight (q .ending) (x .list) ≡ true
-    list-right =
-        ap (listRight (q .ending)) (piece .list)
-        ∙ valid-right (q .ending) m _
-        (at-valid (q .ending) (accepted-form t plan a .ending) (x .sent) over (piece .rows)
-        (each-later (λ (b : Bindings). all isValue b ≡ true) (after t q n .delivered) (piece .rows)
-        (subst AllValues (piece .more) (accepted-values t plan a to))))
+    list-right = piece-right v plan a m n to x piece
 
     -- the totals and the words of the result are the uncut run's up to the end of that turn
     totals-are : totalsFit (q .ending) (h .kept) (x .list) ≡ runFits (q .ending) (after t q to)

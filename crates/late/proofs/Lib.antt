@@ -5,6 +5,7 @@ pub mod ApartSome
 pub mod AddingPermuted
 pub mod GroupsPermuted
 pub mod Served
+pub mod Refused
 pub mod TopWays
 pub mod GroupWays
 pub mod RegisterWays

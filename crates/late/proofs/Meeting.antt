@@ -10,11 +10,12 @@ use Rattle.merges.specs.Computing as merges
 use Rattle.words.specs.Sequences.{numbers}
 use Rattle.words.specs.Words.{variable, word, fallingKind}
 use Rattle.late.specs.Ways.{empty, turn, into, turnsAlong, given}
+use Rattle.late.specs.Refused.{among-kept, among-lists, merging, fromTurns}
 use Rattle.late.specs.Needed.{recordOf}
-use Rattle.late.specs.Meeting.{inTurn, turned, behind, bestPair, PremisesMet, AnyOrderTold, words16, RegistersMet}
+use Rattle.late.specs.Meeting.{inTurn, turned, behind, bestPair, PremisesMet, AnyOrderTold, words16, RegistersMet, RefusalsMet}
 
 unfoldable computing : Unit {0}
-unfolding words.computing plans.computing registers.computing lists.computing merges.computing flatten given turnsAlong numbers
+unfolding words.computing plans.computing registers.computing lists.computing merges.computing flatten given turnsAlong fromTurns numbers
 computing = tt
 
 pub premises-met : PremisesMet
@@ -58,4 +59,17 @@ registers-met =
           sym
           (o .registers (variable 1) refl (into (into empty words16 (turn 0)) [] (turn 1)) (into (turn 1) [] (turn 0))
           (record { first = refl; second = refl; turns = List·Permᴰ·swap refl refl }) _ a refl e);
+    }
+
+pub refusals-met : RefusalsMet
+unfolding computing
+refusals-met =
+    record {
+      total = among-kept (merging _ _ refl refl refl);
+      group-room = among-lists (merging _ _ refl refl refl);
+      best-room = merging _ _ refl refl refl;
+      registers-room = among-kept (merging _ _ refl refl refl);
+      of-turns = refl;
+      empty-lent = merging _ _ refl refl refl;
+      no-turns = refl;
     }

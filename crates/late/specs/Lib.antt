@@ -1,4 +1,5 @@
 pub mod Ways
+pub mod Refused
 pub mod Apart
 pub mod AnyOrder
 pub mod Sending

@@ -2,6 +2,7 @@
 -- in words. Assumes nothing: these are definitions.
 use Prim.Native.Nat.{ℕ}
 use mathlib.Core.Path.{_≡_}
+use mathlib.Core.Bool.{true, false}
 use mathlib.Core.Option.{none, some}
 use mathlib.Core.List.{List, [], _∷_}
 use Rattle.words.specs.Words.{name, number, variable, word, rowsKind, topKind, fallingKind, registersKind, unbound}
@@ -9,8 +10,9 @@ use Rattle.lists.specs.Rows.{rowBefore}
 use Rattle.late.specs.Apart.{Apart}
 use Rattle.late.specs.Ways.{Way, empty, turn, into, turnsAlong, given, EachOnce, rowsMerged}
 use Rattle.late.specs.AnyOrder.{Reordered, AnyOrder}
+use Rattle.late.specs.Refused.{WayRefusedBy, fromTurns}
 use Rattle.late.specs.Sending.{SomeOnce}
-use Rattle.late.specs.Needed.{planTo, sumPlan, recordOf}
+use Rattle.late.specs.Needed.{planTo, bestPlan, tiedRows, sumPlan, recordOf, farSums}
 
 -- ---- three turns, merged from the first to the last, one after the other; and from the last on, what the two others give as its list
 abbrev pub behind : List ℕ
@@ -76,3 +78,17 @@ pub record AnyOrderTold : Type 0 where
   pub total : AnyOrder sumPlan sumLists → (a : List ℕ) → given sumPlan sumLists turned ≡ some a → a ≡ recordOf 1 0
   pub grouped : AnyOrder twoPlan bestLists → (a : List ℕ) → given twoPlan bestLists (into (turn 0) behind (into (turn 1) behind (turn 2))) ≡ some a
       → a ≡ bestPair
+
+-- ---- each number that a way can be refused by: a sum past 2^63 - 1, a kept buffer of one word less than the result, for each ending; and an empty
+-- list of registers that is lent as a turn's, which no way over turns' lists has
+abbrev pub words15 : List ℕ
+words15 = 9 ∷ 9 ∷ 9 ∷ 9 ∷ 9 ∷ 9 ∷ 9 ∷ 9 ∷ 9 ∷ 9 ∷ 9 ∷ 9 ∷ 9 ∷ 9 ∷ 9 ∷ []
+
+pub record RefusalsMet : Type 0 where
+  pub total : WayRefusedBy sumPlan farSums 13 (into (into (turn 0) [] (turn 1)) [] (turn 2))
+  pub group-room : WayRefusedBy sumPlan farSums 14 (into (turn 0) [] (into empty (9 ∷ 9 ∷ 9 ∷ 9 ∷ 9 ∷ 9 ∷ 9 ∷ []) (turn 2)))
+  pub best-room : WayRefusedBy bestPlan tiedRows 14 (into empty (9 ∷ []) (turn 1))
+  pub registers-room : WayRefusedBy roughPlan roughLists 14 (into (into empty words15 (turn 0)) [] (turn 1))
+  pub of-turns : fromTurns roughLists (into (into empty words15 (turn 0)) [] (turn 1)) ≡ true
+  pub empty-lent : WayRefusedBy roughPlan roughLists 12 (into (turn 0) words16 empty)
+  pub no-turns : fromTurns roughLists (into (turn 0) words16 empty) ≡ false

@@ -1,22 +1,22 @@
 -- The lists of a history's served turns, merged in any order and grouping, make the uncut run's list.
 use Prim.Native.Nat.{ℕ, _<_}
 use mathlib.Core.Path.{_≡_, refl, sym, _∙_, ap, subst, subst⁻¹}
-use mathlib.Core.Bool.{Bool, true}
+use mathlib.Core.Bool.{Bool, true, false}
 use mathlib.Core.Option.{Option, none, some}
 use mathlib.Core.List.{List, [], _∷_, map, foldl}
 use lib.ListN.{length}
 use Rattle.words.specs.Bindings.{Bindings}
-use Rattle.words.specs.Sequences.{iterate}
-use Rattle.words.proofs.Booleans.{absurd-true}
+use Rattle.words.specs.Sequences.{iterate, all}
+use Rattle.words.proofs.Booleans.{absurd-true, and-both}
 use Rattle.words.proofs.Each.{Each}
 use Rattle.tables.specs.Tables.{Tables}
-use Rattle.plans.specs.Endings.{top, group, registers}
-use Rattle.plans.specs.Plans.{Plan, planOf}
+use Rattle.plans.specs.Endings.{Ending, rows, top, group, registers}
+use Rattle.plans.specs.Plans.{Plan, planOf, hasForm}
 use Rattle.plans.proofs.Bounds.{EndingForm}
 use Rattle.steps.specs.Steps.{State, after}
 use Rattle.registers.specs.Registers.{registerCount}
 use Rattle.lists.specs.Rows.{project, rowBefore}
-use Rattle.lists.specs.Gathering.{gathered, takenInto}
+use Rattle.lists.specs.Gathering.{isRows, gathered, takenInto, listRight}
 use Rattle.lists.specs.Closing.{listAt}
 use Rattle.lists.specs.Thresholds.{mergedAll}
 use Rattle.lists.proofs.FullLists.{listsOf, rowsIn}
@@ -27,10 +27,13 @@ use Rattle.turns.specs.Turns.{isOver}
 use Rattle.turns.specs.Opening.{openOf, Opens}
 use Rattle.cuts.specs.Histories.{Event, Phone, ServedTurn, servedIn, history, fresh}
 use Rattle.cuts.specs.Premises.{Premises, listsIn}
-use Rattle.cuts.specs.Uncut.{EndsAt, keptAfter}
+use Rattle.cuts.specs.Uncut.{EndsAt, MergesLists, keptAfter}
 use Rattle.cuts.specs.Accepting.{Accepted}
 use Rattle.cuts.proofs.Accepting.{opening-accepts, accepted-form}
 use Rattle.cuts.proofs.Chains.{Chain, piece-adds, kept-some, chain-placed, chain-steps, sentRows, sent-lists, sent-rows}
+use Rattle.cuts.proofs.Placing.{steps-from-start}
+use Rattle.cuts.proofs.Chains.{Chain, piece-adds, kept-some, chain-placed, sentRows, sent-lists, sent-rows}
+use Rattle.cuts.proofs.MergeRefusals.{piece-right}
 use Rattle.cuts.proofs.Keeping.{Kept, end-later, whole}
 use Rattle.cuts.proofs.AnyCut.{history-keeps, fresh-keeps}
 use Rattle.late.specs.Apart.{Apart}
@@ -38,6 +41,7 @@ use Rattle.late.specs.Ways.{Way, turnsAlong, isMerge, EachOnce}
 use Rattle.late.proofs.ApartParts.{apart-lists}
 use Rattle.late.proofs.ApartSome.{apart-merged}
 use Rattle.late.proofs.AnyOrder.{any-order}
+use Rattle.late.proofs.Refused.{ways-refused}
 use Rattle.late.proofs.Once.{top-once, top-grouped, group-once, register-once}
 use Rattle.late_turns.specs.LateTurns.{GivesUncut, LateAsUncut}
 
@@ -64,6 +68,21 @@ all-there v q u e from end (x ∷ xs) c =
           ∙ length-registers u (x .sent) (p .rows),
       all-there v q u e (c .0) end xs (c .1 .1),
     )
+
+-- each list of a query whose lists are merged passes test 12
+merges-lists : (e : Ending) → isRows e ≡ false → MergesLists e
+merges-lists (rows vs) h = absurd-true refl h
+merges-lists (top k vs keys) h = tt
+merges-lists (group vs m) h = tt
+merges-lists (registers u) h = tt
+
+all-right : (v : Survey) (plan : List ℕ) → Accepted (v .tables) plan → isRows (planOf plan .ending) ≡ false
+    → (from end : ℕ) (xs : List ServedTurn) → Chain v (planOf plan) from xs end → all (listRight (planOf plan .ending)) (listsIn xs) ≡ true
+unfolding all
+all-right v plan a m from end [] c = refl
+all-right v plan a m from end (x ∷ xs) c =
+    and-both (listRight (planOf plan .ending) (x .list)) _
+    (piece-right v plan a (merges-lists (planOf plan .ending) m) from (c .0) x (c .1 .0)) (all-right v plan a m (c .0) end xs (c .1 .1))
 
 module _ (v : Survey) (plan : List ℕ) (a : Accepted (v .tables) plan) (h : Phone) (k : Kept v (planOf plan) h) where
   abbrev t : Tables
@@ -136,6 +155,8 @@ module _ (v : Survey) (plan : List ℕ) (a : Accepted (v .tables) plan) (h : Pho
         finished = λ d.
             let end : EndsAt t q n = record { over = over-none (after t q n .state) (sym (k .done) ∙ d); not-before = k .alive } in
             (end, kept-some t q form n (end-later t q n end));
+        refusals = ways-refused plan (ap hasForm (a .read), (a .variables, (a .years, tt))) (listsIn (servedIn h))
+            (λ m. all-right v plan a m 0 n (servedIn h) chain);
       }
 
 -- For every opening that is served and every list of events, under the premise on thresholds: the served turns' lists may be merged in any

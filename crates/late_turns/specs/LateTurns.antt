@@ -21,6 +21,7 @@ use Rattle.cuts.specs.Unsent.{BestUnsent}
 use Rattle.late.specs.Apart.{Apart}
 use Rattle.late.specs.Ways.{Way, turnsAlong, isMerge, given, EachOnce}
 use Rattle.late.specs.AnyOrder.{Reordered, SameEnd}
+use Rattle.late.specs.Refused.{WaysRefused}
 
 -- the lists of a history's served turns, merged by a way no merge of which is refused, give the uncut run's list up to a position of it
 abbrev pub GivesUncut : Survey → List ℕ → Phone → ℕ → Way → Type 0
@@ -56,3 +57,5 @@ pub record LateAsUncut (v : Survey) (plan : List ℕ) (h : Phone) : Type 0 where
   pub finished : doneIn (servedIn h) ≡ true
       → EndsAt (v .tables) (planOf plan) reached
       × (keptAfter (v .tables) (planOf plan) reached ≡ runList (planOf plan .ending) (after (v .tables) (planOf plan) reached))
+  -- by which numbers merges of these lists are refused, in whatever order and grouping: by 13 or 14 alone, best-of lists and registers by 14 alone
+  pub refusals : WaysRefused plan (listsIn (servedIn h))

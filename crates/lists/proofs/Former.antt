@@ -53,7 +53,7 @@ keys-alike (k ∷ ks) (l ∷ ls) p q =
     (key-less-as-before k l (p .0) (q .0), key-less-as-before l k (q .0) (p .0))
     (map keyRank ks) (map keyRank ls) (map formerKeyRank ks) (map formerKeyRank ls) (keys-alike ks ls (p .1) (q .1))
 
-pub groups-as-before : (g h : Group) → Each Former (g .keys) → Each Former (h .keys) → keysBefore g h ≡ formerKeysBefore g h
+pub groups-as-before : (g h : Group) → Each Former (g .keys) → Each Former (h .keys) → keysBefore g h ≡ formerKeysBefore (g .keys) (h .keys)
 unfolding keysBefore formerKeysBefore
 groups-as-before g h p q = keys-alike (g .keys) (h .keys) p q
 

@@ -7,7 +7,6 @@ use Rattle.words.specs.Words.{termValue, kind, fallingKind, unbound, lastRank}
 use Rattle.words.specs.Former.{formerKeyRank, Former}
 use Rattle.words.specs.Sequences.{lexBefore}
 use Rattle.lists.specs.Rows.{keyValue}
-use Rattle.lists.specs.Groups.{Group}
 
 abbrev pub formerRankBy : ℕ → ℕ → ℕ
 formerRankBy key w = cond (eqb (kind key) fallingKind) (lastRank - formerKeyRank w) (formerKeyRank w)
@@ -16,8 +15,9 @@ unfoldable pub formerRowBefore : List ℕ → List ℕ → List ℕ → List ℕ
 formerRowBefore vs keys x y =
     lexBefore (map (λ key. formerRankBy key (keyValue vs x key)) keys) (map (λ key. formerRankBy key (keyValue vs y key)) keys)
 
-unfoldable pub formerKeysBefore : Group → Group → Bool
-formerKeysBefore g h = lexBefore (map formerKeyRank (g .keys)) (map formerKeyRank (h .keys))
+-- of records, by their keys
+unfoldable pub formerKeysBefore : List ℕ → List ℕ → Bool
+formerKeysBefore ks ls = lexBefore (map formerKeyRank ks) (map formerKeyRank ls)
 
 -- the sum of some numbers was that of their 30 bits
 unfoldable pub formerSum : List ℕ → ℕ

@@ -8,6 +8,7 @@ use Rattle.words.specs.Sequences.{keep, numbers, lexBefore}
 use Rattle.words.specs.Sorting.{sortBy}
 use Rattle.words.proofs.EachMore.{each-both}
 use Rattle.words.proofs.KeepingSorted.{keep-sort}
+use Rattle.words.proofs.SortedMaps.{sort-map}
 use Rattle.tables.specs.declared.Order.{Order}
 use Rattle.tables.specs.declared.Order.the-variants.{Spo, Pos, Osp}
 use Rattle.tables.specs.Tables.{Tables, rowCount, fieldsOf}
@@ -19,7 +20,7 @@ use Rattle.views.specs.Views.{visible, visibleNumbers, viewRows, viewOf}
 use Rattle.views.specs.Renumbered.{newNumber}
 use Rattle.views.proofs.Lengths.{view-count}
 use Rattle.views.proofs.Rows.{view-fields, numbers-seen, numbers-there}
-use Rattle.views.proofs.Renumbering.{sort-map, numbered, placed}
+use Rattle.views.proofs.Renumbering.{numbered, placed}
 
 -- rows that are the same in the rows' own order are the same in each
 fields-alike : (o : Order) (rows others : List ℕ) (j i : ℕ) → fieldsOf Spo rows j ≡ fieldsOf Spo others i → fieldsOf o rows j ≡ fieldsOf o others i

@@ -1,47 +1,17 @@
--- Numbers that pass a test, numbered anew: the new numbers are those from 0 on, and sorting goes with them.
+-- Numbers that pass a test, numbered anew: the new numbers are those from 0 on.
 use Prim.Native.Nat.{ℕ, zero, suc, _+_, _<_}
 use native.Mathlib.Omega.{arith}
-use mathlib.Core.Path.{_≡_, refl, sym, _∙_, ap}
+use mathlib.Core.Path.{_≡_, sym, _∙_, ap}
 use mathlib.Core.Bool.{Bool, true, false}
-use mathlib.Core.List.{List, [], _∷_, _++_, map, append-nil, map-append}
+use mathlib.Core.List.{[], _∷_, _++_, map, append-nil, map-append}
 use lib.ListN.{length, getD, length-append, List·getD-append}
 use lib.Seq.{getD-append-seam}
 use Rattle.words.specs.Sequences.{keep, numbers}
-use Rattle.words.specs.Sorting.{insertBy, insertAllBy, sortBy}
 use Rattle.words.proofs.Booleans.{Decided, yes, no, decided}
-use Rattle.words.proofs.Each.{Each, each-insert}
-use Rattle.words.proofs.Inserting.{insert-nil, insert-here, insert-later}
 use Rattle.words.proofs.Keeping.{keep-nil, keep-yes, keep-no, keep-append}
 use Rattle.words.proofs.Numbers.{numbers-none, numbers-next}
 use Rattle.words.proofs.Orders.{Three, less, same, more, three}
 use Rattle.views.specs.Renumbered.{passedBefore}
-
--- ---- sorting what a list is made into, where both orders agree
-module _ {A B : Type 0} (before : A → A → Bool) (after : B → B → Bool) (f : A → B) (P : A → Type 0)
-    (agree : (x y : A) → P x → P y → after (f x) (f y) ≡ before x y) where
-  insert-map : (y : A) (xs : List A) → P y → Each P xs → map f (insertBy before y xs) ≡ insertBy after (f y) (map f xs)
-  insert-map y [] p q = ap (map f) (insert-nil before y) ∙ sym (insert-nil after (f y))
-  insert-map y (x ∷ xs) p q =
-      elim (decided (before y x)) [
-        | yes e ↦
-            ap (map f) (insert-here before y x xs e)
-            ∙ sym (insert-here after (f y) (f x) (map f xs) (agree y x p (q .0) ∙ e))
-        | no e ↦
-            ap (map f) (insert-later before y x xs e)
-            ∙ ap (λ l. f x ∷ l) (insert-map y xs p (q .1))
-            ∙ sym (insert-later after (f y) (f x) (map f xs) (agree y x p (q .0) ∙ e))
-      ]
-
-  insertAll-map : (ys xs : List A) → Each P ys → Each P xs → map f (insertAllBy before xs ys) ≡ insertAllBy after (map f xs) (map f ys)
-  unfolding insertAllBy
-  insertAll-map [] xs p q = refl
-  insertAll-map (y ∷ ys) xs p q =
-      insertAll-map ys (insertBy before y xs) (p .1) (each-insert P before y xs (p .0) q)
-      ∙ ap (λ l. insertAllBy after l (map f ys)) (insert-map y xs (p .0) q)
-
-  pub sort-map : (xs : List A) → Each P xs → map f (sortBy before xs) ≡ sortBy after (map f xs)
-  unfolding sortBy
-  sort-map xs p = insertAll-map xs [] p tt
 
 -- ---- numbers that pass a test
 module _ (f : ℕ → Bool) where

@@ -1,0 +1,6 @@
+pub mod Truths
+pub mod Runs
+pub mod Lists
+pub mod Finished
+pub mod Callers
+pub mod Cases
