@@ -9,7 +9,7 @@ use lib.Dec.{leb}
 use borrow.Author.Tests.{leb-true}
 use Rattle.words.proofs.Booleans.{and-left, and-right, Decided, yes, no, decided}
 use Rattle.words.proofs.Each.{Each}
-use Rattle.dictionaries.specs.Utf8.{Span, span, isIn, trailing, TableRow, table, afterIn, afterFirst}
+use Rattle.dictionaries.specs.Utf8.{Span, span, isIn, trailing, Utf8Row, utf8Table, afterIn, afterFirst}
 use Rattle.dictionaries.specs.Utf8.{formedFrom, wellFormed, firstBits, sixMore, codePointsFrom, codePoints}
 
 -- bytes and the code points that they stand for, by the bits of each byte
@@ -67,7 +67,8 @@ module _ (a : ℕ) (s : Span) (above : 0x80 ≤ s .least) (below : s .greatest �
       (three {p = a - 0xE0} {q = b - 0x80} {r = c - 0x80} (omega arith) (omega arith) (omega arith) (omega arith) (t .1 .1 .2))
 
   four-text : (bs cs : List ℕ) → 0xF0 ≤ a → a ≤ 0xF7 → 0x10000 ≤ (((a - 0xF0) * 64 + (s .least - 0x80)) * 64) * 64
-      → (((a - 0xF0) * 64 + (s .greatest - 0x80)) * 64 + 0x3F) * 64 + 0x3F < 0x110000 → Unread bs (s ∷ trailing ∷ trailing ∷ []) (a - 0xF0) cs → Utf8Text (a ∷ bs) cs
+      → (((a - 0xF0) * 64 + (s .greatest - 0x80)) * 64 + 0x3F) * 64 + 0x3F < 0x110000 → Unread bs (s ∷ trailing ∷ trailing ∷ []) (a - 0xF0) cs
+      → Utf8Text (a ∷ bs) cs
   four-text [] cs h k m m₂ t = absurd t
   four-text (b ∷ []) cs h k m m₂ t = absurd (t .1)
   four-text (b ∷ c ∷ []) cs h k m m₂ t = absurd (t .1 .1)
@@ -89,8 +90,8 @@ module _ (a : ℕ) (s : Span) (above : 0x80 ≤ s .least) (below : s .greatest �
       (omega arith) (omega arith) (omega arith) (omega arith) (omega arith) (omega arith) (t .1 .1 .1 .2))
 
 -- ---- by the rows of the table
-by-rows : (P : Option (List Span) → Type 0) (a : ℕ) (rs : List TableRow)
-    → Each (λ (r : TableRow). isIn (r .first) a ≡ true → P (some (r .after))) rs → P none → P (afterIn rs a)
+by-rows : (P : Option (List Span) → Type 0) (a : ℕ) (rs : List Utf8Row)
+    → Each (λ (r : Utf8Row). isIn (r .first) a ≡ true → P (some (r .after))) rs → P none → P (afterIn rs a)
 by-rows P a [] e n = n
 by-rows P a (r ∷ rs) e n =
     elim (decided (isIn (r .first) a)) [ yes h ↦ rw h (e .0 h) | no h ↦ rw h (by-rows P a rs (e .1) n) ]
@@ -107,7 +108,7 @@ first-text : (a : ℕ) (bs : List ℕ)
     → restFormed bs (afterFirst a) ≡ true → Utf8Text (a ∷ bs) (restPoints a bs (afterFirst a))
 unfolding afterFirst
 first-text a bs ih =
-    by-rows (λ o. restFormed bs o ≡ true → Utf8Text (a ∷ bs) (restPoints a bs o)) a table (
+    by-rows (λ o. restFormed bs o ≡ true → Utf8Text (a ∷ bs) (restPoints a bs o)) a utf8Table (
       one-row,
       (
         two-row,
@@ -123,7 +124,11 @@ first-text a bs ih =
                   four-row 0xF0 0xF0 0x90 0xBF (omega arith) (omega arith) (λ k. omega arith) (λ k. omega arith) (λ k. omega arith) (λ k. omega arith),
                   (
                     four-row 0xF1 0xF3 0x80 0xBF (omega arith) (omega arith) (λ k. omega arith) (λ k. omega arith) (λ k. omega arith) (λ k. omega arith),
-                    (four-row 0xF4 0xF4 0x80 0x8F (omega arith) (omega arith) (λ k. omega arith) (λ k. omega arith) (λ k. omega arith) (λ k. omega arith), tt),
+                    (
+                      four-row 0xF4 0xF4 0x80 0x8F (omega arith) (omega arith) (λ k. omega arith) (λ k. omega arith) (λ k. omega arith)
+                          (λ k. omega arith),
+                      tt,
+                    ),
                   ),
                 ),
               ),
@@ -137,17 +142,21 @@ first-text a bs ih =
     one-row : isIn (span 0x00 0x7F) a ≡ true → formedFrom bs [] ≡ true → Utf8Text (a ∷ bs) (codePointsFrom bs [] a)
     one-row h f = one-text a bs _ (in-greatest (span 0x00 0x7F) a h) (ih [] f a)
 
-    two-row : isIn (span 0xC2 0xDF) a ≡ true → formedFrom bs (trailing ∷ []) ≡ true → Utf8Text (a ∷ bs) (codePointsFrom bs (trailing ∷ []) (a - 0xC0))
+    two-row : isIn (span 0xC2 0xDF) a ≡ true → formedFrom bs (trailing ∷ []) ≡ true
+        → Utf8Text (a ∷ bs) (codePointsFrom bs (trailing ∷ []) (a - 0xC0))
     two-row h f = two-text a bs _ (in-least (span 0xC2 0xDF) a h) (in-greatest (span 0xC2 0xDF) a h) (ih (trailing ∷ []) f (a - 0xC0))
 
-    three-row : (l g m n : ℕ) → 0x80 ≤ m → n ≤ 0xBF → (l ≤ a → 0xE0 ≤ a) → (a ≤ g → a ≤ 0xEF) → (l ≤ a → 0x800 ≤ ((a - 0xE0) * 64 + (m - 0x80)) * 64)
-        → isIn (span l g) a ≡ true → formedFrom bs (span m n ∷ trailing ∷ []) ≡ true → Utf8Text (a ∷ bs) (codePointsFrom bs (span m n ∷ trailing ∷ []) (a - 0xE0))
+    three-row : (l g m n : ℕ) → 0x80 ≤ m → n ≤ 0xBF → (l ≤ a → 0xE0 ≤ a) → (a ≤ g → a ≤ 0xEF)
+        → (l ≤ a → 0x800 ≤ ((a - 0xE0) * 64 + (m - 0x80)) * 64)
+        → isIn (span l g) a ≡ true → formedFrom bs (span m n ∷ trailing ∷ []) ≡ true
+        → Utf8Text (a ∷ bs) (codePointsFrom bs (span m n ∷ trailing ∷ []) (a - 0xE0))
     three-row l g m n u v x y z h f =
         three-text a (span m n) u v bs _ (x (in-least (span l g) a h)) (y (in-greatest (span l g) a h)) (z (in-least (span l g) a h))
         (ih (span m n ∷ trailing ∷ []) f (a - 0xE0))
 
     four-row : (l g m n : ℕ) → 0x80 ≤ m → n ≤ 0xBF → (l ≤ a → 0xF0 ≤ a) → (a ≤ g → a ≤ 0xF7)
-        → (l ≤ a → 0x10000 ≤ (((a - 0xF0) * 64 + (m - 0x80)) * 64) * 64) → (a ≤ g → (((a - 0xF0) * 64 + (n - 0x80)) * 64 + 0x3F) * 64 + 0x3F < 0x110000)
+        → (l ≤ a → 0x10000 ≤ (((a - 0xF0) * 64 + (m - 0x80)) * 64) * 64)
+        → (a ≤ g → (((a - 0xF0) * 64 + (n - 0x80)) * 64 + 0x3F) * 64 + 0x3F < 0x110000)
         → isIn (span l g) a ≡ true → formedFrom bs (span m n ∷ trailing ∷ trailing ∷ []) ≡ true
         → Utf8Text (a ∷ bs) (codePointsFrom bs (span m n ∷ trailing ∷ trailing ∷ []) (a - 0xF0))
     four-row l g m n u v x y z z₂ h f =

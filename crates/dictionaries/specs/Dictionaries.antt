@@ -10,13 +10,13 @@ use Rattle.dictionaries.specs.Strings.{stringBefore, sameString}
 use Rattle.dictionaries.specs.Utf8.{wellFormed}
 
 -- the part of some bytes from a place up to another
-abbrev pub part : List ℕ → ℕ → ℕ → List ℕ
-part bytes a e = take (e - a) (drop a bytes)
+abbrev pub byteRange : List ℕ → ℕ → ℕ → List ℕ
+byteRange bytes a e = take (e - a) (drop a bytes)
 
 -- the strings that the ends cut off, from a place on
 unfoldable pub stringsFrom : List ℕ → ℕ → List ℕ → List (List ℕ)
 stringsFrom bytes a [] = []
-stringsFrom bytes a (e ∷ es) = part bytes a e ∷ stringsFrom bytes e es
+stringsFrom bytes a (e ∷ es) = byteRange bytes a e ∷ stringsFrom bytes e es
 
 abbrev pub stringsOf : List ℕ → List ℕ → List (List ℕ)
 stringsOf bytes ends = stringsFrom bytes 0 ends
@@ -37,13 +37,13 @@ pub record RightDictionary (bytes ends : List ℕ) : Type 0 where
   pub ascend : neighbours stringBefore (stringsOf bytes ends) ≡ true
 
 -- ---- how many strings come before one, and whether it is among them
-unfoldable pub rank : List (List ℕ) → List ℕ → ℕ
-rank [] s = 0
-rank (x ∷ xs) s = cond (stringBefore x s) (rank xs s + 1) (rank xs s)
+unfoldable pub stringRank : List (List ℕ) → List ℕ → ℕ
+stringRank [] s = 0
+stringRank (x ∷ xs) s = cond (stringBefore x s) (stringRank xs s + 1) (stringRank xs s)
 
-unfoldable pub among : List (List ℕ) → List ℕ → Bool
-among [] s = false
-among (x ∷ xs) s = sameString s x || among xs s
+unfoldable pub isAmong : List (List ℕ) → List ℕ → Bool
+isAmong [] s = false
+isAmong (x ∷ xs) s = sameString s x || isAmong xs s
 
 -- ---- strings by their places
 -- there is a string at a place; the one at a place comes before that at another

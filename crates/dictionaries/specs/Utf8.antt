@@ -23,33 +23,33 @@ abbrev pub trailing : Span
 trailing = span 0x80 0xBF
 
 -- a row: the span of the first byte and those of the bytes after it
-pub record TableRow : Type 0 where
+pub record Utf8Row : Type 0 where
   pub first : Span
   pub after : List Span
 
-abbrev pub row : Span → List Span → TableRow
-row s ss = record { first = s; after = ss }
+abbrev pub utf8Row : Span → List Span → Utf8Row
+utf8Row s ss = record { first = s; after = ss }
 
-abbrev pub table : List TableRow
-table =
-    row (span 0x00 0x7F) []
-    ∷ row (span 0xC2 0xDF) (trailing ∷ [])
-    ∷ row (span 0xE0 0xE0) (span 0xA0 0xBF ∷ trailing ∷ [])
-    ∷ row (span 0xE1 0xEC) (trailing ∷ trailing ∷ [])
-    ∷ row (span 0xED 0xED) (span 0x80 0x9F ∷ trailing ∷ [])
-    ∷ row (span 0xEE 0xEF) (trailing ∷ trailing ∷ [])
-    ∷ row (span 0xF0 0xF0) (span 0x90 0xBF ∷ trailing ∷ trailing ∷ [])
-    ∷ row (span 0xF1 0xF3) (trailing ∷ trailing ∷ trailing ∷ [])
-    ∷ row (span 0xF4 0xF4) (span 0x80 0x8F ∷ trailing ∷ trailing ∷ [])
+abbrev pub utf8Table : List Utf8Row
+utf8Table =
+    utf8Row (span 0x00 0x7F) []
+    ∷ utf8Row (span 0xC2 0xDF) (trailing ∷ [])
+    ∷ utf8Row (span 0xE0 0xE0) (span 0xA0 0xBF ∷ trailing ∷ [])
+    ∷ utf8Row (span 0xE1 0xEC) (trailing ∷ trailing ∷ [])
+    ∷ utf8Row (span 0xED 0xED) (span 0x80 0x9F ∷ trailing ∷ [])
+    ∷ utf8Row (span 0xEE 0xEF) (trailing ∷ trailing ∷ [])
+    ∷ utf8Row (span 0xF0 0xF0) (span 0x90 0xBF ∷ trailing ∷ trailing ∷ [])
+    ∷ utf8Row (span 0xF1 0xF3) (trailing ∷ trailing ∷ trailing ∷ [])
+    ∷ utf8Row (span 0xF4 0xF4) (span 0x80 0x8F ∷ trailing ∷ trailing ∷ [])
     ∷ []
 
 -- the spans of the bytes after a first one, none where no row has it
-abbrev pub afterIn : List TableRow → ℕ → Option (List Span)
+abbrev pub afterIn : List Utf8Row → ℕ → Option (List Span)
 afterIn [] a = none
 afterIn (r ∷ rs) a = cond (isIn (r .first) a) (some (r .after)) (afterIn rs a)
 
 unfoldable pub afterFirst : ℕ → Option (List Span)
-afterFirst a = afterIn table a
+afterFirst a = afterIn utf8Table a
 
 -- bytes of which the first are still to be in some spans, and the others are sequences of the table
 unfoldable pub formedFrom : List ℕ → List Span → Bool
