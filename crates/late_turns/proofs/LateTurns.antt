@@ -31,8 +31,6 @@ use Rattle.cuts.specs.Uncut.{EndsAt, MergesLists, keptAfter}
 use Rattle.cuts.specs.Accepting.{Accepted}
 use Rattle.cuts.proofs.Accepting.{opening-accepts, accepted-form}
 use Rattle.cuts.proofs.Chains.{Chain, piece-adds, kept-some, chain-placed, chain-steps, sentRows, sent-lists, sent-rows}
-use Rattle.cuts.proofs.Placing.{steps-from-start}
-use Rattle.cuts.proofs.Chains.{Chain, piece-adds, kept-some, chain-placed, sentRows, sent-lists, sent-rows}
 use Rattle.cuts.proofs.MergeRefusals.{piece-right}
 use Rattle.cuts.proofs.Keeping.{Kept, end-later, whole}
 use Rattle.cuts.proofs.AnyCut.{history-keeps, fresh-keeps}
