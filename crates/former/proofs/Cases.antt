@@ -17,7 +17,8 @@ use Rattle.lists.specs.Former.{formerRowBefore, formerKeysBefore}
 use Rattle.former.specs.Truths.{formerComparison, formerTruth, FormerTerms}
 use Rattle.former.specs.Runs.{formerAfter}
 use Rattle.former.specs.Lists.{formerWords, formerGathered}
-use Rattle.former.specs.Cases.{woodOfThree, thickStems, FormerLists, FormerMet, thinningFront, thinningRest, exportFront, exportRest, TwoCallers}
+use Rattle.former.specs.Cases.{woodOfThree, thickStems, FormerLists, FormerMet, thinningFront}
+use Rattle.former.specs.Cases.{thinningRest, exportFront, exportRest, TwoCallers, ElevenStems}
 use Rattle.former.proofs.Runs.{isFormer, passes-former}
 use Rattle.former.proofs.Callers.{callers-as-before}
 
@@ -77,3 +78,7 @@ two-callers =
         lists = callers-as-before exportFront 0 exportRest (omega arith) refl refl;
       };
     }
+
+pub eleven-stems-hold : ElevenStems
+unfolding computing
+eleven-stems-hold = record { then = refl; written-now = refl; no-number-now = refl }

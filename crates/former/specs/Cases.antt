@@ -9,7 +9,7 @@ use lib.ListN.{length}
 use Rattle.words.specs.Words.{name, number, variable}
 use Rattle.tables.specs.Tables.{Tables}
 use Rattle.plans.specs.Endings.{top}
-use Rattle.plans.specs.Plans.{planOf, hasForm, readPlan}
+use Rattle.plans.specs.Plans.{Plan, planOf, hasForm, readPlan}
 use Rattle.plans.specs.Former.{written}
 use Rattle.steps.specs.Steps.{after}
 use Rattle.cuts.specs.Uncut.{runList}
@@ -17,16 +17,14 @@ use Rattle.former.specs.Runs.{formerAfter, FormerQuery}
 use Rattle.former.specs.Finished.{formerRunList}
 use Rattle.former.specs.Callers.{endingPlace, formerPlanOf, asking, ListAsBefore}
 
--- ---- stems n1, n2 and n3 with a diameter each, in the year 2026
+-- the row of a stem with a diameter, in the year 2026
+abbrev pub measuredStem : ℕ → ℕ → List ℕ
+measuredStem j diameter = number 2026 ∷ name j ∷ name 12 ∷ number diameter ∷ []
+
+-- ---- stems n1, n2 and n3
 abbrev pub woodOfThree : ℕ → Tables
 woodOfThree third =
-    record {
-      rows = number 2026 ∷ name 1 ∷ name 12 ∷ number 45
-          ∷ number 2026 ∷ name 2 ∷ name 12 ∷ number 310
-          ∷ number 2026 ∷ name 3 ∷ name 12 ∷ number third ∷ [];
-      pos = 0 ∷ 1 ∷ 2 ∷ [];
-      osp = 0 ∷ 1 ∷ 2 ∷ [];
-    }
+    record { rows = measuredStem 1 45 ++ (measuredStem 2 310 ++ measuredStem 3 third); pos = 0 ∷ 1 ∷ 2 ∷ []; osp = 0 ∷ 1 ∷ 2 ∷ [] }
 
 -- ?0 n12 ?1, a condition and an ending
 abbrev pub stemsAsked : List ℕ → List ℕ → List ℕ
@@ -113,3 +111,33 @@ pub record TwoCallers : Type 0 where
   pub thinning : NoNumber thinningFront thinningRest (variable 0 ∷ variable 1 ∷ []) (0xA000_0001 ∷ [])
   pub export : NoNumber exportFront exportRest (variable 1 ∷ variable 2 ∷ variable 3 ∷ variable 0 ∷ [])
       (0xA000_0001 ∷ 0xA000_0002 ∷ 0xB000_0003 ∷ [])
+
+-- ---- eleven stems, with the diameters i45 to i55: the thinnest of them, as rows ?1, where no k was written
+abbrev pub elevenStems : Tables
+elevenStems =
+    record {
+      rows = measuredStem 1 45 ++ (measuredStem 2 46 ++ (measuredStem 3 47 ++ (measuredStem 4 48 ++ (measuredStem 5 49 ++ (measuredStem 6 50
+          ++ (measuredStem 7 51 ++ (measuredStem 8 52 ++ (measuredStem 9 53 ++ (measuredStem 10 54 ++ measuredStem 11 55)))))))));
+      pos = 0 ∷ 1 ∷ 2 ∷ 3 ∷ 4 ∷ 5 ∷ 6 ∷ 7 ∷ 8 ∷ 9 ∷ 10 ∷ [];
+      osp = 0 ∷ 1 ∷ 2 ∷ 3 ∷ 4 ∷ 5 ∷ 6 ∷ 7 ∷ 8 ∷ 9 ∷ 10 ∷ [];
+    }
+
+abbrev pub thinFront : List ℕ
+thinFront = 0x1000_0001 ∷ 0x2000_0001 ∷ 0xC000_0000 ∷ 12 ∷ 0xC000_0001 ∷ 0x3000_0000 ∷ []
+
+abbrev pub thinRest : List ℕ
+thinRest = 0x8000_0001 ∷ 0xC000_0001 ∷ 0xA000_0001 ∷ []
+
+abbrev pub tenThin : List ℕ
+tenThin =
+    0x4000_002D ∷ 0x4000_002E ∷ 0x4000_002F ∷ 0x4000_0030 ∷ 0x4000_0031
+    ∷ 0x4000_0032 ∷ 0x4000_0033 ∷ 0x4000_0034 ∷ 0x4000_0035 ∷ 0x4000_0036 ∷ []
+
+-- the list of a plan over them
+abbrev pub thinList : Plan → List ℕ
+thinList q = runList (q .ending) (after elevenStems q 12)
+
+pub record ElevenStems : Type 0 where
+  pub then : thinList (formerPlanOf (asking thinFront 0 thinRest)) ≡ tenThin ++ (0x4000_0037 ∷ [])
+  pub written-now : thinList (planOf (asking thinFront 64 thinRest)) ≡ tenThin ++ (0x4000_0037 ∷ [])
+  pub no-number-now : thinList (planOf (asking thinFront 0 thinRest)) ≡ tenThin
