@@ -1,0 +1,3 @@
+pub mod Encodings
+pub mod Gathered
+pub mod StringRows
