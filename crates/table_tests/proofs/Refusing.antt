@@ -20,7 +20,7 @@ use Rattle.tables.specs.Right.{Sized}
 use Rattle.tables.proofs.RightTables.{sized-lengths}
 use Rattle.walks.specs.Walk.{orderCount, keysAt, Words, rightUpto, orderRight, OneYear, rightOrders}
 use Rattle.walks.proofs.Keys.{all-agree, keys-say, order-rows}
-use Rattle.walks.proofs.Walking.{upto-none, upto-named}
+use Rattle.walks.proofs.Walking.{upto-none, upto-named, orders-none, orders-fault}
 use Rattle.table_tests.specs.Refusals.{rowsRefusal, refusalAfter, refusalWith}
 
 pub no-refusal : (n : ℕ) → (n ≡ 0 → ⊥) → (n ≡ 1 → ⊥) → (n ≡ 2 → ⊥) → 0 ≡ refusalAfter n
@@ -28,11 +28,6 @@ no-refusal zero a b c = absurd (a refl)
 no-refusal (suc zero) a b c = absurd (b refl)
 no-refusal (suc (suc zero)) a b c = absurd (c refl)
 no-refusal (suc (suc (suc n))) a b c = refl
-
--- so many orders, or none
-pub right-up : (up : Bool) (n r : ℕ) → r ≡ cond up n 0 → r ≡ 3 → (up ≡ true) × (n ≡ 3)
-right-up true n r e h = (refl, sym e ∙ h)
-right-up false n r e h = absurd (omega arith)
 
 pub refused-by : (n orders : ℕ) → (n ≡ 0 → ⊥) → n ≡ refusalWith n orders
 refused-by zero orders h = absurd (h refl)
@@ -110,7 +105,7 @@ module _ (t : Tables) where
 
   -- where kinds and years are right, by the orders
   module _ (s : Sized t) (w : Words (t .rows)) (p : (kindsRight t ≡ true) × (yearsRight t ≡ true)) where
-    pub orders-first : (alike : Bool) → (alike ≡ true → OneYear (t .rows)) → ascends Spo t ≡ true
+    orders-first : (alike : Bool) → (alike ≡ true → OneYear (t .rows)) → ascends Spo t ≡ true
         → numberOf (firstFailing (tableTests t)) ≡ refusalAfter (rightOrders alike t)
     unfolding firstFailing rightOrders
     orders-first alike one u =
@@ -124,13 +119,21 @@ module _ (t : Tables) where
         )
         (by-order (ascends Spo t) (namesRows t (t .pos)) (namesRows t (t .osp)) (ascends Pos t) (ascends Osp t))
 
-    -- where the rows do not ascend
-    pub rows-fault : ascends Spo t ≡ false → numberOf (firstFailing (tableTests t)) ≡ 3
+    -- where the rows do not ascend, no order counts
+    rows-fault : ascends Spo t ≡ false → numberOf (firstFailing (tableTests t)) ≡ 3
     unfolding firstFailing
     rows-fault u = rw (sized-lengths t s, p .0, p .1, u)
 
+    pub orders-say : (alike : Bool) → (ascends Spo t ≡ true → alike ≡ true → OneYear (t .rows))
+        → numberOf (firstFailing (tableTests t)) ≡ refusalAfter (rightOrders alike t)
+    orders-say alike one = go (decided (ascends Spo t))
+      where
+        go : Decided (ascends Spo t) → numberOf (firstFailing (tableTests t)) ≡ refusalAfter (rightOrders alike t)
+        go (yes u) = orders-first alike (one u) u
+        go (no u) = rows-fault u ∙ sym (ap refusalAfter (orders-fault alike t 0 (orders-none alike t) (omega arith) (order-rows alike t w ∙ u)))
+
   -- ---- tables all of whose orders are right
-  module _ (s : Sized t) (w : Words (t .rows)) (alike : Bool) (one : alike ≡ true → OneYear (t .rows)) (u : ascends Spo t ≡ true)
+  module _ (s : Sized t) (w : Words (t .rows)) (alike : Bool) (one : ascends Spo t ≡ true → alike ≡ true → OneYear (t .rows))
       (e : rightOrders alike t ≡ orderCount) where
     pub all-right : (o : Order) → orderRight alike t o ≡ true
     unfolding rightOrders
@@ -148,12 +151,17 @@ module _ (t : Tables) where
     pub all-named : (o : Order) (place : ℕ) → place < rowCount t → rowAt o t place < rowCount t
     all-named o place h = upto-named alike t o (rowCount t) (all-right o) place h
 
+    pub own-up : ascends Spo t ≡ true
+    own-up = sym (order-rows alike t w) ∙ all-right Spo
+
     pub all-up : (o : Order) → ascends o t ≡ true
-    all-up Spo = u
+    all-up Spo = own-up
     all-up Pos =
-        and-right (namesRows t (t .pos)) (ascends Pos t) (sym (order-list alike one w (s .few) u Pos (t .pos) (s .pos-length) refl) ∙ all-right Pos)
+        and-right (namesRows t (t .pos)) (ascends Pos t)
+        (sym (order-list alike (one own-up) w (s .few) own-up Pos (t .pos) (s .pos-length) refl) ∙ all-right Pos)
     all-up Osp =
-        and-right (namesRows t (t .osp)) (ascends Osp t) (sym (order-list alike one w (s .few) u Osp (t .osp) (s .osp-length) refl) ∙ all-right Osp)
+        and-right (namesRows t (t .osp)) (ascends Osp t)
+        (sym (order-list alike (one own-up) w (s .few) own-up Osp (t .osp) (s .osp-length) refl) ∙ all-right Osp)
 
   -- no rows
   none-passes : rowCount t ≡ 0 → (kindsRight t ≡ true) × (yearsRight t ≡ true)
@@ -169,11 +177,6 @@ module _ (t : Tables) where
   no-rows s w e =
       orders-first s w (none-passes e) false (λ x. absurd-true x refl) (none-ascends e Spo)
       ∙ rw (e, upto-none false t Spo, upto-none false t Pos, upto-none false t Osp)
-
-  -- what the pass over the rows says where kinds and years are right
-  pub fine-order : (kindsRight t && (yearsRight t && ascends Spo t)) ≡ false → (kindsRight t ≡ true) × (yearsRight t ≡ true)
-      → ascends Spo t ≡ false
-  fine-order e p = rw (p .0, p .1) at e
 
   -- ---- what the answer is where kinds and years are looked at
   pub refusal-with : Sized t → (orders : ℕ)

@@ -6,9 +6,7 @@ use mathlib.Core.Bool.{Bool, true, cond, _&&_}
 use mathlib.Core.List.{List, []}
 use lib.ListN.{length, getD}
 use Rattle.words.specs.Sequences.{allBelow}
-use Rattle.tables.specs.Tables.{tablesOf, columnCount, yearColumn, fieldOf, rowRight, yearRight, kindsRight, yearsRight, ascends}
-use Rattle.tables.specs.declared.Order.the-variants.{Spo}
-use Rattle.table_own_orders.specs.OwnOrder.{rowsFine}
+use Rattle.tables.specs.Tables.{tablesOf, columnCount, yearColumn, fieldOf, rowRight, yearRight, kindsRight, yearsRight}
 use Rattle.table_tests.specs.Refusals.{rowsRefusal}
 
 -- a row passes; the rows that end before a word pass
@@ -26,16 +24,6 @@ module _ (rows : List ℕ) where
   pub rows-alone : (pos osp : List ℕ) → rowsRefusal (tablesOf rows [] []) ≡ rowsRefusal (tablesOf rows pos osp)
   unfolding kindsRight yearsRight
   rows-alone pos osp = refl
-
-  pub fine-alone : (pos osp : List ℕ) →
-      let t = tablesOf rows pos osp in
-      rowsFine rows ≡ (kindsRight t && (yearsRight t && ascends Spo t))
-  unfolding kindsRight yearsRight ascends
-  fine-alone pos osp = refl
-
-  pub own-alone : (pos osp : List ℕ) → ascends Spo (tablesOf rows [] []) ≡ ascends Spo (tablesOf rows pos osp)
-  unfolding ascends
-  own-alone pos osp = refl
 
   pub kinds-none : true ≡ kindsUpto rows 0
   unfolding kindsUpto allBelow

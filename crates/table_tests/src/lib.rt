@@ -1,30 +1,32 @@
 // The check of lent tables: tests 1, 2, 23, 3 and 4, in this order.
-use table_own_orders::rows_found;
 use table_walks::walk;
 use tables::COLUMNS;
 use tables::MOST_ROWS;
 use tables::OBJECT;
+use tables::Order;
 use tables::PREDICATE;
-use tables::RowNumber;
+use tables::Place;
 use tables::SUBJECT;
 use tables::YEAR;
 use tables::both;
 use tables::field;
+use tables::number_at;
+use tables::own_row;
 use tables::row_right;
 use tables::year_right;
 use words::MOST_YEAR;
 use words::Term;
 use words::VALUES;
 ghost use mathlib.Core.Path.{_≡_};
-ghost use mathlib.Core.Bool.{true, cond};
+ghost use mathlib.Core.Bool.{true};
 ghost use mathlib.Core.List.{[]};
-ghost use Prim.Native.Nat.{_%_, _<_};
+ghost use Prim.Native.Nat.{_-_, _*_, _%_, _<_};
+ghost use lib.Dec.{eqb};
 ghost use lib.ListN.{length};
 ghost use Rattle.words.specs.Tests.{firstFailing, numberOf};
-ghost use Rattle.tables.specs.declared.Order.the-variants.{Spo};
-ghost use Rattle.tables.specs.Tables.{tablesOf, columnCount, rowCount, lengthsRight, tableTests};
+ghost use Rattle.tables.specs.Tables.{tablesOf, columnCount, rowCount, fieldOf, yearColumn, lengthsRight, tableTests};
 ghost use Rattle.tables.specs.Right.{Sized};
-ghost use Rattle.walks.specs.Walk.{orderCount, orderRight, rightOrders};
+ghost use Rattle.walks.specs.Walk.{orderCount};
 ghost use Rattle.table_tests.specs.Refusals.{rowsRefusal, refusalAfter, refusalWith};
 ghost use Rattle.table_tests.specs.Ends.{boundsFine, endsFine, LastNamed, Passing};
 
@@ -123,10 +125,10 @@ fn ends_right(rows: &[u32], pos: &[u32], osp: &[u32]) -> bool
     requires { ⌜ LastNamed (tablesOf (now rows) (now pos) (now osp)) ⌝ }
     ensures { λ r. ⌜ r ≡ endsFine (tablesOf (now (rows .entry)) (now (pos .entry)) (now (osp .entry))) ⌝ }
 {
-    let last = pos.len() - 1;
-    let own = RowNumber(last as u32);
-    let by_predicate = RowNumber(pos[last]);
-    let by_object = RowNumber(osp[last]);
+    let last = Place(pos.len() as u32 - 1);
+    let own = own_row(last);
+    let by_predicate = number_at(rows, pos, osp, Order::Pos, last);
+    let by_object = number_at(rows, pos, osp, Order::Osp, last);
     let year = field(rows, own, YEAR);
     let subject = field(rows, own, SUBJECT);
     let predicate = field(rows, by_predicate, PREDICATE);
@@ -162,17 +164,15 @@ fn first_refusal(rows: &[u32], orders: u32) -> u32
     refusal_after(orders)
 }
 
-// How many orders are right before the first that is not, the rows' own first, of which it is known.
-fn orders_right(rows: &[u32], pos: &[u32], osp: &[u32], up: bool, alike: bool) -> u32
-    requires { ⌜ Sized (tablesOf (now rows) (now pos) (now osp)) ⌝ }
-    requires { ⌜ 0 < rowCount (tablesOf (now rows) (now pos) (now osp)) ⌝ }
-    requires { ⌜ (up ≡ true → orderRight alike (tablesOf (now rows) (now pos) (now osp)) Spo ≡ true) ⌝ }
-    ensures { λ r. ⌜ r ≡ cond up (rightOrders alike (tablesOf (now (rows .entry)) (now (pos .entry)) (now (osp .entry)))) 0 ⌝ }
+// Whether the first and the last of some rows have one year: then all that ascend do.
+fn years_alike(rows: &[u32], count: u32) -> bool
+    requires { ⌜ count * columnCount ≡ length (now rows) ⌝ }
+    requires { ⌜ 0 < count ⌝ }
+    ensures { λ r. ⌜ r ≡ eqb (fieldOf (now (rows .entry)) 0 yearColumn) (fieldOf (now (rows .entry)) (count - 1) yearColumn) ⌝ }
 {
-    if !up {
-        return 0;
-    }
-    walk(rows, pos, osp, alike)
+    let first = field(rows, own_row(Place(0)), YEAR);
+    let last = field(rows, own_row(Place(count - 1)), YEAR);
+    first == last
 }
 
 // The number of the first test that lent tables fail, 0 where they pass all.
@@ -186,9 +186,9 @@ pub fn check(rows: &[u32], pos: &[u32], osp: &[u32]) -> u32
         return ACCEPTED;
     }
     let count = pos.len() as u32;
-    let found = rows_found(rows, count);
-    let orders = orders_right(rows, pos, osp, found.up, found.alike);
-    if passes(rows, pos, osp, found.alike, orders) {
+    let alike = years_alike(rows, count);
+    let orders = walk(rows, pos, osp, alike);
+    if passes(rows, pos, osp, alike, orders) {
         return ACCEPTED;
     }
     first_refusal(rows, orders)

@@ -1,21 +1,24 @@
-// The walk over the orders of lent tables after the rows' own, for test 4.
+// The walk over the three orders of lent tables, for tests 3 and 4.
 use table_readings::read;
 use tables::Order;
 use tables::Place;
 use walks::key_at;
 ghost use mathlib.Core.Path.{_≡_};
-ghost use mathlib.Core.Bool.{true};
+ghost use mathlib.Core.Bool.{cond};
 ghost use Prim.Native.Nat.{_<_};
-ghost use Rattle.tables.specs.declared.Order.the-variants.{Spo};
+ghost use lib.Dec.{leb, ltb};
 ghost use Rattle.tables.specs.Tables.{tablesOf, rowCount};
 ghost use Rattle.tables.specs.Right.{Sized};
-ghost use Rattle.walks.specs.Walk.{orderAt, orderRight, rightOrders};
+ghost use Rattle.walks.specs.Walk.{orderAt, rightOrders};
 
 // How many orders there are.
 const ORDERS: u32 = 3;
 
 // The last of the long words that the walk compares.
 const LAST_KEY: usize = 1;
+
+// The greatest long word.
+const MOST_LONG: u64 = 18446744073709551615;
 
 // The orders in the sequence of the walk.
 fn order_at(turn: u32) -> Order
@@ -28,17 +31,34 @@ fn order_at(turn: u32) -> Order
     }
 }
 
-// Walks the orders after the rows' own, which is right: each row against the one before it, key by key; where all years are alike, without
-// them. The first place that names no row, or whose row does not come after the one before it, ends the walk; the answer is how many
-// orders were right.
+// 1 for yes, 0 for no.
+fn one_if(yes: bool) -> u64
+    ensures { λ r. ⌜ r ≡ cond yes 1 0 ⌝ }
+{
+    if yes { 1 } else { 0 }
+}
+
+// Whether a row comes before another from a column on: by its key in that column, or where it is the same by the columns after it. One sum and one
+// comparison, and no branch that depends on the keys but for a sum that is too great.
+fn before_from(earlier: u64, later: u64, after: bool) -> bool
+    ensures { λ r. ⌜ r ≡ cond after (leb earlier later) (ltb earlier later) ⌝ }
+{
+    let further = one_if(after);
+    if later > MOST_LONG - further {
+        return true;
+    }
+    earlier < later + further
+}
+
+// Walks the orders, the rows' own first: each row against the one before it, key by key from the last to the first; where all years are alike,
+// the lists without them. The first place that names no row, or whose row does not come after the one before it, ends the walk; the answer is
+// how many orders were right.
 pub fn walk(rows: &[u32], pos: &[u32], osp: &[u32], alike: bool) -> u32
     requires { ⌜ Sized (tablesOf (now rows) (now pos) (now osp)) ⌝ }
     requires { ⌜ 0 < rowCount (tablesOf (now rows) (now pos) (now osp)) ⌝ }
-    requires { ⌜ orderRight alike (tablesOf (now rows) (now pos) (now osp)) Spo ≡ true ⌝ }
     ensures { λ r. ⌜ r ≡ rightOrders alike (tablesOf (now (rows .entry)) (now (pos .entry)) (now (osp .entry))) ⌝ }
 {
-    let count = pos.len() as u32;
-    let mut turn: u32 = 1;
+    let mut turn: u32 = 0;
     'orders: while turn < ORDERS {
         let order = order_at(turn);
         let first = read(rows, pos, osp, order, Place(0), alike);
@@ -47,29 +67,23 @@ pub fn walk(rows: &[u32], pos: &[u32], osp: &[u32], alike: bool) -> u32
         }
         let mut last = first.keys;
         let mut place: u32 = 1;
-        'places: while place < count {
+        'places: while (place as usize) < pos.len() {
             let found = read(rows, pos, osp, order, Place(place), alike);
             if !found.named {
                 break 'orders;
             }
             let next = found.keys;
-            let mut column: usize = 0;
+            let mut column = LAST_KEY;
+            let mut before = false;
             'columns: loop {
-                let earlier = key_at(last, column);
-                let later = key_at(next, column);
-                if column == LAST_KEY {
-                    if later <= earlier {
+                before = before_from(key_at(last, column), key_at(next, column), before);
+                if column == 0 {
+                    if !before {
                         break 'orders;
                     }
                     break 'columns;
                 }
-                if earlier != later {
-                    if later < earlier {
-                        break 'orders;
-                    }
-                    break 'columns;
-                }
-                column += 1;
+                column -= 1;
             }
             last = next;
             place += 1;

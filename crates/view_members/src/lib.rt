@@ -7,9 +7,10 @@ use tables::OBJECT;
 use tables::Order;
 use tables::Place;
 use tables::Prefix;
-use tables::RowNumber;
 use tables::YEAR;
 use tables::field;
+use tables::own_row;
+use tables::row_at;
 use view_grants::seek;
 ghost use mathlib.Core.Path.{_≡_};
 ghost use mathlib.Core.Bool.{true};
@@ -52,13 +53,13 @@ fn flag_year(
     };
     let start = halved(rows, pos, osp, members);
     let end = end_from(rows, pos, osp, members, start);
-    let last = words::wide(end.0);
-    let mut place: usize = words::wide(start.0);
+    let last = end.0;
+    let mut place = start.0;
     let mut from: usize = 0;
     while place < last {
-        let row = pos[place];
-        let sought = seek(grant, from, field(rows, RowNumber(row), OBJECT));
-        flags[words::wide(row)] = flag_by(sought.found);
+        let row = row_at(rows, pos, osp, Order::Pos, Place(place));
+        let sought = seek(grant, from, field(rows, row, OBJECT));
+        flags[words::wide(row.0)] = flag_by(sought.found);
         from = sought.at;
         place += 1;
     }
@@ -79,15 +80,16 @@ pub fn flag_members(
     ensures { λ _. ⌜ Flagged (now (rows .entry)) (now (grant .entry)) membership (now (flags .exit)) ⌝ }
 {
     let count = (rows.len() / COLUMNS) as u32;
-    let mut row: u32 = 0;
-    while row < count {
-        let year = field(rows, RowNumber(row), YEAR);
+    let mut place: u32 = 0;
+    while place < count {
+        let here = Place(place);
+        let year = field(rows, own_row(here), YEAR);
         flag_year(rows, pos, osp, grant, membership, year, flags);
         let whole = Prefix {
             order: Order::Spo,
             count: 1,
             words: [year, 0, 0, 0],
         };
-        row = end_from(rows, pos, osp, whole, Place(row)).0;
+        place = end_from(rows, pos, osp, whole, here).0;
     }
 }

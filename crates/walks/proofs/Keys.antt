@@ -84,11 +84,6 @@ pub own-say : (alike : Bool) (rows : List ℕ) → Words rows → (a b : ℕ)
 unfolding keysOf fieldsOf
 own-say alike rows w a b = longs-say _ _ _ _ _ _ _ _ (w _) (w _) (w _) (w _)
 
--- the year of a row, by its first key
-pub year-in : (rows : List ℕ) → Words rows → (row : ℕ) → getD (keysOf false Spo rows row) 0 0 / 4294967296 ≡ fieldOf rows row yearColumn
-unfolding keysOf
-year-in rows w row = first-of-pair _ (fieldOf rows row yearColumn) (fieldOf rows row subjectColumn) refl (w _)
-
 -- and so that order is right by its test
 pub order-rows : (alike : Bool) (t : Tables) → Words (t .rows) → orderRight alike t Spo ≡ ascends Spo t
 unfolding rightUpto ascends

@@ -21,12 +21,9 @@ orderAt (suc (suc n)) = Osp
 abbrev pub orderCount : ℕ
 orderCount = 3
 
--- two words as a long one; how many words there are at most, and the greatest long word
+-- two words as a long one
 abbrev pub longOf : ℕ → ℕ → ℕ
 longOf first second = first * 4294967296 + second
-
-abbrev pub mostLong : ℕ
-mostLong = 18446744073709551615
 
 -- the words of a list are words
 abbrev pub Words : List ℕ → Type 0

@@ -1,47 +1,47 @@
 -- `table_walks::walk` meets its contract. The invariants: the orders before `turn` are right; of this order the places before
--- `place` are, and `last` has the keys of the one before it; those before `column` are the same in both rows.
+-- `place` are, and `last` has the keys of the one before it; `before` says whether it comes before the next by the columns after `column`.
 use Prim.Native.Nat.{ℕ, _+_, _-_, _≤_, _<_}
 use mathlib.Core.Path.{_≡_, refl, sym, ap, ap₂, _∙_}
-use mathlib.Core.Bool.{Bool, true, false}
+use mathlib.Core.Bool.{Bool, true, false, cond}
 use mathlib.Core.List.{List}
-use mathlib.Core.Logic.{⊎-elim}
 use native.Mathlib.Omega.{arith}
-use native.Mathlib.Decide.{decLt}
+use lib.Dec.{leb, ltb}
 use lib.ListN.{length, drop, getD}
 use borrow.Author.Tests.{not-true, not-false}
 use Rattle.words.specs.Sequences.{lexBefore}
 use Rattle.tables.specs.declared.Order.{Order}
 use Rattle.tables.specs.Tables.{Tables, tablesOf, rowCount, rowAt}
-use Rattle.tables.proofs.Sides.{from-less, from-same, from-more, from-end}
+use Rattle.tables.proofs.Sides.{from-end}
 use Rattle.walks.specs.Walk.{orderCount, keyCount, keysAt, orderRight, rightUpto, rightOrders}
 use Rattle.walks.proofs.Keys.{keys-length}
 use Rattle.walks.proofs.Walking.{read-row, read-keys, read-none, upto-first, upto-next, unnamed-fault, descent-fault}
 use Rattle.walks.proofs.Walking.{RightBefore, orders-none, orders-next, orders-fault, orders-all}
+use Rattle.table_walks.proofs.Columns.{column-says}
 use Rattle.table_walks.proofs.walk.Statement.{statement}
 use Rattle.table_walks.proofs.walk.Tie as tie
 
 abbrev Inv-columns : tie.InvT-columns
-Inv-columns rows pos osp alike count turn order last place next column₀ column =
-    (column < keyCount) × (lexBefore last next ≡ lexBefore (drop column last) (drop column next))
+Inv-columns rows pos osp alike turn order last place next column₀ before₀ column before =
+    (column < keyCount) × (before ≡ lexBefore (drop (column + 1) last) (drop (column + 1) next))
 
 abbrev μ-columns : tie.MeasureT-columns
-μ-columns rows pos osp alike count turn order last place next column₀ column = keyCount - column
+μ-columns rows pos osp alike turn order last place next column₀ before₀ column before = column
 
 abbrev Inv-places : tie.InvT-places
-Inv-places rows pos osp alike count turn order last₀ place₀ last place =
+Inv-places rows pos osp alike turn order last₀ place₀ last place =
     (1 ≤ place)
-    × (place ≤ count)
+    × (place ≤ length pos)
     × (last ≡ keysAt alike order (tablesOf rows pos osp) (place - 1))
     × (rightUpto alike (tablesOf rows pos osp) order place ≡ true)
 
 abbrev μ-places : tie.MeasureT-places
-μ-places rows pos osp alike count turn order last₀ place₀ last place = count - place
+μ-places rows pos osp alike turn order last₀ place₀ last place = length pos - place
 
 abbrev Inv-orders : tie.InvT-orders
-Inv-orders rows pos osp alike count turn₀ turn = RightBefore alike (tablesOf rows pos osp) turn
+Inv-orders rows pos osp alike turn₀ turn = RightBefore alike (tablesOf rows pos osp) turn
 
 abbrev μ-orders : tie.MeasureT-orders
-μ-orders rows pos osp alike count turn₀ turn = orderCount - turn
+μ-orders rows pos osp alike turn₀ turn = orderCount - turn
 
 -- ---- what each loop is about
 abbrev start : tie.At-orders Inv-columns μ-columns Inv-places μ-places Inv-orders μ-orders
@@ -108,17 +108,13 @@ next-length n =
     let l = places n in
     ap length (next-is n) ∙ keys-length (alike l) (order l) (tables l .rows) (rowAt (order l) (tables l) (l .places .place))
 
--- a column says which of the two comes first, or nothing
-module _ (n : tie.After-next Inv-columns μ-columns Inv-places μ-places Inv-orders μ-orders) (k : ℕ) (h : k < keyCount) where
-  first-less : getD (last n) k 0 < getD (next n) k 0 → lexBefore (drop k (last n)) (drop k (next n)) ≡ true
-  first-less = from-less (last n) (next n) k (omega (arith, last-length n)) (omega (arith, next-length n))
-
-  first-more : getD (next n) k 0 < getD (last n) k 0 → lexBefore (drop k (last n)) (drop k (next n)) ≡ false
-  first-more = from-more (last n) (next n) k (omega (arith, last-length n)) (omega (arith, next-length n))
-
-  first-same : getD (last n) k 0 ≡ getD (next n) k 0
-      → lexBefore (drop k (last n)) (drop k (next n)) ≡ lexBefore (drop (k + 1) (last n)) (drop (k + 1) (next n))
-  first-same = from-same (last n) (next n) k (omega (arith, last-length n)) (omega (arith, next-length n))
+-- what is known of the columns from one on, where it is known what those after it say
+from-column : (n : tie.After-next Inv-columns μ-columns Inv-places μ-places Inv-orders μ-orders) (k x y : ℕ) (after : Bool)
+    → k < keyCount → x ≡ getD (last n) k 0 → y ≡ getD (next n) k 0
+    → after ≡ lexBefore (drop (k + 1) (last n)) (drop (k + 1) (next n))
+    → cond after (leb x y) (ltb x y) ≡ lexBefore (drop k (last n)) (drop k (next n))
+from-column n k x y after h ex ey e =
+    rw (ex, ey, e) (column-says (last n) (next n) k (omega (arith, last-length n)) (omega (arith, next-length n)))
 
 -- what the rows' keys say of their places
 rows-say : (n : tie.After-next Inv-columns μ-columns Inv-places μ-places Inv-orders μ-orders) (b : Bool)
@@ -154,20 +150,16 @@ descends n e =
     (descent-fault (alike l) (tables l) (order l) (l .places .place) (l .places .inv .0) (below (reading n .before)) (rows-say n false e))
 
 -- ---- the needs
-cast-count : tie.Need-cast-count Inv-columns μ-columns Inv-places μ-places Inv-orders μ-orders
-cast-count c = omega arith
-
 orders-holds : tie.Need-orders-holds Inv-columns μ-columns Inv-places μ-places Inv-orders μ-orders
 orders-holds c =
     let a = c .before .before .before .args in
-    let t = tablesOf (a .rows .now) (a .pos .now) (a .osp .now) in
-    orders-next (a .alike) t 0 (orders-none (a .alike) t) (omega arith) (c .before .before .before .pre .1 .1)
+    orders-none (a .alike) (tablesOf (a .rows .now) (a .pos .now) (a .osp .now))
 
 order-at-requires : tie.Need-order-at-requires Inv-columns μ-columns Inv-places μ-places Inv-orders μ-orders
 order-at-requires c κs = tt
 
 read-requires : tie.Need-read-requires Inv-columns μ-columns Inv-places μ-places Inv-orders μ-orders
-read-requires c κs = (start (c .before .before) .pre .0, start (c .before .before) .pre .1 .0)
+read-requires c κs = (start (c .before .before) .pre .0, start (c .before .before) .pre .1)
 
 places-holds : tie.Need-places-holds Inv-columns μ-columns Inv-places μ-places Inv-orders μ-orders
 places-holds c =
@@ -183,11 +175,14 @@ places-holds c =
       upto-first y t o (read-row y t o 0 (r .read .result) (r .read .ensures) n),
     )
 
+cast-places : tie.Need-cast-places Inv-columns μ-columns Inv-places μ-places Inv-orders μ-orders
+cast-places c = omega arith
+
 read-requires-2 : tie.Need-read-requires-2 Inv-columns μ-columns Inv-places μ-places Inv-orders μ-orders
 read-requires-2 c κs = (start (walked (c .before) .before .before) .pre .0, below c)
 
 columns-holds : tie.Need-columns-holds Inv-columns μ-columns Inv-places μ-places Inv-orders μ-orders
-columns-holds c = (omega arith, refl)
+columns-holds c = (omega arith, sym (from-end (last c) (next c) keyCount (omega (arith, next-length c))))
 
 key-at-requires : tie.Need-key-at-requires Inv-columns μ-columns Inv-places μ-places Inv-orders μ-orders
 key-at-requires c κs = c .columns .inv .0
@@ -195,43 +190,53 @@ key-at-requires c κs = c .columns .inv .0
 key-at-requires-2 : tie.Need-key-at-requires-2 Inv-columns μ-columns Inv-places μ-places Inv-orders μ-orders
 key-at-requires-2 c κs = c .before .columns .inv .0
 
-add-column : tie.Need-add-column Inv-columns μ-columns Inv-places μ-places Inv-orders μ-orders
-add-column c = omega arith
+before-from-requires : tie.Need-before-from-requires Inv-columns μ-columns Inv-places μ-places Inv-orders μ-orders
+before-from-requires c κs = tt
+
+-- what one more column says
+says : (c : tie.After-before-from Inv-columns μ-columns Inv-places μ-places Inv-orders μ-orders) →
+    let d = c .before .before .before in
+    let n = nexts d in
+    c .before-from .result ≡ lexBefore (drop (d .columns .column) (last n)) (drop (d .columns .column) (next n))
+says c =
+    let k₂ = c .before in
+    let k₁ = k₂ .before in
+    let d = k₁ .before in
+    c .before-from .ensures
+    ∙ from-column (nexts d) (d .columns .column) (k₁ .key-at .result) (k₂ .key-at2 .result) (d .columns .before) (d .columns .inv .0)
+    (k₁ .key-at .ensures) (k₂ .key-at2 .ensures) (d .columns .inv .1)
+
+-- at the first column it is said of the whole rows
+all-say : (c : tie.Then3 Inv-columns μ-columns Inv-places μ-places Inv-orders μ-orders) → let n = nexts (c .before .before .before .before) in
+    c .before .before-from .result ≡ lexBefore (last n) (next n)
+all-say c =
+    let n = nexts (c .before .before .before .before) in
+    says (c .before) ∙ ap (λ k. lexBefore (drop k (last n)) (drop k (next n))) (c .if3 .taken)
+
+sub-column : tie.Need-sub-column Inv-columns μ-columns Inv-places μ-places Inv-orders μ-orders
+sub-column c = omega (arith, c .if3 .left)
 
 columns-less : tie.Need-columns-less Inv-columns μ-columns Inv-places μ-places Inv-orders μ-orders
-columns-less c = omega arith
-
--- a column in which both rows are the same
-same-so-far : (c : tie.After-key-at2 Inv-columns μ-columns Inv-places μ-places Inv-orders μ-orders) → c .before .key-at .result ≡ c .key-at2 .result →
-    let d = c .before .before in
-    let n = nexts d in
-    lexBefore (last n) (next n) ≡ lexBefore (drop (d .columns .column + 1) (last n)) (drop (d .columns .column + 1) (next n))
-same-so-far c e =
-    let d = c .before .before in
-    d .columns .inv .1
-    ∙ first-same (nexts d) (d .columns .column) (d .columns .inv .0) (sym (c .before .key-at .ensures) ∙ e ∙ c .key-at2 .ensures)
+columns-less c = omega (arith, c .if3 .left)
 
 columns-again : tie.Need-columns-again Inv-columns μ-columns Inv-places μ-places Inv-orders μ-orders
-columns-again c = (omega arith, same-so-far (c .before .before) (c .if5 .left))
+columns-again c =
+    let k = c .before .before .before .before .columns .column in
+    let back : k - 1 + 1 ≡ k = omega (arith, c .if3 .left) in
+    (omega arith, rw back (says (c .before)))
 
 add-place : tie.Need-add-place Inv-columns μ-columns Inv-places μ-places Inv-orders μ-orders
 add-place c =
-    let n = nexts (c .before .before .before) in
+    let n = nexts (c .before .before .before .before .before) in
     omega (arith, below (reading n .before), start (walked (places n) .before .before) .pre .0 .few)
 
 places-less : tie.Need-places-less Inv-columns μ-columns Inv-places μ-places Inv-orders μ-orders
 places-less c = omega arith
 
--- a greater key, the last or one before it
 places-again : tie.Need-places-again Inv-columns μ-columns Inv-places μ-places Inv-orders μ-orders
 places-again c =
-    let b = c .before in
-    let d = b .before .before in
-    let n = nexts d in
-    let less : b .before .key-at .result < b .key-at2 .result =
-    ⊎-elim (λ x. omega (arith, x .1 .left)) (λ x. omega (arith, x .1 .taken, x .2 .left)) (c .if3 .came) in
-    let g = goes-on n (d .columns .inv .1 ∙ first-less n (d .columns .column) (d .columns .inv .0)
-    (omega (arith, b .before .key-at .ensures, b .key-at2 .ensures, less))) in
+    let n = nexts (c .before .before .before .before .before) in
+    let g = goes-on n (sym (all-say (c .before)) ∙ not-false _ (c .if4 .left)) in
     (omega arith, omega (arith, reading n .before .places-test .taken), g .0, g .1)
 
 add-turn : tie.Need-add-turn Inv-columns μ-columns Inv-places μ-places Inv-orders μ-orders
@@ -268,31 +273,10 @@ returns-3 c =
     stops (walked l) (unnamed-fault (alike l) (tables l) (order l) (l .places .place) (below (r .before))
     (read-none (alike l) (tables l) (order l) (l .places .place) (r .read2 .result) (r .read2 .ensures) (not-true _ (c .if2 .taken))))
 
--- the last key is not greater
-last-not : (n : tie.After-next Inv-columns μ-columns Inv-places μ-places Inv-orders μ-orders) (k : ℕ)
-    → k + 1 ≡ keyCount → getD (next n) k 0 ≤ getD (last n) k 0
-    → lexBefore (drop k (last n)) (drop k (next n)) ≡ false
-last-not n k e h =
-    elim (decLt (getD (next n) k 0) (getD (last n) k 0)) [
-      | yes m ↦ first-more n k (omega arith) m
-      | no m ↦ first-same n k (omega arith) (omega arith) ∙ from-end (last n) (next n) (k + 1) (omega (arith, next-length n))
-    ]
-
 returns-4 : tie.Need-returns-4 Inv-columns μ-columns Inv-places μ-places Inv-orders μ-orders
 returns-4 c =
-    let b = c .before .before in
-    let d = b .before .before in
-    let n = nexts d in
-    descends n (d .columns .inv .1 ∙ last-not n (d .columns .column) (omega (arith, c .before .if3 .taken))
-    (omega (arith, b .before .key-at .ensures, b .key-at2 .ensures, c .if4 .taken)))
-
-returns-5 : tie.Need-returns-5 Inv-columns μ-columns Inv-places μ-places Inv-orders μ-orders
-returns-5 c =
-    let b = c .before .before .before in
-    let d = b .before .before in
-    let n = nexts d in
-    descends n (d .columns .inv .1 ∙ first-more n (d .columns .column) (d .columns .inv .0)
-    (omega (arith, b .before .key-at .ensures, b .key-at2 .ensures, c .if6 .taken)))
+    let n = nexts (c .before .before .before .before .before) in
+    descends n (sym (all-say (c .before)) ∙ not-true _ (c .if4 .taken))
 
 pub walk-spec : {M : Type 1} → statement M
 walk-spec =
@@ -304,16 +288,17 @@ walk-spec =
     μ-places
     Inv-orders
     μ-orders
-    cast-count
     orders-holds
     order-at-requires
     read-requires
     places-holds
+    cast-places
     read-requires-2
     columns-holds
     key-at-requires
     key-at-requires-2
-    add-column
+    before-from-requires
+    sub-column
     columns-less
     columns-again
     add-place
@@ -325,5 +310,4 @@ walk-spec =
     returns
     returns-2
     returns-3
-    returns-4
-    returns-5)
+    returns-4)

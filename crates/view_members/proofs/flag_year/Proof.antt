@@ -1,14 +1,13 @@
 -- `flag_year` meets its contract. The invariant: the places before `place` are flagged, and the grant is walked up to `from`.
-use Prim.Native.Nat.{ℕ, _+_, _-_, _*_, _≤_, _<_}
+use Prim.Native.Nat.{ℕ, _+_, _-_, _≤_, _<_}
 use mathlib.Core.Path.{_≡_, refl, sym, ap, _∙_, subst}
 use mathlib.Core.List.{List}
 use native.Mathlib.Omega.{arith}
 use lib.ListN.{length, set, length-set}
 use Rattle.words.specs.Sequences.{member}
 use Rattle.tables.specs.declared.Order.the-variants.{Pos}
-use Rattle.tables.specs.Tables.{Tables, tablesOf, rowCount, rowAt, fieldOf, objectColumn, columnCount}
+use Rattle.tables.specs.Tables.{Tables, tablesOf, rowCount, rowAt, fieldOf, objectColumn}
 use Rattle.tables.specs.Ranges.{rangeStart, rangeEnd}
-use Rattle.tables.proofs.Ascending.{in-rows}
 use Rattle.tables.proofs.Ranges.{start-le-end, end-le-count}
 use Rattle.view_grants.specs.Places.{firstFrom}
 use Rattle.view_members.specs.Flags.{flagBy}
@@ -31,7 +30,7 @@ abbrev Loop : Type 0
 Loop = tie.At-loop Inv-loop μ-loop
 
 abbrev start : Loop → tie.Start Inv-loop μ-loop
-start l = l .before .before .before .before .before .before .before .before .before .before
+start l = l .before .before .before .before .before .before .before .before
 
 abbrev tables : tie.Start Inv-loop μ-loop → Tables
 tables s = tablesOf (s .args .rows .now) (s .args .pos .now) (s .args .osp .now)
@@ -58,9 +57,6 @@ inside c = omega (arith, c .before .loop .inv .3)
 there : (c : tie.In-loop Inv-loop μ-loop) → c .before .loop .place < rowCount (tables (start (c .before)))
 there c = omega (arith, inside c, most (c .before))
 
-in-there : (c : tie.In-loop Inv-loop μ-loop) → row (c .before) * columnCount + columnCount ≤ length (start (c .before) .args .rows .now)
-in-there c = let l = c .before in in-rows (tables (start l)) (start l .pre .0) Pos (l .loop .place) (there c)
-
 long : (l : Loop) → rowCount (tables (start l)) ≤ length (l .loop .flags)
 long l = omega (arith, start l .pre .1 .1 .long, l .loop .inv .0)
 
@@ -73,22 +69,14 @@ end-from-requires c κs =
     let e = start-le-end (tables s) (membersOf (s .args .year) (s .args .membership)) in
     (s .pre .0, (omega arith, omega (arith, c .halved .ensures)))
 
-wide-requires : tie.Need-wide-requires Inv-loop μ-loop
-wide-requires c κs = tt
-
-wide-requires-2 : tie.Need-wide-requires-2 Inv-loop μ-loop
-wide-requires-2 c κs = tt
-
 loop-holds : tie.Need-loop-holds Inv-loop μ-loop
 loop-holds c =
-    let w = c .before in
-    let f = w .before in
-    let h = f .before in
+    let h = c .before in
     let s = h .before .before .before .before .before .before in
     let m = membersOf (s .args .year) (s .args .membership) in
     let b = start-le-end (tables s) m in
-    let e : c .wide2 .result ≡ rangeStart (tables s) m = c .wide2 .ensures ∙ h .halved .ensures in
-    let g : w .wide .result ≡ rangeEnd (tables s) m = w .wide .ensures ∙ f .end-from .ensures in (
+    let e : h .halved .result .0 ≡ rangeStart (tables s) m = h .halved .ensures in
+    let g : c .end-from .result .0 ≡ rangeEnd (tables s) m = c .end-from .ensures in (
       refl,
       omega arith,
       omega arith,
@@ -97,14 +85,18 @@ loop-holds c =
           (upto-start (tables s) (s .pre .0) (s .args .grant .now) (s .args .year) (s .args .membership) (s .args .flags .now) (s .pre .1 .1)),
     )
 
-mul-row : tie.Need-mul-row Inv-loop μ-loop
-mul-row c = omega arith
-
-shared-slice-read-row : tie.Need-shared-slice-read-row Inv-loop μ-loop
-shared-slice-read-row c = omega (arith, there (c .before), start (c .before .before) .pre .0 .sized .pos-length)
+row-at-requires : tie.Need-row-at-requires Inv-loop μ-loop
+row-at-requires c κs = (start (c .before) .pre .0, there c)
 
 field-requires : tie.Need-field-requires Inv-loop μ-loop
-field-requires c κs = (in-there (c .before), omega arith)
+field-requires c κs = (c .row-at .ensures .1, omega arith)
+
+-- the object that is read
+object-is : (c : tie.After-field Inv-loop μ-loop) → let l = c .before .before .before in
+    c .field .result ≡ fieldOf (start l .args .rows .now) (row l) objectColumn
+object-is c =
+    let l = c .before .before .before in
+    c .field .ensures ∙ ap (λ r. fieldOf (start l .args .rows .now) r objectColumn) (c .before .row-at .ensures .0)
 
 seek-requires : tie.Need-seek-requires Inv-loop μ-loop
 seek-requires c κs =
@@ -112,7 +104,7 @@ seek-requires c κs =
     let l = i .before in
     let s = start l in (
       s .pre .1 .0,
-      subst (λ w. l .loop .from ≤ firstFrom (grant l) w) (sym (c .field .ensures))
+      subst (λ w. l .loop .from ≤ firstFrom (grant l) w) (sym (object-is c))
           (sought-behind (tables s) (s .pre .0) (grant l) (year l) (membership l) (l .loop .flags) (l .loop .place) (l .loop .from) (l .loop .inv .4)
           (l .loop .inv .1) (inside i) (there i)),
     )
@@ -120,14 +112,18 @@ seek-requires c κs =
 flag-by-requires : tie.Need-flag-by-requires Inv-loop μ-loop
 flag-by-requires c κs = tt
 
-wide-requires-3 : tie.Need-wide-requires-3 Inv-loop μ-loop
-wide-requires-3 c κs = tt
+wide-requires : tie.Need-wide-requires Inv-loop μ-loop
+wide-requires c κs = tt
+
+-- where the flag is written
+written : (c : tie.After-wide Inv-loop μ-loop) → c .wide .result ≡ row (c .before .before .before .before .before .before)
+written c = c .wide .ensures ∙ c .before .before .before .before .row-at .ensures .0
 
 slice-write-flags : tie.Need-slice-write-flags Inv-loop μ-loop
 slice-write-flags c =
     let i = c .before .before .before .before .before in
     let l = i .before in
-    omega (arith, c .wide3 .ensures, start l .pre .0 .named Pos (l .loop .place) (there i), long l)
+    omega (arith, written c, start l .pre .0 .named Pos (l .loop .place) (there i), long l)
 
 add-place : tie.Need-add-place Inv-loop μ-loop
 add-place c = omega arith
@@ -146,14 +142,14 @@ loop-again c =
     let next = k .seek .result .at in
     let flag = b .flag-by .result in
     let n : next ≡ firstFrom (grant l) (fieldOf (s .args .rows .now) (row l) objectColumn) =
-    k .seek .ensures .0 ∙ ap (firstFrom (grant l)) (f .field .ensures) in
+    k .seek .ensures .0 ∙ ap (firstFrom (grant l)) (object-is f) in
     let g : flag ≡ flagBy (member (fieldOf (s .args .rows .now) (row l) objectColumn) (grant l)) =
-    b .flag-by .ensures ∙ ap flagBy (k .seek .ensures .1 ∙ ap (λ w. member w (grant l)) (f .field .ensures)) in (
+    b .flag-by .ensures ∙ ap flagBy (k .seek .ensures .1 ∙ ap (λ w. member w (grant l)) (object-is f)) in (
       (simp length-set) ∙ l .loop .inv .0,
       omega (arith, l .loop .inv .1),
       omega arith,
       l .loop .inv .3,
-      subst (λ r. Upto (tables s) (grant l) (year l) (membership l) (set (l .loop .flags) r flag) (l .loop .place + 1) next) (sym (c .wide3 .ensures))
+      subst (λ r. Upto (tables s) (grant l) (year l) (membership l) (set (l .loop .flags) r flag) (l .loop .place + 1) next) (sym (written c))
           (upto-next (tables s) (s .pre .0) (grant l) (year l) (membership l) (l .loop .flags) (l .loop .place) (l .loop .from) (l .loop .inv .4)
           (l .loop .inv .1) (inside i) (there i) (most l) next flag n g
           (omega (arith, s .pre .0 .named Pos (l .loop .place) (there i), long l))),
@@ -178,15 +174,12 @@ flag-year-spec =
     μ-loop
     halved-requires
     end-from-requires
-    wide-requires
-    wide-requires-2
     loop-holds
-    mul-row
-    shared-slice-read-row
+    row-at-requires
     field-requires
     seek-requires
     flag-by-requires
-    wide-requires-3
+    wide-requires
     slice-write-flags
     add-place
     loop-less
