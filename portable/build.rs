@@ -29,9 +29,8 @@ const TOOLCHAIN: [&str; 3] = ["io", "os", "libc"];
 /// The library's name, for paths from the program.
 const LIBRARY: &str = "sotjarn_portable";
 
-/// The crates whose functions are put where they are called: what a step goes through, and the loops of the check, of merges and
-/// of views.
-const PUT_IN: [&str; 22] = [
+/// The crates whose functions are put where they are called: what a step goes through, and the loops of merges and of views.
+const PUT_IN: [&str; 20] = [
     "list_group_merges",
     "list_group_totals",
     "list_longs",
@@ -44,9 +43,7 @@ const PUT_IN: [&str; 22] = [
     "step_next",
     "step_rows",
     "step_shifts",
-    "table_readings",
     "table_sides",
-    "table_walks",
     "turn_attempts",
     "turn_runs",
     "turn_savings",
@@ -56,15 +53,18 @@ const PUT_IN: [&str; 22] = [
     "view_writes",
 ];
 /// Those whose functions may be, also in a program that compiles the library in several units and does not optimise it as a whole. The
-/// searches of table_starts and table_ends stay calls: put where they are called before those are optimised, they are slower.
-const MAY_BE_PUT_IN: [&str; 9] = [
+/// searches of table_starts and table_ends stay calls: put where they are called before those are optimised, they are slower. The
+/// walk of the check is here and not above for the same reason.
+const MAY_BE_PUT_IN: [&str; 11] = [
     "list_endings",
     "list_group_tests",
     "list_groups",
     "plan_parts",
     "plans",
     "step_levels",
+    "table_readings",
     "table_row_orders",
+    "table_walks",
     "tables",
     "words",
 ];

@@ -44,12 +44,12 @@ fn pos_keys(rows: &[u32], row: RowNumber, alike: bool) -> [u64; KEYS]
     [front, back]
 }
 
-// And in OSP: the year, then the object and the row's number.
+// And in OSP: the year, as a long word that is never the greatest, then the object and the row's number.
 fn osp_keys(rows: &[u32], row: RowNumber, alike: bool) -> [u64; KEYS]
     requires { ⌜ row .0 * columnCount + columnCount ≤ length (now rows) ⌝ }
     ensures { λ r. ⌜ r ≡ keysOf alike Osp (now (rows .entry)) (row .0) ⌝ }
 {
-    let front = long(year_read(rows, row, alike), 0);
+    let front = long(0, year_read(rows, row, alike));
     let back = long(field(rows, row, OBJECT), row.0);
     [front, back]
 }

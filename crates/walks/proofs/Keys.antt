@@ -185,7 +185,7 @@ module _ (t : Tables) (up : ascends Spo t ≡ true) where
         go (same k) = lex-same [] [] k ∙ sym (lex-same (P a ∷ []) (P b ∷ []) (ap S k) ∙ lex-same [] [] (ap P k))
         go (more k) = lex-more [] [] k ∙ sym (lex-asym (S b ∷ P b ∷ []) (S a ∷ P a ∷ []) (pair-up b a k ha (sym y) (sym o)))
 
-    -- the four words of which the keys are made, in POS and in OSP, say what the fields say
+    -- the words of which the keys are made, in POS and in OSP, say what the fields say
     pos-words : lexBefore (Y a ∷ P a ∷ O a ∷ a ∷ []) (Y b ∷ P b ∷ O b ∷ b ∷ [])
         ≡ lexBefore (fieldsOf Pos (t .rows) a) (fieldsOf Pos (t .rows) b)
     unfolding fieldsOf
@@ -194,18 +194,21 @@ module _ (t : Tables) (up : ascends Spo t ≡ true) where
         (λ y. behind (P a) (P b) _ _ _ _
         (λ p. behind (O a) (O b) _ _ _ _ (λ o. by-subject y p o)))
 
-    osp-words : lexBefore (Y a ∷ 0 ∷ O a ∷ a ∷ []) (Y b ∷ 0 ∷ O b ∷ b ∷ [])
-        ≡ lexBefore (fieldsOf Osp (t .rows) a) (fieldsOf Osp (t .rows) b)
+    osp-words : lexBefore (Y a ∷ O a ∷ a ∷ []) (Y b ∷ O b ∷ b ∷ []) ≡ lexBefore (fieldsOf Osp (t .rows) a) (fieldsOf Osp (t .rows) b)
     unfolding fieldsOf
     osp-words =
         behind (Y a) (Y b) _ _ _ _
-        (λ y. lex-same {x = 0} {y = 0} (O a ∷ a ∷ []) (O b ∷ b ∷ []) refl ∙ behind (O a) (O b) _ _ _ _ (λ o. by-pair y o))
+        (λ y. behind (O a) (O b) _ _ _ _ (λ o. by-pair y o))
 
     -- where all years are alike, words behind nothing are compared as behind the years
     year-says : (alike : Bool) → (alike ≡ true → OneYear (t .rows)) → (xs ys : List ℕ)
         → lexBefore (yearRead alike (t .rows) a ∷ xs) (yearRead alike (t .rows) b ∷ ys) ≡ lexBefore (Y a ∷ xs) (Y b ∷ ys)
     year-says true f xs ys = lex-same {x = 0} {y = 0} xs ys refl ∙ sym (lex-same xs ys (f refl a b ha hb))
     year-says false f xs ys = refl
+
+    year-fits : (alike : Bool) (row : ℕ) → yearRead alike (t .rows) row < 4294967296
+    year-fits true row = omega arith
+    year-fits false row = w _
 
     pub keys-say : (alike : Bool) → (alike ≡ true → OneYear (t .rows)) → (o : Order)
         → lexBefore (keysOf alike o (t .rows) a) (keysOf alike o (t .rows) b) ≡ lexBefore (fieldsOf o (t .rows) a) (fieldsOf o (t .rows) b)
@@ -216,6 +219,8 @@ module _ (t : Tables) (up : ascends Spo t ≡ true) where
         ∙ year-says alike f (P a ∷ O a ∷ a ∷ []) (P b ∷ O b ∷ b ∷ [])
         ∙ pos-words
     keys-say alike f Osp =
-        longs-say (yearRead alike (t .rows) a) 0 (O a) a (yearRead alike (t .rows) b) 0 (O b) b (omega arith) (omega arith) (omega arith) (omega arith)
-        ∙ year-says alike f (0 ∷ O a ∷ a ∷ []) (0 ∷ O b ∷ b ∷ [])
+        longs-say 0 (yearRead alike (t .rows) a) (O a) a 0 (yearRead alike (t .rows) b) (O b) b (year-fits alike a) (omega arith) (year-fits alike b)
+        (omega arith)
+        ∙ lex-same {x = 0} {y = 0} (yearRead alike (t .rows) a ∷ O a ∷ a ∷ []) (yearRead alike (t .rows) b ∷ O b ∷ b ∷ []) refl
+        ∙ year-says alike f (O a ∷ a ∷ []) (O b ∷ b ∷ [])
         ∙ osp-words

@@ -45,7 +45,7 @@ keysOf alike Spo rows row =
     ∷ longOf (fieldOf rows row predicateColumn) (fieldOf rows row objectColumn)
     ∷ []
 keysOf alike Pos rows row = longOf (yearRead alike rows row) (fieldOf rows row predicateColumn) ∷ longOf (fieldOf rows row objectColumn) row ∷ []
-keysOf alike Osp rows row = longOf (yearRead alike rows row) 0 ∷ longOf (fieldOf rows row objectColumn) row ∷ []
+keysOf alike Osp rows row = longOf 0 (yearRead alike rows row) ∷ longOf (fieldOf rows row objectColumn) row ∷ []
 
 abbrev pub keysAt : Bool → Order → Tables → ℕ → List ℕ
 keysAt alike o t place = keysOf alike o (t .rows) (rowAt o t place)

@@ -25,7 +25,7 @@ returns c =
     let n = f .before in
     let y = n .before in
     ap₂ (λ a b. a ∷ b ∷ [])
-    (n .long .ensures ∙ ap (λ a. longOf a 0) (y .year-read .ensures))
+    (n .long .ensures ∙ ap (longOf 0) (y .year-read .ensures))
     (c .long2 .ensures ∙ ap (λ a. longOf a (y .before .before .args .row .0)) (f .field .ensures))
 
 pub osp-keys-spec : {M : Type 1} → statement M
