@@ -1,0 +1,42 @@
+// Whether an IRI in <> may have some bytes.
+ghost use mathlib.Core.Path.{_≡_};
+ghost use Rattle.words.specs.Sequences.{all};
+ghost use Rattle.dictionaries.specs.Checking.{iriCharacter, isIri};
+
+// Whether it may have a byte.
+fn iri_byte(b: u8) -> bool
+    ensures { λ r. ⌜ r ≡ iriCharacter b ⌝ }
+{
+    if b <= 0x20 {
+        return false;
+    }
+    match b {
+        0x22 => false,
+        0x3C => false,
+        0x3E => false,
+        0x5C => false,
+        0x5E => false,
+        0x60 => false,
+        0x7B => false,
+        0x7C => false,
+        0x7D => false,
+        _ => true,
+    }
+}
+
+// Whether there is a byte, and it may have each.
+pub fn iri_right(s: &[u8]) -> bool
+    ensures { λ r. ⌜ r ≡ isIri (now (s .entry)) ⌝ }
+{
+    if s.len() == 0 {
+        return false;
+    }
+    let mut i: usize = 0;
+    while i < s.len() {
+        if !iri_byte(s[i]) {
+            return false;
+        }
+        i += 1;
+    }
+    true
+}
