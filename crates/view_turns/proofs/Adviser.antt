@@ -17,7 +17,7 @@ use Rattle.views.specs.Hidden.{DifferHidden, lending}
 use Rattle.views.proofs.SameCalls.{same-calls}
 use Rattle.view_turns.specs.Adviser.{turnOver, SameQueries, SameToAdviser}
 
-same-queries : (v w : Tables) → v ≡ w → SameQueries v w
+pub same-queries : (v w : Tables) → v ≡ w → SameQueries v w
 same-queries v w e =
     record {
       opens = λ number plan state. ap (λ t. openOf (underNumber number t) plan state) e;

@@ -1,0 +1,3 @@
+pub mod HiddenNames
+pub mod Places
+pub mod EncodedViews

@@ -1,0 +1,2 @@
+pub mod VisibleStrings
+pub mod EncodedViews
