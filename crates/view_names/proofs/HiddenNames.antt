@@ -34,19 +34,19 @@ or-first : (a b : Bool) → a ≡ true → a || b ≡ true
 or-first a b e = rw e refl
 
 -- each row of a list is one that a test may pass at
-each-some : (rows : List StringRow) → Each (λ a. (f : StringRow → Bool) → f a ≡ true → someRow f rows ≡ true) rows
+pub each-some : (rows : List StringRow) → Each (λ a. (f : StringRow → Bool) → f a ≡ true → someRow f rows ≡ true) rows
 unfolding someRow
 each-some [] = tt
 each-some (r ∷ rows) =
     (λ f e. or-first (f r) (someRow f rows) e, each-weaken (λ a k f e. or-later (f r) (someRow f rows) (k f e)) rows (each-some rows))
 
-some-elim : {R : Type 0} (f : StringRow → Bool) (rows : List StringRow) → someRow f rows ≡ true → Each (λ a. f a ≡ true → R) rows → R
+pub some-elim : {R : Type 0} (f : StringRow → Bool) (rows : List StringRow) → someRow f rows ≡ true → Each (λ a. f a ≡ true → R) rows → R
 unfolding someRow
 some-elim f [] e k = absurd-true e refl
 some-elim f (r ∷ rows) e k = elim (decided (f r)) [ yes h ↦ k .0 h | no h ↦ some-elim f rows (rw h at e) (k .1) ]
 
 -- the same rows
-row-equal : (r q : StringRow) → sameStringRow r q ≡ true → r ≡ q
+pub row-equal : (r q : StringRow) → sameStringRow r q ≡ true → r ≡ q
 row-equal r q e =
     let c = sameTerm (r .object) (q .object) in
     let b = sameString (r .predicate) (q .predicate) && c in
