@@ -64,7 +64,7 @@ bits-read (pos n) h =
     ∙ rw (le-ltb n 0 (omega arith)) (ap pos (let e : n - 0 ≡ n = omega arith in e))
 bits-read (negsuc n) h =
     let l = ltb-true n 0x2000_0000 h in
-    let b = 0x3FFF_FFFF - n in
+    let b = bitsOf30 (negsuc n) in
     sub-same (b % 0x2000_0000) (0x2000_0000 * (b / 0x2000_0000)) 0 (suc n) (omega arith)
     ∙ rw (lt-ltb 0 (suc n) (omega arith)) (ap negsuc (let e : suc n - 1 ≡ n = omega arith in e))
 
@@ -78,6 +78,24 @@ decoded-at bytes ends s r n e =
     let w = f .within in
     let few = leb-true (length ends) mostStrings (r .few) in
     (omega arith, map-at codePoints ss [] (noString n) n w ∙ ap codePoints (f .is))
+
+-- the first word and the others
+pub record Split (d : Dictionaries) (x : StringTerm) (xs : List StringTerm) (ws : List ℕ) : Type 0 where
+  pub word : ℕ
+  pub rest : List ℕ
+  pub whole : ws ≡ word ∷ rest
+  pub first : wordOf d x ≡ some word
+  pub others : wordsOf d xs ≡ some rest
+
+pub split : (d : Dictionaries) (x : StringTerm) (xs : List StringTerm) (ws : List ℕ) → wordsOf d (x ∷ xs) ≡ some ws → Split d x xs ws
+unfolding wordsOf
+split d x xs ws e = go (wordOf d x) refl (wordsOf d xs) refl e
+  where
+    go : (a : Option ℕ) → wordOf d x ≡ a → (b : Option (List ℕ)) → wordsOf d xs ≡ b → next a (λ w. next b (λ vs. some (w ∷ vs))) ≡ some ws
+        → Split d x xs ws
+    go none p b q f = absurd (let z : _≡_ {A = ℕ} 0 1 = cc in omega arith)
+    go (some w) p none q f = absurd (let z : _≡_ {A = ℕ} 0 1 = cc in omega arith)
+    go (some w) p (some vs) q f = record { word = w; rest = vs; whole = (let g : ws ≡ w ∷ vs = cc in g); first = p; others = q }
 
 module _ (d : Dictionaries) (r : RightDictionaries d) where
   name-back : (s : List ℕ) (l : Lookup) → lookupIn (stringsOf (d .nameBytes) (d .nameEnds)) s ≡ l → (w : ℕ) → foundWord words.name l ≡ some w
@@ -112,16 +130,9 @@ module _ (d : Dictionaries) (r : RightDictionaries d) where
   pub encoded : (xs : List StringTerm) (ws : List ℕ) → wordsOf d xs ≡ some ws → map (termDecoded (decoding d)) ws ≡ map inCodePoints xs
   unfolding wordsOf
   encoded [] ws e = let f : ws ≡ [] = cc in ap (map (termDecoded (decoding d))) f
-  encoded (x ∷ xs) ws e = go (wordOf d x) refl (wordsOf d xs) (encoded xs) e
-    where
-      go : (a : Option ℕ) → wordOf d x ≡ a → (b : Option (List ℕ))
-          → ((vs : List ℕ) → b ≡ some vs → map (termDecoded (decoding d)) vs ≡ map inCodePoints xs)
-          → next a (λ w. next b (λ vs. some (w ∷ vs))) ≡ some ws → map (termDecoded (decoding d)) ws ≡ map inCodePoints (x ∷ xs)
-      go none p b q f = absurd (let z : _≡_ {A = ℕ} 0 1 = cc in omega arith)
-      go (some w) p none q f = absurd (let z : _≡_ {A = ℕ} 0 1 = cc in omega arith)
-      go (some w) p (some vs) q f =
-          let g : ws ≡ w ∷ vs = cc in
-          ap (map (termDecoded (decoding d))) g ∙ ap₂ _∷_ (term-encoded x w p) (q vs refl)
+  encoded (x ∷ xs) ws e =
+      let a = split d x xs ws e in
+      ap (map (termDecoded (decoding d))) (a .whole) ∙ ap₂ _∷_ (term-encoded x (a .word) (a .first)) (encoded xs (a .rest) (a .others))
 
 abbrev isNumberTerm : StringTerm → Bool
 isNumberTerm (iri s) = false

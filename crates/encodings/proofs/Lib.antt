@@ -1,2 +1,5 @@
 pub mod Encoded
 pub mod Gathered
+pub mod Graphs
+pub mod SameWords
+pub mod RowWords

@@ -1,3 +1,4 @@
 pub mod Encodings
 pub mod Gathered
 pub mod StringRows
+pub mod StringGraphs

@@ -11,6 +11,7 @@ use Rattle.words.specs.Sequences.{all, keep}
 use Rattle.words.proofs.Booleans.{absurd-true, and-left, and-right, Decided, yes, no, decided}
 use Rattle.words.proofs.Each.{Each, all-each}
 use Rattle.words.proofs.EachMore.{each-weaken, each-both, each-always}
+use Rattle.words.proofs.Elements.{same-test}
 use Rattle.words.proofs.Keeping.{keep-agree}
 use Rattle.tables.specs.Tables.{Tables}
 use Rattle.uploads.specs.Uploads.{madeTables}
@@ -33,19 +34,19 @@ or-first : (a b : Bool) → a ≡ true → a || b ≡ true
 or-first a b e = rw e refl
 
 -- each row of a list is one that a test may pass at
-each-some : (rows : List StringRow) → Each (λ a. (f : StringRow → Bool) → f a ≡ true → someRow f rows ≡ true) rows
+pub each-some : (rows : List StringRow) → Each (λ a. (f : StringRow → Bool) → f a ≡ true → someRow f rows ≡ true) rows
 unfolding someRow
 each-some [] = tt
 each-some (r ∷ rows) =
     (λ f e. or-first (f r) (someRow f rows) e, each-weaken (λ a k f e. or-later (f r) (someRow f rows) (k f e)) rows (each-some rows))
 
-some-elim : {R : Type 0} (f : StringRow → Bool) (rows : List StringRow) → someRow f rows ≡ true → Each (λ a. f a ≡ true → R) rows → R
+pub some-elim : {R : Type 0} (f : StringRow → Bool) (rows : List StringRow) → someRow f rows ≡ true → Each (λ a. f a ≡ true → R) rows → R
 unfolding someRow
 some-elim f [] e k = absurd-true e refl
 some-elim f (r ∷ rows) e k = elim (decided (f r)) [ yes h ↦ k .0 h | no h ↦ some-elim f rows (rw h at e) (k .1) ]
 
 -- the same rows
-row-equal : (r q : StringRow) → sameStringRow r q ≡ true → r ≡ q
+pub row-equal : (r q : StringRow) → sameStringRow r q ≡ true → r ≡ q
 row-equal r q e =
     let c = sameTerm (r .object) (q .object) in
     let b = sameString (r .predicate) (q .predicate) && c in
@@ -101,7 +102,8 @@ module _ (grant : List (List ℕ)) (membership : List ℕ) where
             let v = or-later (among grant (a .subject)) (someRow (admitsRow grant membership a) rows)
             (found (admitsRow grant membership a) (admits-itself r a h)) in
             some-elim (sameStringRow a) others (stay v)
-            (each-weaken (λ b k s. k (admitsRow grant membership r) (ap (admitsRow grant membership r) (sym (row-equal a b s)) ∙ h)) others (each-some others))
+            (each-weaken (λ b k s. k (admitsRow grant membership r) (ap (admitsRow grant membership r) (sym (row-equal a b s)) ∙ h)) others
+            (each-some others))
 
     still-visible : (r : StringRow) → isVisible grant membership rows r ≡ true → isVisible grant membership others r ≡ true
     still-visible r v = go (decided (among grant (r .subject)))
@@ -112,14 +114,9 @@ module _ (grant : List (List ℕ)) (membership : List ℕ) where
             or-later (among grant (r .subject)) (someRow (admitsRow grant membership r) others) (admitted r (rw e at v))
 
   module _ (rows others : List StringRow) (d : RowsDiffer grant membership rows others) where
-    same-truth : (a b : Bool) → (a ≡ true → b ≡ true) → (b ≡ true → a ≡ true) → a ≡ b
-    same-truth true b f g = sym (f refl)
-    same-truth false true f g = g refl
-    same-truth false false f g = refl
-
     both-visible : (r : StringRow) → isVisible grant membership rows r ≡ isVisible grant membership others r
     both-visible r =
-        same-truth (isVisible grant membership rows r) (isVisible grant membership others r) (still-visible rows others (d .first) r)
+        same-test (isVisible grant membership rows r) (isVisible grant membership others r) (still-visible rows others (d .first) r)
         (still-visible others rows (d .second) r)
 
     same-visible : visibleRows grant membership rows ≡ visibleRows grant membership others

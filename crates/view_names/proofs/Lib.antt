@@ -1,1 +1,4 @@
 pub mod HiddenNames
+pub mod Places
+pub mod EncodedViews
+pub mod Sorted

@@ -1,1 +1,2 @@
 pub mod VisibleStrings
+pub mod EncodedViews
