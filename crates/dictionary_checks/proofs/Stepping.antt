@@ -14,16 +14,13 @@ use Rattle.dictionary_checks.specs.declared.Rest.{Rest}
 use Rattle.dictionary_checks.specs.declared.Rest.the-variants.{Nothing, One, Two, Three, AfterE0, AfterEd, AfterF0, AfterF4}
 use Rattle.dictionary_checks.specs.declared.ByteStep.{ByteStep}
 use Rattle.dictionary_checks.specs.declared.ByteStep.the-variants.{More, Wrong}
-use Rattle.dictionary_checks.specs.Steps.{spansIn, firstStep, laterStep, nextStep, nothingLeft, formedAfter}
-
-abbrev byOption : List ℕ → Option (List Span) → Bool
-byOption bs o = elim o [ none ↦ false | some ss ↦ formedFrom bs ss ]
+use Rattle.dictionary_checks.specs.Steps.{spansIn, firstStep, spansAfter, laterStep, nextStep, nothingLeft, formedAfter}
 
 -- one row of the table
-row : (s : Span) (ss : List Span) (r : Rest) (b : ℕ) (bs : List ℕ) (rs : List Utf8Row) (step : ByteStep) → ss ≡ spansIn r
-    → byOption bs (afterIn rs b) ≡ formedAfter bs step
-    → byOption bs (afterIn (utf8Row s ss ∷ rs) b) ≡ formedAfter bs (cond (isIn s b) (More r) step)
-row s ss r b bs rs step e h = elim (decided (isIn s b)) [ yes k ↦ rw k (ap (formedFrom bs) e) | no k ↦ rw k h ]
+row : (s : Span) (ss : List Span) (r : Rest) (b : ℕ) (rs : List Utf8Row) (step : ByteStep) → ss ≡ spansIn r
+    → afterIn rs b ≡ spansAfter step
+    → afterIn (utf8Row s ss ∷ rs) b ≡ spansAfter (cond (isIn s b) (More r) step)
+row s ss r b rs step e h = elim (decided (isIn s b)) [ yes k ↦ rw k (ap some e) | no k ↦ rw k h ]
 
 -- the rows of the table from each on, and what they make of a byte
 abbrev rows9 : List Utf8Row
@@ -86,19 +83,30 @@ rows0 = utf8Row (span 0x00 0x7F) [] ∷ rows1
 abbrev step0 : ℕ → ByteStep
 step0 b = cond (isIn (span 0x00 0x7F) b) (More Nothing) (step1 b)
 
-first-formed : (b : ℕ) (bs : List ℕ) → byOption bs (afterFirst b) ≡ formedAfter bs (firstStep b)
+-- the table's spans behind a first byte are those of the step
+pub first-spans : (b : ℕ) → afterFirst b ≡ spansAfter (firstStep b)
 unfolding afterFirst firstStep
-first-formed b bs =
-    (row (span 0x00 0x7F) [] Nothing b bs rows1 (step1 b) refl
-    (row (span 0xC2 0xDF) (trailing ∷ []) One b bs rows2 (step2 b) refl
-    (row (span 0xE0 0xE0) (span 0xA0 0xBF ∷ trailing ∷ []) AfterE0 b bs rows3 (step3 b) refl
-    (row (span 0xE1 0xEC) (trailing ∷ trailing ∷ []) Two b bs rows4 (step4 b) refl
-    (row (span 0xED 0xED) (span 0x80 0x9F ∷ trailing ∷ []) AfterEd b bs rows5 (step5 b) refl
-    (row (span 0xEE 0xEF) (trailing ∷ trailing ∷ []) Two b bs rows6 (step6 b) refl
-    (row (span 0xF0 0xF0) (span 0x90 0xBF ∷ trailing ∷ trailing ∷ []) AfterF0 b bs rows7 (step7 b) refl
-    (row (span 0xF1 0xF3) (trailing ∷ trailing ∷ trailing ∷ []) Three b bs rows8 (step8 b) refl
-    (row (span 0xF4 0xF4) (span 0x80 0x8F ∷ trailing ∷ trailing ∷ []) AfterF4 b bs rows9 (step9 b) refl
+first-spans b =
+    (row (span 0x00 0x7F) [] Nothing b rows1 (step1 b) refl
+    (row (span 0xC2 0xDF) (trailing ∷ []) One b rows2 (step2 b) refl
+    (row (span 0xE0 0xE0) (span 0xA0 0xBF ∷ trailing ∷ []) AfterE0 b rows3 (step3 b) refl
+    (row (span 0xE1 0xEC) (trailing ∷ trailing ∷ []) Two b rows4 (step4 b) refl
+    (row (span 0xED 0xED) (span 0x80 0x9F ∷ trailing ∷ []) AfterEd b rows5 (step5 b) refl
+    (row (span 0xEE 0xEF) (trailing ∷ trailing ∷ []) Two b rows6 (step6 b) refl
+    (row (span 0xF0 0xF0) (span 0x90 0xBF ∷ trailing ∷ trailing ∷ []) AfterF0 b rows7 (step7 b) refl
+    (row (span 0xF1 0xF3) (trailing ∷ trailing ∷ trailing ∷ []) Three b rows8 (step8 b) refl
+    (row (span 0xF4 0xF4) (span 0x80 0x8F ∷ trailing ∷ trailing ∷ []) AfterF4 b rows9 (step9 b) refl
     refl)))))))))
+
+abbrev byOption : List ℕ → Option (List Span) → Bool
+byOption bs o = elim o [ none ↦ false | some ss ↦ formedFrom bs ss ]
+
+spans-formed : (bs : List ℕ) (step : ByteStep) → byOption bs (spansAfter step) ≡ formedAfter bs step
+spans-formed bs (More r) = refl
+spans-formed bs Wrong = refl
+
+first-formed : (b : ℕ) (bs : List ℕ) → byOption bs (afterFirst b) ≡ formedAfter bs (firstStep b)
+first-formed b bs = ap (byOption bs) (first-spans b) ∙ spans-formed bs (firstStep b)
 
 later-formed : (s : Span) (r : Rest) (b : ℕ) (bs : List ℕ) → (isIn s b && formedFrom bs (spansIn r)) ≡ formedAfter bs (laterStep s r b)
 later-formed s r b bs = elim (decided (isIn s b)) [ yes k ↦ rw k refl | no k ↦ rw k refl ]

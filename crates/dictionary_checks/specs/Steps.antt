@@ -1,6 +1,7 @@
 -- Table 3-7 read byte by byte: what is still to come of a character, and what a byte makes of it. Assumes nothing: these are definitions.
 use Prim.Native.Nat.{ℕ}
 use mathlib.Core.Bool.{Bool, true, false, cond}
+use mathlib.Core.Option.{Option, none, some}
 use mathlib.Core.List.{List, [], _∷_}
 use Rattle.dictionaries.specs.Utf8.{Span, span, isIn, trailing, formedFrom}
 use Rattle.dictionary_checks.specs.declared.Rest.{Rest}
@@ -29,6 +30,11 @@ firstStep b =
     (cond (isIn (span 0xF0 0xF0) b) (More AfterF0)
     (cond (isIn (span 0xF1 0xF3) b) (More Three)
     (cond (isIn (span 0xF4 0xF4) b) (More AfterF4) Wrong))))))))
+
+-- the spans of the bytes that are still to come after a step
+abbrev pub spansAfter : ByteStep → Option (List Span)
+spansAfter (More r) = some (spansIn r)
+spansAfter Wrong = none
 
 abbrev pub laterStep : Span → Rest → ℕ → ByteStep
 laterStep s r b = cond (isIn s b) (More r) Wrong

@@ -21,7 +21,7 @@ pub enum ByteStep {
     Wrong,
 }
 
-fn is_in(b: u8, least: u8, greatest: u8) -> bool
+pub fn is_in(b: u8, least: u8, greatest: u8) -> bool
     ensures { λ r. ⌜ r ≡ isIn (span least greatest) b ⌝ }
 {
     if b < least {
@@ -72,7 +72,7 @@ fn later(b: u8, least: u8, greatest: u8, rest: Rest) -> ByteStep
     ByteStep::Wrong
 }
 
-fn next(rest: Rest, b: u8) -> ByteStep
+pub fn next(rest: Rest, b: u8) -> ByteStep
     ensures { λ r. ⌜ r ≡ nextStep rest b ⌝ }
 {
     match rest {
@@ -87,7 +87,7 @@ fn next(rest: Rest, b: u8) -> ByteStep
     }
 }
 
-fn nothing_left(rest: Rest) -> bool
+pub fn nothing_left(rest: Rest) -> bool
     ensures { λ r. ⌜ r ≡ nothingLeft rest ⌝ }
 {
     match rest {
