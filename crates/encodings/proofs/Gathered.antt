@@ -15,7 +15,7 @@ use Rattle.words.proofs.Each.{Each, all-each, each-all}
 use Rattle.words.proofs.Ascending.{Ahead, Ascending, ascending-neighbours}
 use Rattle.dictionaries.specs.Strings.{stringBefore, sameString}
 use Rattle.dictionaries.specs.Utf8.{wellFormed}
-use Rattle.dictionaries.specs.Dictionaries.{part, stringsFrom, stringsOf, endsRight, RightDictionary, mostStrings, rank, among}
+use Rattle.dictionaries.specs.Dictionaries.{byteRange, stringsFrom, stringsOf, endsRight, RightDictionary, mostStrings, stringRank, isAmong}
 use Rattle.dictionaries.specs.Lookups.{lookupIn}
 use Rattle.dictionaries.proofs.Strings.{before-trans, before-equal, same-self, same-equal}
 use Rattle.sparql.specs.Terms.{iri, integer, text}
@@ -72,23 +72,23 @@ or-twice : (a b : Bool) → a || (a || b) ≡ a || b
 or-twice true b = refl
 or-twice false b = refl
 
-put-among : (s : List ℕ) (xs : List (List ℕ)) (z : List ℕ) → among (putString s xs) z ≡ sameString z s || among xs z
-unfolding putString among
+put-among : (s : List ℕ) (xs : List (List ℕ)) (z : List ℕ) → isAmong (putString s xs) z ≡ sameString z s || isAmong xs z
+unfolding putString isAmong
 put-among s [] z = refl
 put-among s (x ∷ xs) z =
     elim (decided (stringBefore s x)) [
       | yes h ↦ rw h refl
       | no h ↦ elim (decided (stringBefore x s)) [
         | yes k ↦
-            rw (h, k) (ap (λ b. sameString z x || b) (put-among s xs z) ∙ or-swap (sameString z x) (sameString z s) (among xs z))
+            rw (h, k) (ap (λ b. sameString z x || b) (put-among s xs z) ∙ or-swap (sameString z x) (sameString z s) (isAmong xs z))
         | no k ↦
             rw (h, k)
-            (sym (or-twice (sameString z x) (among xs z)) ∙ ap (λ y. sameString z y || (sameString z x || among xs z)) (sym (before-equal s x h k)))
+            (sym (or-twice (sameString z x) (isAmong xs z)) ∙ ap (λ y. sameString z y || (sameString z x || isAmong xs z)) (sym (before-equal s x h k)))
       ]
     ]
 
-pub among-ascending : (ss : List (List ℕ)) (z : List ℕ) → among (ascendingStrings ss) z ≡ among ss z
-unfolding ascendingStrings among
+pub among-ascending : (ss : List (List ℕ)) (z : List ℕ) → isAmong (ascendingStrings ss) z ≡ isAmong ss z
+unfolding ascendingStrings isAmong
 among-ascending [] z = refl
 among-ascending (s ∷ ss) z = put-among s (ascendingStrings ss) z ∙ ap (λ b. sameString z s || b) (among-ascending ss z)
 
@@ -123,7 +123,7 @@ unfolding stringsFrom endsFrom flatten
 cut-again front a h [] = refl
 cut-again front a h (s ∷ ss) =
     let e : a + length s - a ≡ length s = omega arith in
-    let p : part (front ++ (s ++ flatten ss)) a (a + length s) ≡ s =
+    let p : byteRange (front ++ (s ++ flatten ss)) a (a + length s) ≡ s =
     ap₂ (λ n m. take n (drop m (front ++ (s ++ flatten ss)))) e h
     ∙ ap (take (length s)) (drop-front front (s ++ flatten ss))
     ∙ take-front s (flatten ss) in
@@ -169,11 +169,11 @@ dictionaries-right xs r = record { names = dictionary-right (namesIn xs) (r .nam
 
 -- no string is in it that is not among the given ones, and none is missing
 pub dictionary-exact : (ss : List (List ℕ)) (z : List ℕ)
-    → among (stringsOf (flatten (ascendingStrings ss)) (endsFrom 0 (ascendingStrings ss))) z ≡ among ss z
-dictionary-exact ss z = ap (λ l. among l z) (strings-again (ascendingStrings ss)) ∙ among-ascending ss z
+    → isAmong (stringsOf (flatten (ascendingStrings ss)) (endsFrom 0 (ascendingStrings ss))) z ≡ isAmong ss z
+dictionary-exact ss z = ap (λ l. isAmong l z) (strings-again (ascendingStrings ss)) ∙ among-ascending ss z
 
 -- ---- terms have words, but for whole numbers that are out of their 30 bits
-found-word : (ss : List (List ℕ)) (s : List ℕ) (kind : ℕ → ℕ) → among ss s ≡ true → foundWord kind (lookupIn ss s) ≡ some (kind (rank ss s))
+found-word : (ss : List (List ℕ)) (s : List ℕ) (kind : ℕ → ℕ) → isAmong ss s ≡ true → foundWord kind (lookupIn ss s) ≡ some (kind (stringRank ss s))
 unfolding lookupIn
 found-word ss s kind e = rw e refl
 
@@ -187,24 +187,24 @@ or-later false b e = e
 module _ (d : Dictionaries) where
   abbrev Holds : List StringTerm → Type 0
   Holds xs =
-      ((s : List ℕ) → among (namesIn xs) s ≡ true → among (stringsOf (d .nameBytes) (d .nameEnds)) s ≡ true)
-      × ((s : List ℕ) → among (textsIn xs) s ≡ true → among (stringsOf (d .textBytes) (d .textEnds)) s ≡ true)
+      ((s : List ℕ) → isAmong (namesIn xs) s ≡ true → isAmong (stringsOf (d .nameBytes) (d .nameEnds)) s ≡ true)
+      × ((s : List ℕ) → isAmong (textsIn xs) s ≡ true → isAmong (stringsOf (d .textBytes) (d .textEnds)) s ≡ true)
 
   one-word : (x : StringTerm) (xs : List StringTerm) → Holds (x ∷ xs) → isEncodable x ≡ true → (w : ℕ) × (wordOf d x ≡ some w)
-  unfolding namesIn textsIn among
+  unfolding namesIn textsIn isAmong
   one-word (iri s) xs h e =
       let ss = stringsOf (d .nameBytes) (d .nameEnds) in
-      (words.name (rank ss s), found-word ss s words.name (h .0 s (or-own s (among (namesIn xs) s))))
+      (words.name (stringRank ss s), found-word ss s words.name (h .0 s (or-own s (isAmong (namesIn xs) s))))
   one-word (integer n) xs h e = (words.number (bitsOf30 n), rw e refl)
   one-word (text s) xs h e =
       let ss = stringsOf (d .textBytes) (d .textEnds) in
-      (words.text (rank ss s), found-word ss s words.text (h .1 s (or-own s (among (textsIn xs) s))))
+      (words.text (stringRank ss s), found-word ss s words.text (h .1 s (or-own s (isAmong (textsIn xs) s))))
 
   fewer : (x : StringTerm) (xs : List StringTerm) → Holds (x ∷ xs) → Holds xs
-  unfolding namesIn textsIn among
-  fewer (iri y) xs h = (λ s e. h .0 s (or-later (sameString s y) (among (namesIn xs) s) e), h .1)
+  unfolding namesIn textsIn isAmong
+  fewer (iri y) xs h = (λ s e. h .0 s (or-later (sameString s y) (isAmong (namesIn xs) s) e), h .1)
   fewer (integer n) xs h = h
-  fewer (text y) xs h = (h .0, λ s e. h .1 s (or-later (sameString s y) (among (textsIn xs) s) e))
+  fewer (text y) xs h = (h .0, λ s e. h .1 s (or-later (sameString s y) (isAmong (textsIn xs) s) e))
 
   all-words : (xs : List StringTerm) → Holds xs → all isEncodable xs ≡ true → (ws : List ℕ) × (wordsOf d xs ≡ some ws)
   unfolding wordsOf all

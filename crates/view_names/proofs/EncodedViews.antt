@@ -15,7 +15,7 @@ use Rattle.tables.specs.declared.Order.the-variants.{Spo}
 use Rattle.tables.specs.Tables.{columnCount, fieldOf, fieldsOf, yearColumn, subjectColumn, predicateColumn, objectColumn}
 use Rattle.views.specs.Views.{admits, visible, visibleNumbers, viewRows}
 use Rattle.dictionaries.specs.Strings.{sameString}
-use Rattle.dictionaries.specs.Dictionaries.{among}
+use Rattle.dictionaries.specs.Dictionaries.{isAmong}
 use Rattle.sparql.specs.Terms.{iri, integer, text, sameTerm}
 use Rattle.sparql_strings.specs.Strings.{Dictionaries, RightDictionaries}
 use Rattle.encodings.specs.Encodings.{StringTerm, wordOf, wordsOf}
@@ -35,7 +35,7 @@ module _ (d : Dictionaries) (r : RightDictionaries d) (grant : List (List ℕ)) 
   -- a granted name
   member-granted : (names : List (List ℕ)) (gs : List ℕ) → wordsOf d (map iri names) ≡ some gs → (x : StringTerm) (w : ℕ) → wordOf d x ≡ some w
       → member w gs ≡ isGranted names x
-  unfolding wordsOf member among
+  unfolding wordsOf member isAmong
   member-granted [] gs e (iri s) w f = let g : gs ≡ [] = cc in ap (member w) g
   member-granted [] gs e (integer n) w f = let g : gs ≡ [] = cc in ap (member w) g
   member-granted [] gs e (text s) w f = let g : gs ≡ [] = cc in ap (member w) g

@@ -17,7 +17,7 @@ use Rattle.tables.specs.Tables.{Tables}
 use Rattle.uploads.specs.Uploads.{madeTables}
 use Rattle.plans.specs.Conditions.{next}
 use Rattle.dictionaries.specs.Strings.{sameString}
-use Rattle.dictionaries.specs.Dictionaries.{among}
+use Rattle.dictionaries.specs.Dictionaries.{isAmong}
 use Rattle.dictionaries.proofs.Strings.{same-self, same-equal}
 use Rattle.sparql.specs.Terms.{sameTerm}
 use Rattle.sparql_strings.proofs.Terms.{term-equal}
@@ -99,19 +99,19 @@ module _ (grant : List (List ℕ)) (membership : List ℕ) where
             → (isVisible grant membership rows a ≡ true → standsIn others a ≡ true)
             → admitsRow grant membership r a ≡ true → someRow (admitsRow grant membership r) others ≡ true
         one a found stay h =
-            let v = or-later (among grant (a .subject)) (someRow (admitsRow grant membership a) rows)
+            let v = or-later (isAmong grant (a .subject)) (someRow (admitsRow grant membership a) rows)
             (found (admitsRow grant membership a) (admits-itself r a h)) in
             some-elim (sameStringRow a) others (stay v)
             (each-weaken (λ b k s. k (admitsRow grant membership r) (ap (admitsRow grant membership r) (sym (row-equal a b s)) ∙ h)) others
             (each-some others))
 
     still-visible : (r : StringRow) → isVisible grant membership rows r ≡ true → isVisible grant membership others r ≡ true
-    still-visible r v = go (decided (among grant (r .subject)))
+    still-visible r v = go (decided (isAmong grant (r .subject)))
       where
-        go : Decided (among grant (r .subject)) → isVisible grant membership others r ≡ true
-        go (yes e) = or-first (among grant (r .subject)) (someRow (admitsRow grant membership r) others) e
+        go : Decided (isAmong grant (r .subject)) → isVisible grant membership others r ≡ true
+        go (yes e) = or-first (isAmong grant (r .subject)) (someRow (admitsRow grant membership r) others) e
         go (no e) =
-            or-later (among grant (r .subject)) (someRow (admitsRow grant membership r) others) (admitted r (rw e at v))
+            or-later (isAmong grant (r .subject)) (someRow (admitsRow grant membership r) others) (admitted r (rw e at v))
 
   module _ (rows others : List StringRow) (d : RowsDiffer grant membership rows others) where
     both-visible : (r : StringRow) → isVisible grant membership rows r ≡ isVisible grant membership others r

@@ -11,7 +11,7 @@ use Rattle.tables.specs.Tables.{Tables}
 use Rattle.plans.specs.Conditions.{next}
 use Rattle.uploads.specs.Uploads.{madeTables}
 use Rattle.dictionaries.specs.Strings.{sameString}
-use Rattle.dictionaries.specs.Dictionaries.{among}
+use Rattle.dictionaries.specs.Dictionaries.{isAmong}
 use Rattle.sparql.specs.Terms.{iri, integer, text}
 use Rattle.sparql_strings.specs.Strings.{Dictionaries}
 use Rattle.encodings.specs.Encodings.{StringTerm}
@@ -25,7 +25,7 @@ someRow f (r ∷ rows) = f r || someRow f rows
 
 -- ---- as views has it of words (Views.antt), for a grant of names and the name of the membership predicate
 abbrev pub isGranted : List (List ℕ) → StringTerm → Bool
-isGranted grant (iri s) = among grant s
+isGranted grant (iri s) = isAmong grant s
 isGranted grant (integer n) = false
 isGranted grant (text s) = false
 
@@ -36,7 +36,7 @@ admitsRow grant membership r a =
     && (sameString (a .subject) (r .subject) && (sameString (a .predicate) membership && isGranted grant (a .object)))
 
 abbrev pub isVisible : List (List ℕ) → List ℕ → List StringRow → StringRow → Bool
-isVisible grant membership rows r = among grant (r .subject) || someRow (admitsRow grant membership r) rows
+isVisible grant membership rows r = isAmong grant (r .subject) || someRow (admitsRow grant membership r) rows
 
 abbrev pub visibleRows : List (List ℕ) → List ℕ → List StringRow → List StringRow
 visibleRows grant membership rows = keep (isVisible grant membership rows) rows

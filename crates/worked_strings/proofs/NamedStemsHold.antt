@@ -19,7 +19,7 @@ use Rattle.cuts.specs.Unsent.{BestUnsent}
 use Rattle.cuts.specs.Computing as cuts
 use Rattle.dictionaries.specs.Strings.{stringBefore, sameString}
 use Rattle.dictionaries.specs.Utf8.{afterFirst, formedFrom, codePointsFrom}
-use Rattle.dictionaries.specs.Dictionaries.{stringsFrom, endsRight, rank, among}
+use Rattle.dictionaries.specs.Dictionaries.{stringsFrom, endsRight, stringRank, isAmong}
 use Rattle.dictionaries.specs.Lookups.{lookupIn}
 use Rattle.sparql.specs.Terms.{iri, integer, text}
 use Rattle.sparql.specs.Computing as sparql
@@ -40,7 +40,7 @@ use Rattle.worked_strings.specs.NamedStems.{rowDecoded, pairDecoded, gra
 use Rattle.worked_strings.specs.NamedStems.{othersHidden, stoodBefore, inTwoYears}
 
 unfoldable byStrings : Unit {0}
-unfolding computing sparql.computing stringBefore sameString afterFirst formedFrom codePointsFrom stringsFrom endsRight rank among lookupIn
+unfolding computing sparql.computing stringBefore sameString afterFirst formedFrom codePointsFrom stringsFrom endsRight stringRank isAmong lookupIn
     carryExpression hasDecoded unionDecoded decodedOver wordsOf putString ascendingStrings endsFrom namesIn textsIn someRow
 byStrings = tt
 
