@@ -173,7 +173,8 @@ pub dictionary-exact : (ss : List (List ℕ)) (z : List ℕ)
 dictionary-exact ss z = ap (λ l. isAmong l z) (strings-again (ascendingStrings ss)) ∙ among-ascending ss z
 
 -- ---- terms have words, but for whole numbers that are out of their 30 bits
-found-word : (ss : List (List ℕ)) (s : List ℕ) (kind : ℕ → ℕ) → isAmong ss s ≡ true → foundWord kind (lookupIn ss s) ≡ some (kind (stringRank ss s))
+found-word : (ss : List (List ℕ)) (s : List ℕ) (kind : ℕ → ℕ) → isAmong ss s ≡ true
+    → foundWord kind (lookupIn ss s) ≡ some (kind (stringRank ss s))
 unfolding lookupIn
 found-word ss s kind e = rw e refl
 
