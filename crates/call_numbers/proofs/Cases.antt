@@ -9,8 +9,7 @@ numbers-worked =
       writing = refl;
       turning = refl;
       making = refl;
-      viewing = refl;
-      growing = refl;
+      writing-tables = refl;
       queueing = refl;
       serving = refl;
     }

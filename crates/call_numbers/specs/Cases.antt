@@ -8,8 +8,7 @@ use Rattle.turns.specs.declared.TurnEnding.{TurnEnding}
 use Rattle.turns.specs.declared.TurnEnding.the-variants.{Done, Spent, Full, Refused}
 use Rattle.turns.specs.declared.Turned.{Turned}
 use Rattle.uploads.specs.declared.Made.the-variants as made
-use Rattle.views.specs.declared.Viewed.the-variants as viewed
-use Rattle.woods.specs.declared.Grown.the-variants as grown
+use Rattle.table_answers.specs.declared.TablesWritten.the-variants as tables
 use Rattle.queues.specs.declared.Queued.the-variants as queued
 use Rattle.queues.specs.declared.Service.{Service}
 use Rattle.call_numbers.specs.declared.WrittenNumbers.{WrittenNumbers}
@@ -19,7 +18,7 @@ use Rattle.call_numbers.specs.declared.MadeNumbers.{MadeNumbers}
 use Rattle.call_numbers.specs.declared.TablesNumbers.{TablesNumbers}
 use Rattle.call_numbers.specs.declared.QueuedNumbers.{QueuedNumbers}
 use Rattle.call_numbers.specs.declared.ServiceNumbers.{ServiceNumbers}
-use Rattle.call_numbers.specs.Numbers.{writtenNumbers, endingNumbers, turnedNumbers, madeNumbers, viewedNumbers, grownNumbers, queuedNumbers}
+use Rattle.call_numbers.specs.Numbers.{writtenNumbers, endingNumbers, turnedNumbers, madeNumbers, tablesNumbers, queuedNumbers}
 use Rattle.call_numbers.specs.Numbers.{serviceNumbers}
 
 -- ---- answers of the calls, with these values
@@ -71,10 +70,10 @@ pub record NumbersWorked : Type 0 where
   -- a turn
   pub turning : map turnedNumbers (turnedWith Done 10 0 4 ∷ turnedWith Spent 9 5 4 ∷ turnedWith Full 7 6 4 ∷ turnedWith (Refused 9) 0 0 0 ∷ [])
       ≡ inTurned 0 0 10 0 4 ∷ inTurned 1 0 9 5 4 ∷ inTurned 2 0 7 6 4 ∷ inTurned 3 9 0 0 0 ∷ []
-  -- making tables, writing a view, growing a wood
+  -- making tables; writing a view and growing a wood
   pub making : map madeNumbers (made.Words 24 6 5 4 ∷ made.Refused 15 ∷ []) ≡ inMade 0 24 6 5 4 ∷ inMade 15 0 0 0 0 ∷ []
-  pub viewing : map viewedNumbers (viewed.Words 24 6 5 ∷ viewed.Refused 20 ∷ []) ≡ inTables 0 24 6 5 ∷ inTables 20 0 0 0 ∷ []
-  pub growing : map grownNumbers (grown.Words 24 6 5 ∷ grown.Refused 24 ∷ []) ≡ inTables 0 24 6 5 ∷ inTables 24 0 0 0 ∷ []
+  pub writing-tables : map tablesNumbers (tables.Words 24 6 5 ∷ tables.Refused 20 ∷ tables.Refused 24 ∷ [])
+      ≡ inTables 0 24 6 5 ∷ inTables 20 0 0 0 ∷ inTables 24 0 0 0 ∷ []
   -- joining and topping up
   pub queueing : map queuedNumbers (queued.Lists 3 2 ∷ queued.Refused 17 ∷ []) ≡ inQueued 0 3 2 ∷ inQueued 17 0 0 ∷ []
   -- serving

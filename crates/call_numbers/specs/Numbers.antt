@@ -8,10 +8,8 @@ use Rattle.turns.specs.declared.Turned.{Turned}
 use Rattle.turns.specs.Turns.{refusalOf}
 use Rattle.uploads.specs.declared.Made.{Made}
 use Rattle.uploads.specs.Making.{madeRefusal, madeWords}
-use Rattle.views.specs.declared.Viewed.{Viewed}
-use Rattle.views.specs.Viewing.{viewRefusal, viewWords}
-use Rattle.woods.specs.declared.Grown.{Grown}
-use Rattle.woods.specs.Growing.{grownRefusal, grownWords}
+use Rattle.table_answers.specs.declared.TablesWritten.{TablesWritten}
+use Rattle.table_answers.specs.Writing.{tablesRefusal, tableWords}
 use Rattle.queues.specs.declared.Queued.{Queued}
 use Rattle.queues.specs.declared.Service.{Service}
 use Rattle.queues.specs.Refusals.{refusalBy, lineBy, asideBy}
@@ -56,11 +54,8 @@ madeNumbers m =
       report = madeWords m .report;
     }
 
-abbrev pub viewedNumbers : Viewed → TablesNumbers
-viewedNumbers v = record { refused = viewRefusal v; rows = viewWords v .rows; pos = viewWords v .pos; osp = viewWords v .osp }
-
-abbrev pub grownNumbers : Grown → TablesNumbers
-grownNumbers g = record { refused = grownRefusal g; rows = grownWords g .rows; pos = grownWords g .pos; osp = grownWords g .osp }
+abbrev pub tablesNumbers : TablesWritten → TablesNumbers
+tablesNumbers t = record { refused = tablesRefusal t; rows = tableWords t .rows; pos = tableWords t .pos; osp = tableWords t .osp }
 
 abbrev pub queuedNumbers : Queued → QueuedNumbers
 queuedNumbers q = record { refused = refusalBy q; waiting = lineBy q; resting = asideBy q }

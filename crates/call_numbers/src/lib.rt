@@ -1,15 +1,14 @@
 // The answers of the calls as numbers, for programs in other languages: what a call answers is a struct of numbers.
 use queues::Queued;
 use queues::Service;
+use table_answers::TablesWritten;
 use turns::TurnEnding;
 use turns::Turned;
 use uploads::Made;
-use views::Viewed;
-use woods::Grown;
 use words::Written;
 ghost use mathlib.Core.Path.{_≡_};
 ghost use Rattle.call_numbers.specs.Numbers.{writtenNumbers, endingNumbers, turnedNumbers, madeNumbers, queuedNumbers, serviceNumbers};
-ghost use Rattle.call_numbers.specs.Numbers.{viewedNumbers, grownNumbers};
+ghost use Rattle.call_numbers.specs.Numbers.{tablesNumbers};
 
 // What a call that writes to one buffer answers, or that says how long one has to be: the number of the test that refused it, or 0; and
 // the words written or asked for.
@@ -171,38 +170,18 @@ pub fn made_numbers(m: Made) -> MadeNumbers
     }
 }
 
-// The numbers of what writing a view answers: no words are written by a refused call.
-pub fn viewed_numbers(v: Viewed) -> TablesNumbers
-    ensures { λ r. ⌜ r ≡ viewedNumbers v ⌝ }
+// The numbers of what writing a view and growing a wood answer: no words are written by a refused call.
+pub fn tables_numbers(t: TablesWritten) -> TablesNumbers
+    ensures { λ r. ⌜ r ≡ tablesNumbers t ⌝ }
 {
-    match v {
-        Viewed::Words { rows, pos, osp } => TablesNumbers {
+    match t {
+        TablesWritten::Words { rows, pos, osp } => TablesNumbers {
             refused: 0,
             rows: rows,
             pos: pos,
             osp: osp,
         },
-        Viewed::Refused(number) => TablesNumbers {
-            refused: number,
-            rows: 0,
-            pos: 0,
-            osp: 0,
-        },
-    }
-}
-
-// The numbers of what growing a wood answers: no words are written by a refused call.
-pub fn grown_numbers(g: Grown) -> TablesNumbers
-    ensures { λ r. ⌜ r ≡ grownNumbers g ⌝ }
-{
-    match g {
-        Grown::Words { rows, pos, osp } => TablesNumbers {
-            refused: 0,
-            rows: rows,
-            pos: pos,
-            osp: osp,
-        },
-        Grown::Refused(number) => TablesNumbers {
+        TablesWritten::Refused(number) => TablesNumbers {
             refused: number,
             rows: 0,
             pos: 0,

@@ -7,7 +7,7 @@ use mathlib.Core.Option.{Option, none, some}
 use Rattle.words.specs.Tests.{firstFailing, numberOf, AllPass, FirstFails}
 use Rattle.words.proofs.Testing.{passes-all, all-passes, first-fails, fails-first}
 use Rattle.calls.specs.Calls.{CallSchema, CallResult, resultByNumber, resultOfCall, countsBy}
-use Rattle.calls.specs.Calls.{AnswersRight, RefusedBy, NothingDone, CallRefusals, RightCall}
+use Rattle.calls.specs.Calls.{AnswersRight, RefusedBy, NotRefused, NothingDone, CallRefusals, RightCall}
 
 module _ {I A E B W : Type 0} (c : CallSchema I A E B W) (r : RightCall c) (i : I) where
   -- what the first test that fails decides
@@ -31,7 +31,7 @@ module _ {I A E B W : Type 0} (c : CallSchema I A E B W) (r : RightCall c) (i : 
       go none p = serves p (passes-all (c .tests i) p)
       go (some x) p = refuses x p (ap (λ (o : CallResult A B). c .says (o .answer)) (by-number x p) ∙ r .refused x)
 
-  not-refused : AllPass (c .tests i) → (x : ℕ) → ¬ RefusedBy c i x
+  not-refused : AllPass (c .tests i) → NotRefused c i
   not-refused h x e =
       r .serving i h x (sym (ap (λ (o : CallResult A B). c .says (o .answer)) (by-none (all-passes (c .tests i) h))) ∙ e)
 
@@ -43,10 +43,10 @@ module _ {I A E B W : Type 0} (c : CallSchema I A E B W) (r : RightCall c) (i : 
       to (refuses y p q) e = first-fails x (c .tests i) (p ∙ ap some (sym (r .told y) ∙ (ap (c .tells) (sym q ∙ e) ∙ r .told x)))
       to (serves p h) e = absurd (not-refused h x e)
 
-  call-served : ((x : ℕ) → ¬ RefusedBy c i x) ↔ AllPass (c .tests i)
+  pub call-served : NotRefused c i ↔ AllPass (c .tests i)
   call-served = (λ h. to decides h, not-refused)
     where
-      to : Decides → ((x : ℕ) → ¬ RefusedBy c i x) → AllPass (c .tests i)
+      to : Decides → NotRefused c i → AllPass (c .tests i)
       to (refuses x p q) h = absurd (h x q)
       to (serves p a) h = a
 
@@ -70,6 +70,10 @@ module _ {I A E B W : Type 0} (c : CallSchema I A E B W) (r : RightCall c) (i : 
   -- where every test passes, it answers and leaves what a served call does
   pub call-serves : AllPass (c .tests i) → resultOfCall c i ≡ resultByNumber c i none
   call-serves h = by-none (all-passes (c .tests i) h)
+
+  -- so does a call that is not refused
+  pub call-so : NotRefused c i → resultOfCall c i ≡ resultByNumber c i none
+  call-so h = call-serves (call-served .0 h)
 
   pub call-refusals : CallRefusals c i
   call-refusals =

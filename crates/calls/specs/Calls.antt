@@ -59,6 +59,10 @@ module _ {I A E B W : Type 0} (c : CallSchema I A E B W) (i : I) where
   abbrev pub RefusedBy : ℕ → Type 0
   RefusedBy x = c .says (resultOfCall c i .answer) ≡ c .refusal x
 
+  -- the call is refused by no number
+  abbrev pub NotRefused : Type 0
+  NotRefused = (x : ℕ) → ¬ RefusedBy x
+
   -- the buffers are as they were lent, and nothing is counted
   pub record NothingDone : Type 0 where
     pub buffers : resultOfCall c i .buffers ≡ c .lent i
@@ -75,7 +79,7 @@ module _ {I A E B W : Type 0} (c : CallSchema I A E B W) (i : I) where
     -- a refusal changes no buffer
     pub unchanged : (x : ℕ) → RefusedBy x → NothingDone
     -- it is served, answering no such number, exactly where every test passes
-    pub served : ((x : ℕ) → ¬ RefusedBy x) ↔ AllPass (c .tests i)
+    pub served : NotRefused ↔ AllPass (c .tests i)
 
 -- ---- what is asked of a description of a call, so that it is true: each by itself a line to see
 pub record RightCall {I A E B W : Type 0} (c : CallSchema I A E B W) : Type 0 where

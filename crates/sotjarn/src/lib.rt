@@ -10,12 +10,11 @@ pub use call_numbers::ServiceNumbers;
 pub use call_numbers::TablesNumbers;
 pub use call_numbers::TurnedNumbers;
 pub use call_numbers::WrittenNumbers;
-use call_numbers::grown_numbers;
 use call_numbers::made_numbers;
 use call_numbers::queued_numbers;
 use call_numbers::service_numbers;
+use call_numbers::tables_numbers;
 use call_numbers::turned_numbers;
-use call_numbers::viewed_numbers;
 use call_numbers::written_numbers;
 use queues::Entry;
 ghost use mathlib.Core.Path.{_≡_};
@@ -32,8 +31,7 @@ ghost use Rattle.queues.specs.Lists.{lentAs};
 ghost use Rattle.queues.specs.Joining.{joinQueueOf};
 ghost use Rattle.queues.specs.Serving.{serveOf};
 ghost use Rattle.queues.specs.ToppingUp.{topUpOf};
-ghost use Rattle.call_numbers.specs.Numbers.{writtenNumbers, turnedNumbers, madeNumbers, queuedNumbers, serviceNumbers, viewedNumbers};
-ghost use Rattle.call_numbers.specs.Numbers.{grownNumbers};
+ghost use Rattle.call_numbers.specs.Numbers.{writtenNumbers, turnedNumbers, madeNumbers, queuedNumbers, serviceNumbers, tablesNumbers};
 
 // Writes the start state of a query to the state buffer, or refuses.
 #[no_mangle]
@@ -258,7 +256,7 @@ pub extern "C" fn sotjarn_view(
     view_pos: &mut [u32],
     view_osp: &mut [u32],
 ) -> TablesNumbers
-    ensures answer { λ r. ⌜ r ≡ viewedNumbers (viewCallOf (viewInput (now (rows .entry)) (now (pos .entry)) (now (osp .entry)) (now (grant .entry))
+    ensures answer { λ r. ⌜ r ≡ tablesNumbers (viewCallOf (viewInput (now (rows .entry)) (now (pos .entry)) (now (osp .entry)) (now (grant .entry))
         membership (now («view_rows» .entry)) (now («view_pos» .entry)) (now («view_osp» .entry))) .answer) ⌝ }
     ensures rows { λ _. ⌜ now («view_rows» .exit) ≡ viewCallOf (viewInput (now (rows .entry)) (now (pos .entry)) (now (osp .entry))
         (now (grant .entry)) membership (now («view_rows» .entry)) (now («view_pos» .entry)) (now («view_osp» .entry))) .buffers .rows ⌝ }
@@ -267,7 +265,7 @@ pub extern "C" fn sotjarn_view(
     ensures osp { λ _. ⌜ now («view_osp» .exit) ≡ viewCallOf (viewInput (now (rows .entry)) (now (pos .entry)) (now (osp .entry))
         (now (grant .entry)) membership (now («view_rows» .entry)) (now («view_pos» .entry)) (now («view_osp» .entry))) .buffers .osp ⌝ }
 {
-    viewed_numbers(view_calls::view(
+    tables_numbers(view_calls::view(
         rows,
         pos,
         osp,
@@ -289,7 +287,7 @@ pub extern "C" fn sotjarn_grow(
     pos: &mut [u32],
     osp: &mut [u32],
 ) -> TablesNumbers
-    ensures answer { λ r. ⌜ r ≡ grownNumbers (growOf (growInput seed stems year (now (rows .entry)) (now (pos .entry)) (now (osp .entry))) .answer) ⌝ }
+    ensures answer { λ r. ⌜ r ≡ tablesNumbers (growOf (growInput seed stems year (now (rows .entry)) (now (pos .entry)) (now (osp .entry))) .answer) ⌝ }
     ensures rows { λ _. ⌜ now (rows .exit)
         ≡ growOf (growInput seed stems year (now (rows .entry)) (now (pos .entry)) (now (osp .entry))) .buffers .rows ⌝ }
     ensures pos { λ _. ⌜ now (pos .exit)
@@ -297,5 +295,5 @@ pub extern "C" fn sotjarn_grow(
     ensures osp { λ _. ⌜ now (osp .exit)
         ≡ growOf (growInput seed stems year (now (rows .entry)) (now (pos .entry)) (now (osp .entry))) .buffers .osp ⌝ }
 {
-    grown_numbers(wood_calls::grow(seed, stems, year, rows, pos, osp))
+    tables_numbers(wood_calls::grow(seed, stems, year, rows, pos, osp))
 }

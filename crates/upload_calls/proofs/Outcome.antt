@@ -10,6 +10,7 @@ use borrow.Author.Tests.{eq-eqb, ne-eqb, le-leb, lt-leb, leb-true}
 use Rattle.words.specs.Sequences.{over}
 use Rattle.words.specs.Tests.{firstFailing}
 use Rattle.words.proofs.Booleans.{and-left, and-right}
+use Rattle.calls.specs.Calls.{resultOfCall}
 use Rattle.tables.specs.declared.Order.the-variants.{Pos, Osp}
 use Rattle.tables.specs.Tables.{columnCount, mostRows}
 use Rattle.uploads.specs.declared.Made.the-variants.{Words, Refused}
@@ -34,7 +35,7 @@ module _ (up : List ℕ) where
 
 module _ (i : MakeInput) where
   pub wrong-upload : uploadRight (i .upload) ≡ false → record { answer = Refused 15; buffers = i .buffers } ≡ makeOf i
-  unfolding makeOf firstFailing
+  unfolding resultOfCall firstFailing
   wrong-upload e = rw e
 
   -- ---- 16, as the code tests it
@@ -46,12 +47,12 @@ module _ (i : MakeInput) where
 
     pub no-room : makeRoomFor kept dropped (length (i .buffers .rows)) (length (i .buffers .pos)) (length (i .buffers .osp)) (length (i .buffers .report))
         ≡ false → record { answer = Refused 16; buffers = i .buffers } ≡ makeOf i
-    unfolding makeOf firstFailing
+    unfolding resultOfCall firstFailing
     no-room e = rw (u, sym room-is ∙ e)
 
     pub served : makeRoomFor kept dropped (length (i .buffers .rows)) (length (i .buffers .pos)) (length (i .buffers .osp)) (length (i .buffers .report))
         ≡ true → madeWith (madeTables (i .upload)) (droppedReport (i .upload)) (i .buffers) ≡ makeOf i
-    unfolding makeOf firstFailing
+    unfolding resultOfCall firstFailing
     served e = rw (u, sym room-is ∙ e)
 
 -- ---- a result with the words of what is made

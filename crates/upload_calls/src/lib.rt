@@ -6,8 +6,8 @@ use tables::MOST_ROWS;
 use uploads::Made;
 use within::make_within;
 ghost use mathlib.Core.Path.{_≡_};
-ghost use Rattle.uploads.specs.Making.{makeInput, makeBuffers, makeOf};
-ghost use Rattle.uploads.specs.Refusals.{MakeAnswers};
+ghost use Rattle.calls.specs.Calls.{AnswersRight};
+ghost use Rattle.uploads.specs.Making.{makeInput, makeBuffers, makeSchema, makeOf};
 
 // The tests of making tables, by their numbers.
 pub const UPLOAD: u32 = 15;
@@ -28,7 +28,7 @@ pub fn make(
 ) -> Made
     ensures { λ r. ⌜ record { answer = r; buffers = makeBuffers (now (rows .exit)) (now (pos .exit)) (now (osp .exit)) (now (report .exit)) }
         ≡ makeOf (makeInput (now (upload .entry)) (now (rows .entry)) (now (pos .entry)) (now (osp .entry)) (now (report .entry))) ⌝ }
-    ensures number { λ r. ⌜ MakeAnswers (makeInput (now (upload .entry)) (now (rows .entry)) (now (pos .entry)) (now (osp .entry))
+    ensures number { λ r. ⌜ AnswersRight makeSchema (makeInput (now (upload .entry)) (now (rows .entry)) (now (pos .entry)) (now (osp .entry))
         (now (report .entry))) r ⌝ }
 {
     if upload.len() % COLUMNS != 0 {

@@ -6,11 +6,11 @@ use mathlib.Core.List.{List}
 use lib.ListN.{length, take}
 use Rattle.words.specs.Tests.{firstFailing}
 use Rattle.words.proofs.Buffers.{take-over}
+use Rattle.calls.specs.Calls.{NotRefused}
 use Rattle.tables.specs.Tables.{Tables, tablesOf, mostRows, tableTests}
 use Rattle.tables.proofs.MadeTables.{made-accepted}
 use Rattle.uploads.specs.Uploads.{uploadCount, madeRows, madeTables, droppedReport}
-use Rattle.uploads.specs.Making.{MakeInput, MadeBuffers, MakeResult, madeWith, makeOf}
-use Rattle.uploads.specs.Refusals.{Makes}
+use Rattle.uploads.specs.Making.{MakeInput, MadeBuffers, MakeResult, madeWith, makeSchema, makeOf}
 use Rattle.uploads.specs.Exactness.{tablesMade, reportIn, ExactlyKept, Reported, MadeRight}
 use Rattle.uploads.proofs.Kept.{kept-right}
 use Rattle.uploads.proofs.Exact.{made-exactly}
@@ -26,7 +26,7 @@ made-passes up few = made-accepted (madeRows up) (kept-right up few)
 read-tables : (t : Tables) (report : List ℕ) (b : MadeBuffers) → tablesMade (madeWith t report b) ≡ t
 read-tables t report b = rw (take-over (t .rows) (b .rows), take-over (t .pos) (b .pos), take-over (t .osp) (b .osp))
 
-module _ (i : MakeInput) (m : Makes i) where
+module _ (i : MakeInput) (m : NotRefused makeSchema i) where
   pub tables-left : tablesMade (makeOf i) ≡ madeTables (i .upload)
   tables-left = ap tablesMade (made-so i m) ∙ read-tables (madeTables (i .upload)) (droppedReport (i .upload)) (i .buffers)
 

@@ -13,13 +13,14 @@ use Rattle.words.specs.Sequences.{over}
 use Rattle.words.proofs.Booleans.{and-left, and-right}
 use Rattle.words.proofs.Buffers.{overwritten}
 use Rattle.words.proofs.Testing.{testNumbered, test-passed}
+use Rattle.calls.specs.Calls.{NotRefused}
 use Rattle.tables.specs.declared.Order.the-variants.{Pos, Osp}
 use Rattle.tables.specs.Tables.{columnCount, mostRows}
 use Rattle.uploads.specs.Uploads.{uploadCount, keptCount, droppedCount, entryWords, madeRows, madeTables, droppedReport}
-use Rattle.uploads.specs.Making.{MadeBuffers, MakeInput, MakeResult, uploadRight, makeRoomRight, makeTests, madeWith, makeOf, MadeWords, madeWords}
-use Rattle.uploads.specs.Refusals.{Makes, MakeSuffices, MakeWrites}
+use Rattle.uploads.specs.Making.{MadeBuffers, MakeInput, MakeResult, uploadRight, makeRoomRight, makeTests, makeSchema, madeWords}
+use Rattle.uploads.specs.Refusals.{MakeSuffices, MakeWrites}
 use Rattle.uploads.proofs.Lengths.{made-length, numbers-made, report-length}
-use Rattle.uploads.proofs.Refusals.{make-serves, made-so}
+use Rattle.uploads.proofs.Refusals.{made-so, make-refusals}
 
 -- ---- test 15
 module _ (up : List ℕ) where
@@ -47,9 +48,9 @@ module _ (i : MakeInput) where
   unfolding makeRoomRight
   room-right = rw (made-length up, numbers-made up Pos, numbers-made up Osp, report-length up)
 
-  suffices : Makes i → MakeSuffices i
+  suffices : NotRefused makeSchema i → MakeSuffices i
   suffices m =
-      let p = make-serves i .0 m in
+      let p = make-refusals i .served .0 m in
       let e = test-passed 15 (makeTests i) p in
       let a = sym room-right ∙ test-passed 16 (makeTests i) p in
       let b = and-right (leb (keptCount up * columnCount) (length (i .buffers .rows))) _ a in
@@ -74,14 +75,14 @@ module _ (i : MakeInput) where
       )
 
   -- served exactly for whole rows that are not too many and for buffers that are no shorter than what is written
-  pub make-suffices : Makes i ↔ MakeSuffices i
-  make-suffices = (suffices, λ s. make-serves i .1 (upload-right up (s .whole) (s .few), (room-enough s, tt)))
+  pub make-suffices : NotRefused makeSchema i ↔ MakeSuffices i
+  make-suffices = (suffices, λ s. make-refusals i .served .1 (upload-right up (s .whole) (s .few), (room-enough s, tt)))
 
   -- some words over a buffer, counted otherwise
   counted : (ws before : List ℕ) (n : ℕ) → length ws ≡ n → Overwritten ws before (over ws before) n
   counted ws before n e = subst (Overwritten ws before (over ws before)) e (overwritten ws before)
 
-  pub make-writes : Makes i → MakeWrites i
+  pub make-writes : NotRefused makeSchema i → MakeWrites i
   make-writes m =
       let e = made-so i m in
       record {

@@ -1,12 +1,12 @@
 -- Making tables from an upload: the tests in order, the answer, and the buffers at exit. Assumes nothing: these are definitions.
 use Prim.Native.Nat.{ℕ, _%_}
 use mathlib.Core.Bool.{Bool, _&&_}
-use mathlib.Core.Option.{Option, none, some}
 use mathlib.Core.List.{List, [], _∷_}
 use lib.Dec.{eqb, leb}
 use lib.ListN.{length}
 use Rattle.words.specs.Sequences.{over}
-use Rattle.words.specs.Tests.{Test, firstFailing}
+use Rattle.words.specs.Tests.{Test}
+use Rattle.calls.specs.Calls.{CallSchema, CallResult, resultOfCall}
 use Rattle.tables.specs.Tables.{Tables, columnCount, mostRows}
 use Rattle.uploads.specs.declared.Made.{Made}
 use Rattle.uploads.specs.declared.Made.the-variants.{Words, Refused}
@@ -48,24 +48,16 @@ makeTests i =
     ∷ []
 
 -- ---- what a call answers, and what it leaves
-pub record MakeResult : Type 0 where
-  pub answer : Made
-  pub buffers : MadeBuffers
+abbrev pub MakeResult : Type 0
+MakeResult = CallResult Made MadeBuffers
 
+-- tables and a report, over the first words of the buffers
 abbrev pub madeWith : Tables → List ℕ → MadeBuffers → MakeResult
 madeWith t report b =
     record {
       answer = Words (length (t .rows)) (length (t .pos)) (length (t .osp)) (length report);
       buffers = makeBuffers (over (t .rows) (b .rows)) (over (t .pos) (b .pos)) (over (t .osp) (b .osp)) (over report (b .report));
     }
-
--- a refusal changes nothing
-abbrev pub madeAs : MakeInput → Option ℕ → MakeResult
-madeAs i (some n) = record { answer = Refused n; buffers = i .buffers }
-madeAs i none = madeWith (madeTables (i .upload)) (droppedReport (i .upload)) (i .buffers)
-
-unfoldable pub makeOf : MakeInput → MakeResult
-makeOf i = madeAs i (firstFailing (makeTests i))
 
 -- ---- the numbers and values of an answer
 -- the number of the test that refused a call, 0 where it was served
@@ -86,3 +78,28 @@ noMadeWords = record { rows = 0; pos = 0; osp = 0; report = 0 }
 abbrev pub madeWords : Made → MadeWords
 madeWords (Words rows pos osp report) = record { rows = rows; pos = pos; osp = osp; report = report }
 madeWords (Refused x) = noMadeWords
+
+-- the words of some tables and a report
+abbrev pub makeWordsOf : Tables → List ℕ → MadeWords
+makeWordsOf t report = record { rows = length (t .rows); pos = length (t .pos); osp = length (t .osp); report = length report }
+
+-- ---- the call
+abbrev pub makeSchema : CallSchema MakeInput Made Made MadeBuffers MadeWords
+makeSchema =
+    record {
+      tests = makeTests;
+      numbers = λ i. 15 ∷ 16 ∷ [];
+      lent = λ i. i .buffers;
+      refuses = Refused;
+      serves = λ i. madeWith (madeTables (i .upload)) (droppedReport (i .upload)) (i .buffers) .answer;
+      leaves = λ i. madeWith (madeTables (i .upload)) (droppedReport (i .upload)) (i .buffers) .buffers;
+      counts = λ i. makeWordsOf (madeTables (i .upload)) (droppedReport (i .upload));
+      says = λ a. a;
+      refusal = Refused;
+      tells = madeRefusal;
+      counted = madeWords;
+      nothing = noMadeWords;
+    }
+
+abbrev pub makeOf : MakeInput → MakeResult
+makeOf = resultOfCall makeSchema

@@ -1,14 +1,15 @@
 // The tables that an adviser may see: the call.
 mod within;
 
+use table_answers::TablesWritten;
 use table_tests::check;
 use tables::MOST_ROWS;
 use view_grants::grant_right;
-use views::Viewed;
 use within::view_within;
 ghost use mathlib.Core.Path.{_≡_};
-ghost use Rattle.views.specs.Viewing.{viewInput, viewBuffers, viewCallOf};
-ghost use Rattle.views.specs.Refusals.{ViewAnswers};
+ghost use Rattle.calls.specs.Calls.{AnswersRight};
+ghost use Rattle.table_answers.specs.Writing.{tableBuffers};
+ghost use Rattle.views.specs.Viewing.{viewInput, viewSchema, viewCallOf};
 
 // The tests of the view call after those of the tables, by their numbers.
 pub const GRANT: u32 = 20;
@@ -26,19 +27,19 @@ pub fn view(
     view_rows: &mut [u32],
     view_pos: &mut [u32],
     view_osp: &mut [u32],
-) -> Viewed
-    ensures { λ r. ⌜ record { answer = r; buffers = viewBuffers (now («view_rows» .exit)) (now («view_pos» .exit)) (now («view_osp» .exit)) }
+) -> TablesWritten
+    ensures { λ r. ⌜ record { answer = r; buffers = tableBuffers (now («view_rows» .exit)) (now («view_pos» .exit)) (now («view_osp» .exit)) }
         ≡ viewCallOf (viewInput (now (rows .entry)) (now (pos .entry)) (now (osp .entry)) (now (grant .entry)) membership
         (now («view_rows» .entry)) (now («view_pos» .entry)) (now («view_osp» .entry))) ⌝ }
-    ensures number { λ r. ⌜ ViewAnswers (viewInput (now (rows .entry)) (now (pos .entry)) (now (osp .entry)) (now (grant .entry)) membership
+    ensures number { λ r. ⌜ AnswersRight viewSchema (viewInput (now (rows .entry)) (now (pos .entry)) (now (osp .entry)) (now (grant .entry)) membership
         (now («view_rows» .entry)) (now («view_pos» .entry)) (now («view_osp» .entry))) r ⌝ }
 {
     let refused = check(rows, pos, osp);
     if refused != 0 {
-        return Viewed::Refused(refused);
+        return TablesWritten::Refused(refused);
     }
     if !grant_right(grant) {
-        return Viewed::Refused(GRANT);
+        return TablesWritten::Refused(GRANT);
     }
     let mut marks = [0u32; MOST_ROWS];
     let mut flags = [0u8; MOST_ROWS];

@@ -11,8 +11,7 @@ use Rattle.turns.specs.Opening.{openOf}
 use Rattle.turns.specs.Turns.{turnOf}
 use Rattle.queues.specs.Joining.{joinQueueOf}
 use Rattle.queues.specs.Serving.{serveOf}
-use Rattle.views.specs.Viewing.{ViewBuffers}
-use Rattle.views.specs.Exactness.{tablesSeen}
+use Rattle.table_answers.specs.Writing.{TableBuffers, tablesLeft}
 use Rattle.views.specs.Hidden.{DifferHidden, lending}
 use Rattle.views.proofs.SameCalls.{same-calls}
 use Rattle.view_turns.specs.Adviser.{turnOver, SameQueries, SameToAdviser}
@@ -26,9 +25,9 @@ same-queries v w e =
       serves = λ number l s. ap (λ t. serveOf (underNumber number t) l s) e;
     }
 
-pub same-to-adviser : (grant : List ℕ) (membership : ℕ) (b : ViewBuffers) (t u : Tables) → firstFailing (tableTests t) ≡ none
+pub same-to-adviser : (grant : List ℕ) (membership : ℕ) (b : TableBuffers) (t u : Tables) → firstFailing (tableTests t) ≡ none
     → firstFailing (tableTests u) ≡ none → DifferHidden grant membership t u
     → SameToAdviser (lending grant membership b t) (lending grant membership b u)
 same-to-adviser grant membership b t u p q d =
     let e = same-calls grant membership b t u p q d in
-    record { call = e; queries = same-queries _ _ (ap tablesSeen e) }
+    record { call = e; queries = same-queries _ _ (ap tablesLeft e) }

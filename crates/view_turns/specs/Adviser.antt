@@ -9,8 +9,8 @@ use Rattle.turns.specs.Turns.{TurnInput, turnOf}
 use Rattle.queues.specs.Lists.{LentLists}
 use Rattle.queues.specs.Joining.{Joining, joinQueueOf}
 use Rattle.queues.specs.Serving.{Serving, serveOf}
+use Rattle.table_answers.specs.Writing.{tablesLeft}
 use Rattle.views.specs.Viewing.{ViewInput, viewCallOf}
-use Rattle.views.specs.Exactness.{tablesSeen}
 
 -- a turn over some tables, under a survey's number
 abbrev pub turnOver : ℕ → List ℕ → List ℕ → ℕ → ℕ → List ℕ → List ℕ → Tables → TurnInput
@@ -29,4 +29,4 @@ pub record SameQueries (v w : Tables) : Type 0 where
 -- two view calls answer and write the same, and so do all queries over what they write
 pub record SameToAdviser (i j : ViewInput) : Type 0 where
   pub call : viewCallOf i ≡ viewCallOf j
-  pub queries : SameQueries (tablesSeen (viewCallOf i)) (tablesSeen (viewCallOf j))
+  pub queries : SameQueries (tablesLeft (viewCallOf i)) (tablesLeft (viewCallOf j))

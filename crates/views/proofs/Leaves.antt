@@ -4,14 +4,15 @@ use mathlib.Core.Option.{none}
 use mathlib.Core.List.{List}
 use Prim.Native.Nat.{ℕ}
 use Rattle.words.specs.Tests.{firstFailing}
-use Rattle.words.proofs.Buffers.{take-over}
+use Rattle.calls.specs.Calls.{NotRefused}
 use Rattle.tables.specs.Tables.{Tables, tableTests}
 use Rattle.tables.proofs.MadeTables.{made-accepted}
 use Rattle.tables.proofs.RightTables.{right}
+use Rattle.table_answers.specs.Writing.{tablesLeft}
+use Rattle.table_answers.proofs.Written.{tables-read}
 use Rattle.views.specs.Views.{viewRows, viewOf}
-use Rattle.views.specs.Viewing.{ViewInput, viewIn, ViewBuffers, viewedWith, viewCallOf}
-use Rattle.views.specs.Refusals.{Views}
-use Rattle.views.specs.Exactness.{tablesSeen, ExactlyVisible, ViewRight}
+use Rattle.views.specs.Viewing.{ViewInput, viewIn, viewSchema, viewCallOf}
+use Rattle.views.specs.Exactness.{ExactlyVisible, ViewRight}
 use Rattle.views.proofs.Rows.{view-right}
 use Rattle.views.proofs.Exact.{view-exactly}
 use Rattle.views.proofs.Refusals.{viewed-so}
@@ -22,13 +23,9 @@ pub view-passes : (t : Tables) (grant : List ℕ) (membership : ℕ) → firstFa
     → firstFailing (tableTests (viewOf t grant membership)) ≡ none
 view-passes t grant membership e = made-accepted (viewRows (t .rows) grant membership) (view-right t grant membership (right t e))
 
--- what is read back from the buffers
-read-tables : (t : Tables) (b : ViewBuffers) → tablesSeen (viewedWith t b) ≡ t
-read-tables t b = rw (take-over (t .rows) (b .rows), take-over (t .pos) (b .pos), take-over (t .osp) (b .osp))
-
-module _ (i : ViewInput) (m : Views i) where
-  pub tables-left : tablesSeen (viewCallOf i) ≡ viewIn i
-  tables-left = ap tablesSeen (viewed-so i m) ∙ read-tables (viewIn i) (i .buffers)
+module _ (i : ViewInput) (m : NotRefused viewSchema i) where
+  pub tables-left : tablesLeft (viewCallOf i) ≡ viewIn i
+  tables-left = tables-read (viewIn i) (i .buffers) (viewCallOf i) (viewed-so i m)
 
   pub view-leaves : ViewRight i
   view-leaves =

@@ -4,19 +4,13 @@ use mathlib.Core.Path.{_≡_}
 use mathlib.Core.Bool.{true}
 use mathlib.Core.Option.{none}
 use mathlib.Core.List.{List}
-use lib.ListN.{take}
 use Rattle.words.specs.Tests.{firstFailing}
 use Rattle.tables.specs.declared.Order.the-variants.{Spo}
-use Rattle.tables.specs.Tables.{Tables, tablesOf, rowCount, fieldsOf, tableTests}
+use Rattle.tables.specs.Tables.{Tables, rowCount, fieldsOf, tableTests}
 use Rattle.tables.specs.RowLists.{RowIn}
+use Rattle.table_answers.specs.Writing.{tablesLeft}
 use Rattle.views.specs.Views.{visible}
-use Rattle.views.specs.Viewing.{ViewInput, ViewResult, viewCallOf, viewWords}
-
--- what a call leaves: the first words of its buffers, as many as it answers
-abbrev pub tablesSeen : ViewResult → Tables
-tablesSeen r =
-    let n = viewWords (r .answer) in
-    tablesOf (take (n .rows) (r .buffers .rows)) (take (n .pos) (r .buffers .pos)) (take (n .osp) (r .buffers .osp))
+use Rattle.views.specs.Viewing.{ViewInput, viewCallOf}
 
 -- a visible row of some tables has these fields
 pub record VisibleRow (t : Tables) (grant : List ℕ) (membership : ℕ) (fields : List ℕ) : Type 0 where
@@ -35,5 +29,5 @@ pub record ExactlyVisible (t : Tables) (grant : List ℕ) (membership : ℕ) (v 
 -- ---- what a served call leaves
 pub record ViewRight (i : ViewInput) : Type 0 where
   -- the tests accept the tables
-  pub accepted : firstFailing (tableTests (tablesSeen (viewCallOf i))) ≡ none
-  pub exact : ExactlyVisible (i .tables) (i .grant) (i .membership) (tablesSeen (viewCallOf i))
+  pub accepted : firstFailing (tableTests (tablesLeft (viewCallOf i))) ≡ none
+  pub exact : ExactlyVisible (i .tables) (i .grant) (i .membership) (tablesLeft (viewCallOf i))

@@ -6,8 +6,9 @@ use mathlib.Core.List.{List}
 use Rattle.tables.specs.declared.Order.the-variants.{Spo}
 use Rattle.tables.specs.Tables.{Tables, rowCount, fieldsOf}
 use Rattle.tables.specs.RowLists.{RowIn}
+use Rattle.table_answers.specs.Writing.{TableBuffers}
 use Rattle.views.specs.Views.{visible}
-use Rattle.views.specs.Viewing.{ViewBuffers, ViewInput}
+use Rattle.views.specs.Viewing.{ViewInput}
 
 -- each row that stands in the first tables and not in the second is hidden in the first
 abbrev pub HiddenAlone : List ℕ → ℕ → Tables → Tables → Type 0
@@ -20,5 +21,5 @@ pub record DifferHidden (grant : List ℕ) (membership : ℕ) (t u : Tables) : T
   pub second : HiddenAlone grant membership u t
 
 -- the call for one adviser, with the same buffers, over some tables
-abbrev pub lending : List ℕ → ℕ → ViewBuffers → Tables → ViewInput
+abbrev pub lending : List ℕ → ℕ → TableBuffers → Tables → ViewInput
 lending grant membership b t = record { tables = t; grant = grant; membership = membership; buffers = b }

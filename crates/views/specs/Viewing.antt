@@ -1,33 +1,23 @@
 -- Writing the tables that an adviser may see: the tests in order, the answer, and the buffers at exit. Assumes nothing: these are definitions.
 use Prim.Native.Nat.{ℕ}
 use mathlib.Core.Bool.{Bool, _&&_}
-use mathlib.Core.Option.{Option, none, some}
 use mathlib.Core.List.{List, [], _∷_, _++_}
-use lib.Dec.{eqb, ltb, leb}
-use lib.ListN.{length}
+use lib.Dec.{eqb, ltb}
 use Rattle.words.specs.Words.{termKind, nameKind}
-use Rattle.words.specs.Sequences.{all, neighbours, over}
-use Rattle.words.specs.Tests.{Test, firstFailing}
+use Rattle.words.specs.Sequences.{all, neighbours}
+use Rattle.words.specs.Tests.{Test}
+use Rattle.calls.specs.Calls.{CallSchema, resultOfCall}
 use Rattle.tables.specs.Tables.{Tables, tablesOf, tableTests}
-use Rattle.views.specs.declared.Viewed.{Viewed}
-use Rattle.views.specs.declared.Viewed.the-variants.{Words, Refused}
+use Rattle.table_answers.specs.declared.TablesWritten.{TablesWritten}
+use Rattle.table_answers.specs.Writing.{TableBuffers, tableBuffers, tablesRoom, TablesResult, TableWords, writesTables}
 use Rattle.views.specs.Views.{viewOf}
-
--- the buffers that a call writes to
-pub record ViewBuffers : Type 0 where
-  pub rows : List ℕ
-  pub pos : List ℕ
-  pub osp : List ℕ
-
-abbrev pub viewBuffers : List ℕ → List ℕ → List ℕ → ViewBuffers
-viewBuffers rows pos osp = record { rows = rows; pos = pos; osp = osp }
 
 -- what a call lends
 pub record ViewInput : Type 0 where
   pub tables : Tables
   pub grant : List ℕ
   pub membership : ℕ
-  pub buffers : ViewBuffers
+  pub buffers : TableBuffers
 
 abbrev pub viewInput : List ℕ → List ℕ → List ℕ → List ℕ → ℕ → List ℕ → List ℕ → List ℕ → ViewInput
 viewInput rows pos osp grant membership view-rows view-pos view-osp =
@@ -35,7 +25,7 @@ viewInput rows pos osp grant membership view-rows view-pos view-osp =
       tables = tablesOf rows pos osp;
       grant = grant;
       membership = membership;
-      buffers = viewBuffers view-rows view-pos view-osp;
+      buffers = tableBuffers view-rows view-pos view-osp;
     }
 
 -- what an adviser sees of the lent tables
@@ -50,52 +40,16 @@ isName w = eqb (termKind w) nameKind
 unfoldable pub grantRight : List ℕ → Bool
 grantRight grant = all isName grant && neighbours ltb grant
 
--- 21: each buffer has room for what is written to it
-unfoldable pub viewRoomRight : Tables → ViewBuffers → Bool
-viewRoomRight t b =
-    leb (length (t .rows)) (length (b .rows)) && (leb (length (t .pos)) (length (b .pos)) && leb (length (t .osp)) (length (b .osp)))
-
+-- 20, and then 21: each buffer has room for what is written to it
 abbrev pub viewOwnTests : ViewInput → List Test
-viewOwnTests i = (20, grantRight (i .grant)) ∷ (21, viewRoomRight (viewIn i) (i .buffers)) ∷ []
+viewOwnTests i = (20, grantRight (i .grant)) ∷ (21, tablesRoom (viewIn i) (i .buffers)) ∷ []
 
 abbrev pub viewTests : ViewInput → List Test
 viewTests i = tableTests (i .tables) ++ viewOwnTests i
 
--- ---- what a call answers, and what it leaves
-pub record ViewResult : Type 0 where
-  pub answer : Viewed
-  pub buffers : ViewBuffers
+-- ---- the call
+abbrev pub viewSchema : CallSchema ViewInput TablesWritten TablesWritten TableBuffers TableWords
+viewSchema = writesTables viewTests (1 ∷ 2 ∷ 23 ∷ 3 ∷ 4 ∷ 20 ∷ 21 ∷ []) (λ i. i .buffers) viewIn
 
-abbrev pub viewedWith : Tables → ViewBuffers → ViewResult
-viewedWith t b =
-    record {
-      answer = Words (length (t .rows)) (length (t .pos)) (length (t .osp));
-      buffers = viewBuffers (over (t .rows) (b .rows)) (over (t .pos) (b .pos)) (over (t .osp) (b .osp));
-    }
-
--- a refusal changes nothing
-abbrev pub viewedAs : ViewInput → Option ℕ → ViewResult
-viewedAs i (some n) = record { answer = Refused n; buffers = i .buffers }
-viewedAs i none = viewedWith (viewIn i) (i .buffers)
-
-unfoldable pub viewCallOf : ViewInput → ViewResult
-viewCallOf i = viewedAs i (firstFailing (viewTests i))
-
--- ---- the numbers and values of an answer
--- the number of the test that refused a call, 0 where it was served
-abbrev pub viewRefusal : Viewed → ℕ
-viewRefusal (Words rows pos osp) = 0
-viewRefusal (Refused x) = x
-
--- the words written to each buffer: none by a refused call
-pub record ViewWords : Type 0 where
-  pub rows : ℕ
-  pub pos : ℕ
-  pub osp : ℕ
-
-abbrev pub noViewWords : ViewWords
-noViewWords = record { rows = 0; pos = 0; osp = 0 }
-
-abbrev pub viewWords : Viewed → ViewWords
-viewWords (Words rows pos osp) = record { rows = rows; pos = pos; osp = osp }
-viewWords (Refused x) = noViewWords
+abbrev pub viewCallOf : ViewInput → TablesResult
+viewCallOf = resultOfCall viewSchema

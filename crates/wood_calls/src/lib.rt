@@ -1,17 +1,15 @@
 // Growing a wood: the call.
-use tables::COLUMNS;
+use table_answers::TablesWritten;
+use table_answers::has_room;
 use tables::MOST_ROWS;
 use wood_tables::write_tables;
-use woods::Grown;
 use woods::MOST_STEMS;
 use woods::STEM_ROWS;
 use words::MOST_YEAR;
 ghost use mathlib.Core.Path.{_≡_};
-ghost use Prim.Native.Nat.{_≤_};
-ghost use Rattle.tables.specs.Tables.{mostRows};
-ghost use Rattle.woods.specs.Growing.{growInput, growBuffers, askedRight, growOf};
-ghost use Rattle.woods.specs.Refusals.{GrowAnswers};
-ghost use Rattle.wood_calls.specs.Room.{growRoomFor};
+ghost use Rattle.calls.specs.Calls.{AnswersRight};
+ghost use Rattle.table_answers.specs.Writing.{tableBuffers};
+ghost use Rattle.woods.specs.Growing.{growInput, askedRight, growSchema, growOf};
 
 // The tests of growing a wood, by their numbers.
 pub const ASKED: u32 = 24;
@@ -34,20 +32,6 @@ fn asked_right(stems: u32, year: u32) -> bool
     year <= MOST_YEAR
 }
 
-// Whether buffers of these lengths have room for the rows and for both lists.
-fn has_room(count: usize, rows: usize, pos: usize, osp: usize) -> bool
-    requires { ⌜ count ≤ mostRows ⌝ }
-    ensures { λ r. ⌜ r ≡ growRoomFor count rows pos osp ⌝ }
-{
-    if rows < count * COLUMNS {
-        return false;
-    }
-    if pos < count {
-        return false;
-    }
-    count <= osp
-}
-
 // Writes the wood of a seed, with so many stems in a year. It is refused by the number of the first test that fails, and then nothing is
 // written.
 pub fn grow(
@@ -57,21 +41,21 @@ pub fn grow(
     rows: &mut [u32],
     pos: &mut [u32],
     osp: &mut [u32],
-) -> Grown
-    ensures { λ r. ⌜ record { answer = r; buffers = growBuffers (now (rows .exit)) (now (pos .exit)) (now (osp .exit)) }
+) -> TablesWritten
+    ensures { λ r. ⌜ record { answer = r; buffers = tableBuffers (now (rows .exit)) (now (pos .exit)) (now (osp .exit)) }
         ≡ growOf (growInput seed stems year (now (rows .entry)) (now (pos .entry)) (now (osp .entry))) ⌝ }
-    ensures number { λ r. ⌜ GrowAnswers (growInput seed stems year (now (rows .entry)) (now (pos .entry)) (now (osp .entry))) r ⌝ }
+    ensures number { λ r. ⌜ AnswersRight growSchema (growInput seed stems year (now (rows .entry)) (now (pos .entry)) (now (osp .entry))) r ⌝ }
 {
     if !asked_right(stems, year) {
-        return Grown::Refused(ASKED);
+        return TablesWritten::Refused(ASKED);
     }
     let count = words::wide(stems) * STEM_ROWS;
     if !has_room(count, rows.len(), pos.len(), osp.len()) {
-        return Grown::Refused(ROOM);
+        return TablesWritten::Refused(ROOM);
     }
     let mut spare = [0u32; HALF];
     let end = write_tables(seed, stems, year, count, rows, pos, osp, &mut spare);
-    Grown::Words {
+    TablesWritten::Words {
         rows: end,
         pos: count,
         osp: count,

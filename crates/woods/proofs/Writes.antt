@@ -1,24 +1,22 @@
 -- When a call is served, in counts of stems, and what it then writes.
-use Prim.Native.Nat.{ℕ, _*_, _≤_}
-use mathlib.Core.Path.{_≡_, sym, _∙_, ap, subst, subst⁻¹}
+use Prim.Native.Nat.{ℕ, _≤_}
+use mathlib.Core.Path.{_≡_}
 use mathlib.Core.Logic.{_↔_}
-use mathlib.Core.Bool.{true, _&&_}
-use mathlib.Core.List.{List}
+use mathlib.Core.Bool.{true}
 use lib.Dec.{leb}
-use lib.ListN.{length}
 use borrow.Author.Tests.{le-leb, leb-true}
 use Rattle.words.specs.Words.{mostYear}
-use Rattle.words.specs.Buffers.{Overwritten}
-use Rattle.words.specs.Sequences.{over}
 use Rattle.words.proofs.Booleans.{and-left, and-right}
-use Rattle.words.proofs.Buffers.{overwritten}
 use Rattle.words.proofs.Testing.{test-passed}
+use Rattle.calls.specs.Calls.{NotRefused}
 use Rattle.tables.specs.declared.Order.the-variants.{Pos, Osp}
-use Rattle.tables.specs.Tables.{columnCount}
-use Rattle.woods.specs.Growing.{mostStems, GrowInput, woodIn, askedRight, growRoomRight, growTests, GrowResult, growOf, grownWords}
-use Rattle.woods.specs.Refusals.{rowsFor, Grows, GrowSuffices, GrowWrites}
+use Rattle.table_answers.specs.Counts.{TablesCount}
+use Rattle.table_answers.proofs.Rooms.{room-fits}
+use Rattle.table_answers.proofs.Written.{tables-over}
+use Rattle.woods.specs.Growing.{mostStems, GrowInput, woodIn, askedRight, growTests, growSchema, growOf}
+use Rattle.woods.specs.Refusals.{rowsFor, GrowSuffices, GrowWrites}
 use Rattle.woods.proofs.Lengths.{rows-length, list-counts}
-use Rattle.woods.proofs.Refusals.{grow-serves, grown-so}
+use Rattle.woods.proofs.Refusals.{grown-so, grow-refusals}
 
 -- ---- test 24
 module _ (stems year : ℕ) where
@@ -38,63 +36,31 @@ module _ (stems year : ℕ) where
   unfolding askedRight
   asked-right f b e = rw (le-leb stems mostStems f, le-leb 1 year b, le-leb year mostYear e)
 
--- ---- test 25: what is written has this many words
+-- ---- the call
 module _ (i : GrowInput) where
-  abbrev count : ℕ
-  count = rowsFor (i .stems)
+  pub grow-counts : TablesCount (woodIn i) (rowsFor (i .stems))
+  grow-counts =
+      let n = list-counts (i .seed) (i .stems) (i .year) in
+      record { rows = rows-length (i .seed) (i .stems) (i .year); pos = n Pos; osp = n Osp }
 
-  pub room-right : growRoomRight (woodIn i) (i .buffers)
-      ≡ (leb (rowsFor (i .stems) * columnCount) (length (i .buffers .rows))
-      && (leb (rowsFor (i .stems)) (length (i .buffers .pos)) && leb (rowsFor (i .stems)) (length (i .buffers .osp))))
-  unfolding growRoomRight
-  room-right =
-      rw (
-        rows-length (i .seed) (i .stems) (i .year),
-        list-counts (i .seed) (i .stems) (i .year) Pos,
-        list-counts (i .seed) (i .stems) (i .year) Osp,
-      )
-
-  suffices : Grows i → GrowSuffices i
+  suffices : NotRefused growSchema i → GrowSuffices i
   suffices m =
-      let p = grow-serves i .0 m in
+      let p = grow-refusals i .served .0 m in
       let e = test-passed 24 (growTests i) p in
-      let a = sym room-right ∙ test-passed 25 (growTests i) p in
-      let b = and-right (leb (count * columnCount) (length (i .buffers .rows))) _ a in
       record {
         few = asked-few (i .stems) (i .year) e;
         begun = asked-begun (i .stems) (i .year) e;
         ended = asked-ended (i .stems) (i .year) e;
-        rows = leb-true _ _ (and-left (leb (count * columnCount) (length (i .buffers .rows))) _ a);
-        pos = leb-true _ _ (and-left (leb count (length (i .buffers .pos))) _ b);
-        osp = leb-true _ _ (and-right (leb count (length (i .buffers .pos))) _ b);
+        room = room-fits (woodIn i) (i .buffers) (rowsFor (i .stems)) grow-counts .0 (test-passed 25 (growTests i) p);
       }
-
-  room-enough : GrowSuffices i → growRoomRight (woodIn i) (i .buffers) ≡ true
-  room-enough s =
-      room-right
-      ∙ rw (
-        le-leb (count * columnCount) (length (i .buffers .rows)) (s .rows),
-        le-leb count (length (i .buffers .pos)) (s .pos),
-        le-leb count (length (i .buffers .osp)) (s .osp),
-      )
 
   -- served exactly for stems that are not too many, a year that rows may have, and buffers that are no shorter than what is written
-  pub grow-suffices : Grows i ↔ GrowSuffices i
-  grow-suffices =
-      (suffices, λ s. grow-serves i .1 (asked-right (i .stems) (i .year) (s .few) (s .begun) (s .ended), (room-enough s, tt)))
+  pub grow-suffices : NotRefused growSchema i ↔ GrowSuffices i
+  grow-suffices = (
+    suffices,
+    λ s. let r = room-fits (woodIn i) (i .buffers) (rowsFor (i .stems)) grow-counts .1 (s .room) in
+        grow-refusals i .served .1 (asked-right (i .stems) (i .year) (s .few) (s .begun) (s .ended), (r, tt)),
+  )
 
-  -- some words over a buffer, counted otherwise
-  counted : (ws before : List ℕ) (n : ℕ) → length ws ≡ n → Overwritten ws before (over ws before) n
-  counted ws before n e = subst (Overwritten ws before (over ws before)) e (overwritten ws before)
-
-  pub grow-writes : Grows i → GrowWrites i
-  grow-writes m =
-      let e = grown-so i m in
-      let n = rows-length (i .seed) (i .stems) (i .year) in
-      let l = list-counts (i .seed) (i .stems) (i .year) in
-      record {
-        rows = subst⁻¹ (λ (r : GrowResult). Overwritten (woodIn i .rows) (i .buffers .rows) (r .buffers .rows) (count * columnCount)) e (counted _ _ _ n);
-        pos = subst⁻¹ (λ (r : GrowResult). Overwritten (woodIn i .pos) (i .buffers .pos) (r .buffers .pos) count) e (counted _ _ _ (l Pos));
-        osp = subst⁻¹ (λ (r : GrowResult). Overwritten (woodIn i .osp) (i .buffers .osp) (r .buffers .osp) count) e (counted _ _ _ (l Osp));
-        words = ap (λ (r : GrowResult). grownWords (r .answer)) e ∙ rw (n, l Pos, l Osp);
-      }
+  pub grow-writes : NotRefused growSchema i → GrowWrites i
+  grow-writes m = tables-over (woodIn i) (i .buffers) (growOf i) (grown-so i m) (rowsFor (i .stems)) grow-counts

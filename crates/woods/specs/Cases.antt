@@ -3,11 +3,12 @@ use Prim.Native.Nat.{ℕ}
 use mathlib.Core.Path.{_≡_}
 use mathlib.Core.List.{List, [], _∷_, _++_, map}
 use lib.ListN.{replicate}
+use Rattle.calls.specs.Calls.{NotRefused}
 use Rattle.tables.specs.Tables.{Tables, tablesOf}
-use Rattle.woods.specs.declared.Grown.the-variants.{Words, Refused}
+use Rattle.table_answers.specs.declared.TablesWritten.the-variants.{Words, Refused}
+use Rattle.table_answers.specs.Writing.{tableBuffers, TablesResult}
 use Rattle.woods.specs.Woods.{nextDraw}
-use Rattle.woods.specs.Growing.{GrowInput, growInput, GrowResult, growBuffers, growOf}
-use Rattle.woods.specs.Refusals.{Grows}
+use Rattle.woods.specs.Growing.{GrowInput, growInput, growSchema, growOf}
 
 -- (n1000000, n10, n116) (n1000000, n12, i220) (n1000001, n10, n106) (n1000001, n12, i615), in i2026: the stand n106 comes before n116
 abbrev pub firstStems : Tables
@@ -26,8 +27,8 @@ abbrev pub NotGrownBy : ℕ → GrowInput → Type 0
 NotGrownBy x i = growOf i ≡ record { answer = Refused x; buffers = i .buffers }
 
 -- the answer and the buffers at exit
-abbrev pub leaving : ℕ → ℕ → ℕ → List ℕ → List ℕ → List ℕ → GrowResult
-leaving a b c rows pos osp = record { answer = Words a b c; buffers = growBuffers rows pos osp }
+abbrev pub leaving : ℕ → ℕ → ℕ → List ℕ → List ℕ → List ℕ → TablesResult
+leaving a b c rows pos osp = record { answer = Words a b c; buffers = tableBuffers rows pos osp }
 
 -- three stems of the greatest seed, in the first year: (n1000000, n10, n105) (n1000000, n12, i331) (n1000001, n10, n115) (n1000001, n12, i563)
 -- (n1000002, n10, n109) (n1000002, n12, i304). With those of seed 1 their stands are drawn as 15496 33046 15445 8835 47029 and their diameters as
@@ -53,8 +54,8 @@ pub record GrowingWorked : Type 0 where
   pub no-stems : growOf (growCall 1 0 2026 1 1 1) ≡ leaving 0 0 0 (9 ∷ []) (8 ∷ []) (7 ∷ [])
   pub no-room-asked : growOf (growCall 1 0 2026 0 0 0) ≡ leaving 0 0 0 [] [] []
   -- the most stems, in the first year and in the last
-  pub most-stems : (seed : ℕ) → Grows (growCall seed 32768 1 262144 65536 65536)
-  pub last-year : (seed : ℕ) → Grows (growCall seed 32768 9999 262144 65536 65536)
+  pub most-stems : (seed : ℕ) → NotRefused growSchema (growCall seed 32768 1 262144 65536 65536)
+  pub last-year : (seed : ℕ) → NotRefused growSchema (growCall seed 32768 9999 262144 65536 65536)
   -- 24: one stem more, a year before the first, one past the last, and the first year as a number's word
   pub one-more : NotGrownBy 24 (growCall 1 32769 2026 0 0 0)
   pub year-before : NotGrownBy 24 (growCall 1 2 0 16 4 4)

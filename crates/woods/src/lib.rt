@@ -1,10 +1,4 @@
-// A wood made to measure: tables of stems drawn from a seed. What growing one answers, and the numbers it is made of.
-
-// What growing a wood answers: the words written to each buffer, or the number of the test that refused it.
-pub enum Grown {
-    Words { rows: usize, pos: usize, osp: usize },
-    Refused(u32),
-}
+// A wood made to measure: tables of stems drawn from a seed. The numbers it is made of.
 
 // How many stems a wood has at most.
 pub const MOST_STEMS: u32 = 32768;

@@ -20,8 +20,9 @@ use Rattle.merges.specs.Merging.{MergeInput, MergeResult, mergeOf}
 use Rattle.cuts.specs.Uncut.{runList}
 use Rattle.uploads.specs.declared.Made.the-variants as answer
 use Rattle.uploads.specs.Making.{MakeInput, MakeResult, makeOf}
-use Rattle.views.specs.declared.Viewed.the-variants as view
-use Rattle.views.specs.Viewing.{ViewInput, ViewResult, viewCallOf}
+use Rattle.table_answers.specs.declared.TablesWritten.the-variants as tables
+use Rattle.table_answers.specs.Writing.{TablesResult}
+use Rattle.views.specs.Viewing.{ViewInput, viewCallOf}
 
 -- the six calls; the uncut run after n steps, with its list; and the tests of a turn alone, for a turn too long to compute
 pub data Call : Type 0 where
@@ -40,7 +41,7 @@ pub data Result : Type 0 where
   merged : MergeResult → Result
   reported : ReportResult → Result
   made : MakeResult → Result
-  viewed : ViewResult → Result
+  viewed : TablesResult → Result
   ran : Option State → List ℕ → Result
   -- the number of the first test that fails, none where all pass
   tested : Option ℕ → Result
@@ -115,4 +116,4 @@ abbrev pub notMade : MakeInput → ℕ → Case
 notMade i x = (making i, made (record { answer = answer.Refused x; buffers = i .buffers }))
 
 abbrev pub notViewed : ViewInput → ℕ → Case
-notViewed i x = (viewing i, viewed (record { answer = view.Refused x; buffers = i .buffers }))
+notViewed i x = (viewing i, viewed (record { answer = tables.Refused x; buffers = i .buffers }))

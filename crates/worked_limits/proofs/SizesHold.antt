@@ -7,6 +7,7 @@ use lib.Dec.{eqb, leb}
 use lib.ListN.{replicate, length-replicate}
 use Rattle.words.specs.declared.Written.the-variants.{Refused}
 use Rattle.words.specs.Tests.{firstFailing}
+use Rattle.calls.specs.Calls.{resultOfCall}
 use Rattle.tables.specs.Tables.{Tables, mostRows, columnCount, lengthsRight}
 use Rattle.turns.specs.Opening.{openOf}
 use Rattle.uploads.specs.declared.Made.the-variants as made
@@ -36,7 +37,7 @@ unfolding uploadRight
 uploaded n = simp (length-replicate)
 
 by-fifteen : (i : MakeInput) → uploadRight (i .upload) ≡ false → makeOf i ≡ record { answer = made.Refused 15; buffers = i .buffers }
-unfolding makeOf firstFailing
+unfolding resultOfCall firstFailing
 by-fifteen i e = rw (e) refl
 
 pub upload-limit : UploadLimit

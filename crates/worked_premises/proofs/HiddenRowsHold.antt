@@ -3,7 +3,7 @@ use Prim.Native.Nat.{ℕ, zero, suc}
 use native.Mathlib.Omega.{arith}
 use mathlib.Core.Path.{_≡_, refl}
 use mathlib.Core.List.{[], _∷_}
-use Rattle.views.specs.Viewing.{ViewBuffers}
+use Rattle.table_answers.specs.Writing.{TableBuffers}
 use Rattle.views.specs.Hidden.{HiddenAlone, lending}
 use Rattle.view_turns.specs.Adviser.{SameToAdviser}
 use Rattle.view_turns.proofs.Adviser.{same-to-adviser}
@@ -34,6 +34,6 @@ pub hidden-differ : HiddenDiffer
 unfolding computing
 hidden-differ = record { first = refl; second = refl; six = refl; three = refl; hidden = record { first = stems-hidden; second = fifth-hidden } }
 
-pub same-second : (b : ViewBuffers) → SameToAdviser (lending (2 ∷ []) 10 b stems) (lending (2 ∷ []) 10 b secondAndFifth)
+pub same-second : (b : TableBuffers) → SameToAdviser (lending (2 ∷ []) 10 b stems) (lending (2 ∷ []) 10 b secondAndFifth)
 same-second b =
     same-to-adviser (2 ∷ []) 10 b stems secondAndFifth (hidden-differ .first) (hidden-differ .second) (hidden-differ .hidden)

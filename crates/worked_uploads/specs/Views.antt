@@ -3,18 +3,19 @@ use Prim.Native.Nat.{ℕ}
 use mathlib.Core.List.{List, [], _∷_}
 use lib.ListN.{replicate}
 use Rattle.tables.specs.Tables.{Tables, tablesOf}
-use Rattle.views.specs.Viewing.{ViewInput, viewBuffers, viewedWith}
+use Rattle.table_answers.specs.Writing.{tableBuffers, writtenWith}
+use Rattle.views.specs.Viewing.{ViewInput}
 use Rattle.worked_cases.specs.Calls.{viewing, viewed, Case, notViewed}
 use Rattle.worked_cases.specs.Literals.{stems}
 
 -- ---- short forms. Buffers of so many words hold 9 in rows, 8 in POS and 7 in OSP before the call
 abbrev pub viewCall : Tables → List ℕ → ℕ → ℕ → ℕ → ℕ → ViewInput
 viewCall t grant membership rows pos osp =
-    record { tables = t; grant = grant; membership = membership; buffers = viewBuffers (replicate rows 9) (replicate pos 8) (replicate osp 7) }
+    record { tables = t; grant = grant; membership = membership; buffers = tableBuffers (replicate rows 9) (replicate pos 8) (replicate osp 7) }
 
 -- a served call: the view's tables over what the buffers held
 abbrev pub viewCase : ViewInput → Tables → Case
-viewCase i t = (viewing i, viewed (viewedWith t (i .buffers)))
+viewCase i t = (viewing i, viewed (writtenWith t (i .buffers)))
 
 abbrev pub hidden : Tables
 hidden = tablesOf [] [] []

@@ -3,9 +3,10 @@ use Prim.Native.Nat.{ℕ, _+_, _/_, _≤_}
 use native.Mathlib.Omega.{arith}
 use mathlib.Core.Path.{_≡_}
 use lib.ListN.{length, replicate, length-replicate}
+use Rattle.calls.proofs.Refusals.{call-told}
 use Rattle.tables.specs.Tables.{mostRows}
-use Rattle.uploads.specs.Making.{MakeInput, makeInput}
-use Rattle.uploads.proofs.Refusals.{make-told}
+use Rattle.uploads.specs.Making.{MakeInput, makeInput, makeSchema}
+use Rattle.uploads.proofs.Refusals.{make-is-right}
 use Rattle.uploads.proofs.Writes.{upload-right}
 use Rattle.upload_calls.proofs.Outcome.{upload-parts, upload-many, wrong-upload}
 use borrow.Author.Needs.{needs}
@@ -22,12 +23,12 @@ lent s = makeInput (s .args .upload .now) (s .args .rows .now) (s .args .pos .no
 returns : tie.Need-returns
 returns c =
     let s = c .before .before .before .before .before .before in
-    make-told (lent s) (wrong-upload (lent s) (upload-parts (s .args .upload .now) (c .if1 .taken)))
+    call-told makeSchema make-is-right (lent s) (wrong-upload (lent s) (upload-parts (s .args .upload .now) (c .if1 .taken)))
 
 returns-2 : tie.Need-returns-2
 returns-2 c =
     let s = c .before .before .before .before .before .before .before in
-    make-told (lent s) (wrong-upload (lent s) (upload-many (s .args .upload .now) (c .before .if1 .left) (c .if2 .taken)))
+    call-told makeSchema make-is-right (lent s) (wrong-upload (lent s) (upload-many (s .args .upload .now) (c .before .if1 .left) (c .if2 .taken)))
 
 slice-aggregate-make-within : tie.Need-slice-aggregate-make-within
 slice-aggregate-make-within c = search needs
@@ -62,8 +63,8 @@ same-length-4 c = search needs
 returns-3 : tie.Need-returns-3
 returns-3 c =
     let m = c .before .before .before .before .before .before .before .before .before .before .before in
-    make-told (lent (m .before .before .before .before .before .before .before .before .before .before .before .before .before .before .before))
-    (m .make-within .ensures)
+    let s = m .before .before .before .before .before .before .before .before .before .before .before .before .before .before .before in
+    call-told makeSchema make-is-right (lent s) (m .make-within .ensures)
 
 pub make-spec : {M : Type 1} → statement M
 make-spec =

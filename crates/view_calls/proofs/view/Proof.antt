@@ -4,10 +4,11 @@ use Prim.Native.Nat.{ℕ}
 use mathlib.Core.Path.{sym, _∙_}
 use lib.ListN.{length-replicate}
 use borrow.Author.Tests.{not-true, not-false}
+use Rattle.calls.proofs.Refusals.{call-told}
 use Rattle.tables.specs.Tables.{Tables, tablesOf, mostRows}
 use Rattle.tables.proofs.RightTables.{all-pass, checked}
-use Rattle.views.specs.Viewing.{ViewInput, viewInput}
-use Rattle.views.proofs.Refusals.{view-told}
+use Rattle.views.specs.Viewing.{ViewInput, viewInput, viewSchema}
+use Rattle.views.proofs.Refusals.{view-is-right}
 use Rattle.view_calls.proofs.Shown.{none-flagged}
 use Rattle.view_calls.proofs.Outcome.{wrong-tables, wrong-grant}
 use Rattle.view_calls.proofs.view.Statement.{statement}
@@ -28,7 +29,7 @@ returns : tie.Need-returns
 returns c =
     let k = c .before in
     let s = c .before .before .before .before .before .before .before .before .before in
-    view-told (lent s) (wrong-tables (lent s) (k .check .result) (k .check .ensures) (c .if1 .taken))
+    call-told viewSchema view-is-right (lent s) (wrong-tables (lent s) (k .check .result) (k .check .ensures) (c .if1 .taken))
 
 grant-right-requires : tie.Need-grant-right-requires
 grant-right-requires c κs = search needs
@@ -38,7 +39,7 @@ returns-2 c =
     let g = c .before in
     let e = g .before in
     let s = c .before .before .before .before .before .before .before .before .before .before .before in
-    view-told (lent s)
+    call-told viewSchema view-is-right (lent s)
     (wrong-grant (lent s) (all-pass (tables s) (sym (e .before .check .ensures) ∙ e .if1 .left))
     (sym (g .grant-right .ensures) ∙ not-true (g .grant-right .result) (c .if2 .taken)))
 
@@ -75,7 +76,7 @@ returns-3 : tie.Need-returns-3
 returns-3 c =
     let w = c .before .before .before .before .before .before .before .before in
     let s = w .before .before .before .before .before .before .before .before .before .before .before .before .before .before .before .before .before in
-    view-told (lent s) (w .view-within .ensures)
+    call-told viewSchema view-is-right (lent s) (w .view-within .ensures)
 
 pub view-spec : {M : Type 1} → statement M
 view-spec =

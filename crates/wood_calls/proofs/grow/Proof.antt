@@ -1,17 +1,20 @@
 -- `grow` meets its contract.
 use Prim.Native.Nat.{ℕ, _+_, _*_, _/_, _≤_}
 use native.Mathlib.Omega.{arith}
-use mathlib.Core.Path.{_≡_, sym, _∙_}
+use mathlib.Core.Path.{_≡_, sym, _∙_, ap}
 use mathlib.Core.Bool.{true}
 use lib.ListN.{length, replicate, length-replicate}
 use borrow.Author.Tests.{not-true, not-false}
-use Rattle.tables.specs.Tables.{mostRows}
-use Rattle.woods.specs.Growing.{GrowInput, growInput, askedRight}
+use Rattle.calls.proofs.Refusals.{call-told}
+use Rattle.tables.specs.Tables.{columnCount, mostRows}
+use Rattle.table_answers.specs.Counts.{tablesRoomFor}
+use Rattle.table_answers.proofs.Rooms.{room-parts}
+use Rattle.table_answers.proofs.Written.{same-result}
+use Rattle.woods.specs.Growing.{GrowInput, growInput, woodIn, askedRight, growSchema}
 use Rattle.woods.specs.Refusals.{rowsFor}
-use Rattle.woods.proofs.Refusals.{grow-told}
-use Rattle.woods.proofs.Writes.{asked-few, asked-ended}
-use Rattle.wood_calls.specs.Room.{growRoomFor}
-use Rattle.wood_calls.proofs.Outcome.{wrong-asked, no-room, served, room-parts, same-result}
+use Rattle.woods.proofs.Refusals.{grow-is-right}
+use Rattle.woods.proofs.Writes.{asked-few, asked-ended, grow-counts}
+use Rattle.wood_calls.proofs.Outcome.{wrong-asked, no-room, served}
 use borrow.Author.Needs.{needs}
 use Rattle.wood_calls.proofs.grow.Statement.{statement}
 use Rattle.wood_calls.proofs.grow.Tie as tie
@@ -44,7 +47,7 @@ few w = omega (arith, counted w, asked-few (start w .args .stems) (start w .args
 
 -- ---- past test 25
 has : (e : tie.Else2) → let w = e .before .before in let a = start w .args in
-    growRoomFor (count w) (length (a .rows .now)) (length (a .pos .now)) (length (a .osp .now)) ≡ true
+    tablesRoomFor (count w) (length (a .rows .now)) (length (a .pos .now)) (length (a .osp .now)) ≡ true
 has e = sym (e .before .has-room .ensures) ∙ not-false (e .before .has-room .result) (e .if2 .left)
 
 asked-right-requires : tie.Need-asked-right-requires
@@ -54,7 +57,7 @@ returns : tie.Need-returns
 returns c =
     let k = c .before in
     let s = c .before .before .before .before .before in
-    grow-told (lent s) (wrong-asked (lent s) (sym (k .asked-right .ensures) ∙ not-true (k .asked-right .result) (c .if1 .taken)))
+    call-told growSchema grow-is-right (lent s) (wrong-asked (lent s) (sym (k .asked-right .ensures) ∙ not-true (k .asked-right .result) (c .if1 .taken)))
 
 wide-requires : tie.Need-wide-requires
 wide-requires c κs = search needs
@@ -69,7 +72,7 @@ returns-2 : tie.Need-returns-2
 returns-2 c =
     let w = c .before .before in
     let s = start w in
-    grow-told (lent s)
+    call-told growSchema grow-is-right (lent s)
     (no-room (lent s) (asked w) (count w) (counted w)
     (sym (c .before .has-room .ensures) ∙ not-true (c .before .has-room .result) (c .if2 .taken)))
 
@@ -105,8 +108,9 @@ returns-3 c =
     let w = e .before .before in
     let s = start w in
     let g = t .write-tables .ensures in
-    grow-told (lent s)
-    (same-result (lent s) (t .write-tables .result) (count w) _ _ _ (g .0) (counted w) (g .1 .0) (g .1 .1 .0) (g .1 .1 .1)
+    call-told growSchema grow-is-right (lent s)
+    (same-result (woodIn (lent s)) (lent s .buffers) (rowsFor (lent s .stems)) (grow-counts (lent s)) (t .write-tables .result) (count w) _ _ _
+    (g .0 ∙ ap (λ n. n * columnCount) (counted w)) (counted w) (g .1 .0) (g .1 .1 .0) (g .1 .1 .1)
     ∙ served (lent s) (asked w) (count w) (counted w) (has e))
 
 pub grow-spec : {M : Type 1} → statement M

@@ -1,6 +1,6 @@
 -- `view_within` meets its contract: the rows are marked and counted, the room is tested, and then all is written.
 use borrow.Author.Needs.{needs}
-use Prim.Native.Nat.{ℕ, _≤_}
+use Prim.Native.Nat.{ℕ, _*_, _≤_}
 use mathlib.Core.Path.{_≡_, sym, ap, _∙_}
 use mathlib.Core.List.{List}
 use mathlib.Core.Bool.{true}
@@ -8,11 +8,14 @@ use native.Mathlib.Omega.{arith}
 use lib.ListN.{length}
 use borrow.Author.Tests.{not-true, not-false}
 use Rattle.words.specs.Sequences.{over}
-use Rattle.tables.specs.Tables.{Tables, tablesOf, rowCount, mostRows}
+use Rattle.tables.specs.Tables.{Tables, tablesOf, columnCount, rowCount, mostRows}
 use Rattle.tables.proofs.RightTables.{accepted}
+use Rattle.table_answers.specs.Counts.{tablesRoomFor, RowsFit}
+use Rattle.table_answers.proofs.Rooms.{room-parts}
+use Rattle.table_answers.proofs.Written.{same-result}
 use Rattle.views.specs.Viewing.{ViewInput, viewInput, viewIn}
 use Rattle.views.proofs.Lengths.{view-most}
-use Rattle.views.proofs.Writes.{pos-words, osp-words}
+use Rattle.views.proofs.Writes.{view-counts}
 use Rattle.views.specs.Views.{visible}
 use Rattle.views.specs.Refusals.{seenIn}
 use Rattle.view_marks.specs.Marks.{marksOf}
@@ -20,8 +23,7 @@ use Rattle.view_marks.proofs.Visible.{number-visible, marks-visible}
 use Rattle.view_grants.proofs.Grants.{right-ascends}
 use Rattle.views.specs.Renumbered.{passedBefore}
 use Rattle.view_writes.specs.Writing.{shownBy, shownWords, shownNumbers}
-use Rattle.view_calls.specs.Room.{viewRoomFor}
-use Rattle.view_calls.proofs.Outcome.{ViewRoomParts, room-parts, no-room, served, same-result}
+use Rattle.view_calls.proofs.Outcome.{no-room, served}
 use Rattle.view_calls.proofs.Shown.{rows-right, pos-named, osp-named, shown-count, shown-rows, shown-pos, shown-osp}
 use Rattle.view_calls.proofs.within.view_within.Statement.{statement}
 use Rattle.view_calls.proofs.within.view_within.Tie as tie
@@ -103,11 +105,11 @@ abbrev marked : tie.Else1 → Marks
 marked e = e .before .before .before .before
 
 has : (e : tie.Else1) → let a = start (marked e) .args in
-    viewRoomFor (marked e .mark .result) (length (a .view-rows .now)) (length (a .view-pos .now)) (length (a .view-osp .now)) ≡ true
+    tablesRoomFor (marked e .mark .result) (length (a .view-rows .now)) (length (a .view-pos .now)) (length (a .view-osp .now)) ≡ true
 has e = sym (e .before .has-room .ensures) ∙ not-false (e .before .has-room .result) (e .if1 .left)
 
 fits : (e : tie.Else1) → let a = start (marked e) .args in
-    ViewRoomParts (marked e .mark .result) (length (a .view-rows .now)) (length (a .view-pos .now)) (length (a .view-osp .now))
+    RowsFit (marked e .mark .result) (length (a .view-rows .now)) (length (a .view-pos .now)) (length (a .view-osp .now))
 fits e = room-parts _ _ _ _ (has e)
 
 flag-members-requires : tie.Need-flag-members-requires
@@ -155,7 +157,7 @@ write-numbers-requires c κs =
     let m = marked e in
     let s = start m in (
       pos-named (tables s) (s .pre .0) (length (marks m)) (marks-there m),
-      (counted m ∙ sym (ap length (pos-are m) ∙ pos-words (lent s)), fits e .for-pos, seen-few m),
+      (counted m ∙ sym (ap length (pos-are m) ∙ view-counts (lent s) .pos), fits e .for-pos, seen-few m),
     )
 
 write-numbers-requires-2 : tie.Need-write-numbers-requires-2
@@ -164,7 +166,7 @@ write-numbers-requires-2 c κs =
     let m = marked e in
     let s = start m in (
       osp-named (tables s) (s .pre .0) (length (marks m)) (marks-there m),
-      (counted m ∙ sym (ap length (osp-are m) ∙ osp-words (lent s)), fits e .for-osp, seen-few m),
+      (counted m ∙ sym (ap length (osp-are m) ∙ view-counts (lent s) .osp), fits e .for-osp, seen-few m),
     )
 
 mul-t20 : tie.Need-mul-t20
@@ -195,7 +197,8 @@ returns-2 c =
     let r = c .before .before .before .before .before .before .before .before .before .before .before .before .write-rows in
     let p = c .before .before .before .before .before .before .before .write-numbers in
     let o = c .before .before .write-numbers2 in
-    same-result (lent s) (m .mark .result) (r .last .1 .1 .1 .0) (p .last .1 .1 .1 .0) (o .last .1 .1 .1 .0) (counted m)
+    same-result (viewIn (lent s)) (lent s .buffers) (seenIn (lent s)) (view-counts (lent s)) _ _
+    (r .last .1 .1 .1 .0) (p .last .1 .1 .1 .0) (o .last .1 .1 .1 .0) (ap (λ n. n * columnCount) (counted m)) (counted m)
     (r .ensures ∙ ap (λ ws. over ws (s .args .view-rows .now)) (rows-are m))
     (p .ensures ∙ ap (λ ws. over ws (s .args .view-pos .now)) (pos-are m))
     (o .ensures ∙ ap (λ ws. over ws (s .args .view-osp .now)) (osp-are m))

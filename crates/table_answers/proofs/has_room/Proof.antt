@@ -2,9 +2,9 @@
 use borrow.Author.Needs.{needs}
 use mathlib.Core.Path.{sym}
 use lib.ListN.{length}
-use Rattle.wood_calls.proofs.Outcome.{no-rows, no-pos, by-osp}
-use Rattle.wood_calls.proofs.has_room.Statement.{statement}
-use Rattle.wood_calls.proofs.has_room.Tie as tie
+use Rattle.table_answers.proofs.Rooms.{no-rows, no-pos, by-osp}
+use Rattle.table_answers.proofs.has_room.Statement.{statement}
+use Rattle.table_answers.proofs.has_room.Tie as tie
 
 mul-if1 : tie.Need-mul-if1
 mul-if1 c = search needs
