@@ -8,7 +8,6 @@ use mathlib.Core.List.{List, [], _∷_}
 use lib.ListN.{length, getD, take, drop, length-drop}
 use lib.Seq.{drop-drop, getD-drop}
 use lib.Dec.{eqb, leb}
-use borrow.Author.Tests.{eq-eqb, ne-eqb}
 use Rattle.words.specs.Words.{kind, low, trueKind, andKind, orKind, notKind, comparisonKind, atLeast}
 use Rattle.words.specs.Bindings.{Bindings}
 use Rattle.words.proofs.Booleans.{absurd-true}

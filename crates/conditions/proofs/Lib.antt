@@ -1,5 +1,4 @@
 pub mod ComparisonCases
-pub mod ComparisonLaws
 pub mod Reading
 pub mod Places
 pub mod Skipping

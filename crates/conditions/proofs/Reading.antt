@@ -19,18 +19,6 @@ use Rattle.conditions.specs.Evaluated.{comparisonsIn}
 pub rest-of : (l : List ℕ) (a : ℕ) → take (length l - a) (drop a l) ≡ drop a l
 rest-of l a = take-all (length l - a) (drop a l) (simp length-drop (omega arith))
 
--- ---- no condition
-pub no-depth : (d : ℕ) (ws : List ℕ) → d ≡ 0 → readCondition d ws ≡ none
-unfolding readCondition
-no-depth zero ws h = refl
-no-depth (suc d) ws h = absurd (omega arith)
-
-pub no-words : (d : ℕ) (ws : List ℕ) → length ws ≡ 0 → readCondition d ws ≡ none
-unfolding readCondition
-no-words zero ws h = refl
-no-words (suc d) [] h = refl
-no-words (suc d) (w ∷ ws) h = absurd (omega arith)
-
 -- ---- the first word begins a node, and the depth that is left allows one
 pub record Begins (d : ℕ) (ws : List ℕ) (n : Node) : Type 0 where
   pub deep : d ≡ 0 → ⊥

@@ -1,7 +1,7 @@
 -- Reading the short side first changes no value, and what is read and what is skipped are all comparisons of the tree.
 use Prim.Native.Nat.{ℕ, _+_}
 use native.Mathlib.Omega.{arith}
-use mathlib.Core.Path.{_≡_, refl, sym, _∙_, ap, ap₂}
+use mathlib.Core.Path.{_≡_, refl, _∙_, ap, ap₂}
 use mathlib.Core.Bool.{Bool, true, false, cond, _&&_}
 use Rattle.words.specs.Bindings.{Bindings}
 use Rattle.plans.specs.Conditions.{Condition, always, both, either, negated, compared}

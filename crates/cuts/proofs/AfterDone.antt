@@ -17,7 +17,6 @@ use Rattle.merges.specs.Merging.{MergeResult, mergeOf}
 use Rattle.cuts.specs.Histories.{Event, turns, merges, joins, Phone, ServedTurn, servedIn, doneIn, turnInputOf, servedOf, afterTurn, afterTaking}
 use Rattle.cuts.specs.Histories.{mergeInputOf, afterMerge, afterMerging, afterJoin, afterJoining, happens, history, fresh}
 use Rattle.cuts.specs.Premises.{Premises}
-use Rattle.cuts.specs.Uncut.{AsUncut}
 use Rattle.cuts.specs.AfterDone.{NoTurnServed}
 use Rattle.cuts.proofs.AnyCut.{any-cut}
 

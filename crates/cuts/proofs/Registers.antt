@@ -1,7 +1,6 @@
 -- Demand 3 of registers: in every history those merged so far are the uncut run's, up to where the last list taken ended; and a report counts those.
 use Prim.Native.Nat.{ℕ, zero, suc}
-use mathlib.Core.Path.{_≡_, refl, sym, _∙_, ap, subst, subst⁻¹}
-use mathlib.Core.Bool.{true}
+use mathlib.Core.Path.{_≡_, sym, _∙_, ap, subst, subst⁻¹}
 use mathlib.Core.List.{List, [], map}
 use Rattle.words.specs.Sequences.{iterate, numbers}
 use Rattle.tables.specs.Tables.{Tables}
@@ -18,7 +17,7 @@ use Rattle.prunings.proofs.Sending.{KeepsNoBest, of-registers}
 use Rattle.turns.specs.Surveys.{Survey}
 use Rattle.turns.specs.Opening.{openOf, Opens}
 use Rattle.turns.specs.Turns.{isOver}
-use Rattle.cuts.specs.Histories.{Event, Phone, stepsIn, history, fresh}
+use Rattle.cuts.specs.Histories.{Event, history, fresh}
 use Rattle.cuts.specs.Premises.{Premises}
 use Rattle.cuts.specs.Uncut.{runList, keptAfter}
 use Rattle.cuts.specs.Registers.{runRegisters, RegistersSoFar}

@@ -13,7 +13,7 @@ use Rattle.lists.specs.Gathering.{isRows}
 use Rattle.turns.specs.Surveys.{Survey}
 use Rattle.turns.specs.declared.TurnEnding.{TurnEnding}
 use Rattle.turns.specs.declared.TurnEnding.the-variants as ending
-use Rattle.turns.specs.Opening.{Opened, openOf}
+use Rattle.turns.specs.Opening.{Opened}
 use Rattle.turns.specs.Turns.{isDone, TurnInput, TurnResult, turnOf}
 use Rattle.merges.specs.Merging.{MergeInput, MergeResult, mergeOf}
 

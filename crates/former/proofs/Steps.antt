@@ -18,7 +18,7 @@ use Rattle.steps.specs.Machines.{moves, delivers, ends, goesOn}
 use Rattle.steps.specs.Positions.{Position, startOf, onward, opened, afterBranch, leave, deepest, passed, stepIn, positionStep}
 use Rattle.steps.proofs.MachineRuns.{RowPasses}
 use Rattle.steps.specs.Years.{nextYear}
-use Rattle.steps.specs.Steps.{State, Step, inYear, startNext, toNext, step}
+use Rattle.steps.specs.Steps.{State, inYear, startNext, toNext, step}
 use Rattle.former.specs.Runs.{unconditioned, keepingAll, sifted, stepBy}
 
 -- ---- the branches of the plan that keeps every row

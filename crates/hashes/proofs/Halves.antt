@@ -2,7 +2,7 @@
 use Prim.Native.Nat.{ℕ, _+_, _*_, _/_, _%_, _^_, _<_}
 use native.Mathlib.Omega.{arith}
 use native.Mathlib.Nat.{add-mul, mul-add, mul-assoc, mul-comm, mul-le-mul-left, mul-lt-mul-of-pos-right, lt-of-le-of-lt, le-of-lt}
-use mathlib.Core.Path.{_≡_, refl, sym, _∙_, ap, ap₂, subst⁻¹}
+use mathlib.Core.Path.{_≡_, sym, _∙_, ap, ap₂, subst⁻¹}
 use lib.Pow.{pow-pos, pow-add}
 
 pub below : (k : ℕ) {a b : ℕ} → a < 2 ^ k → b < 2 ^ k → a * b < 2 ^ (k + k)

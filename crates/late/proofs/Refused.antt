@@ -17,7 +17,7 @@ use Rattle.words.specs.Tests.{AllPass, firstFailing}
 use Rattle.words.proofs.Booleans.{absurd-true, and-left, and-right, and-both}
 use Rattle.words.proofs.Elements.{all-getD, all-at}
 use Rattle.words.proofs.Testing.{none-some, some-injective, all-passes, fails-first, first-append, orElse}
-use Rattle.plans.specs.Endings.{Ending, rows, top, group, registers}
+use Rattle.plans.specs.Endings.{Ending, top, group, registers}
 use Rattle.plans.specs.Conditions.{next}
 use Rattle.plans.specs.Plans.{planOf, planTests}
 use Rattle.lists.specs.Gathering.{isRows, merged, listRight, keptRight, totalsFit}

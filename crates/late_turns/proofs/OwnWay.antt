@@ -2,10 +2,8 @@
 use Prim.Native.Nat.{ℕ, suc, _<_, _≤_}
 use native.Mathlib.Omega.{arith}
 use mathlib.Core.Path.{_≡_, refl, sym, _∙_, ap, ap₂, subst}
-use mathlib.Core.Bool.{true, false}
 use mathlib.Core.Option.{Option, some}
-use mathlib.Core.List.{List, [], _∷_, _++_, map, map-append, append-assoc}
-use lib.Dec.{ltb}
+use mathlib.Core.List.{List, [], _∷_, _++_, map, map-append}
 use lib.ListN.{length, getD, length-map, length-append, List·getD-append}
 use lib.Seq.{getD-append-seam}
 use borrow.Author.Tests.{ltb-true}
@@ -25,7 +23,7 @@ use Rattle.turns.specs.declared.TurnEnding.the-variants as ending
 use Rattle.turns.specs.Opening.{Opened}
 use Rattle.turns.specs.Turns.{turnOf}
 use Rattle.cuts.specs.Histories.{Event, turns, merges, joins, ServedTurn, Phone, servedIn, turnInputOf, servedOf, afterServed, afterTurn}
-use Rattle.cuts.specs.Histories.{afterTaking, mergeInputOf, afterMerge, afterMerging, afterJoin, afterJoining, happens, history, fresh}
+use Rattle.cuts.specs.Histories.{mergeInputOf, afterMerge, afterMerging, afterJoin, afterJoining, happens, history, fresh}
 use Rattle.cuts.specs.Premises.{listsIn}
 use Rattle.cuts.specs.Uncut.{MergesLists}
 use Rattle.cuts.proofs.Keeping.{served-more, same-served}

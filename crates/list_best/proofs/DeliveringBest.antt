@@ -1,5 +1,5 @@
 -- A delivered row taken up into a best-of list: only where it is ahead of the threshold, and then it is put in.
-use Prim.Native.Nat.{ℕ, _+_, _*_, _≤_, _<_}
+use Prim.Native.Nat.{ℕ, _*_, _≤_, _<_}
 use native.Mathlib.Omega.{arith}
 use native.Mathlib.Nat.{mul-le-mul-right, div-add-mod'}
 use mathlib.Core.Path.{_≡_, refl, sym, _∙_, ap, ap₂}

@@ -8,7 +8,7 @@ use Rattle.words.specs.Sequences.{over}
 use Rattle.words.proofs.Keeping.{keep-nil}
 use Rattle.plans.specs.declared.Last.{Last}
 use Rattle.plans.specs.declared.Last.the-variants.{Registers}
-use Rattle.plans.specs.Endings.{Ending, registers}
+use Rattle.plans.specs.Endings.{Ending}
 use Rattle.plans.specs.Reading.{lastIn, measuredIn}
 use Rattle.plans.proofs.EndingRead.{is-registers}
 use Rattle.registers.specs.Registers.{registerCount, registersOf}

@@ -1,7 +1,7 @@
 -- A delivered row and a turn's list, by the ending of the plan: what each kind of list asks for, and that what it answers is the
 -- list with the row.
 use Prim.Native.Nat.{ℕ, _≤_}
-use mathlib.Core.Path.{_≡_, refl, sym, subst, subst⁻¹}
+use mathlib.Core.Path.{_≡_, refl, subst}
 use mathlib.Core.List.{List, []}
 use lib.ListN.{length, take}
 use Rattle.words.specs.Bindings.{Bindings}

@@ -7,10 +7,10 @@ use mathlib.Core.Bool.{Bool, true, false, _&&_}
 use mathlib.Core.List.{List, [], _∷_, map}
 use lib.Dec.{eqb}
 use lib.ListN.{length, take, drop, length-drop, drop-of-length-le}
-use lib.Seq.{take-take, drop-drop, length-take-le}
+use lib.Seq.{drop-drop, length-take-le}
 use borrow.Author.Tests.{eq-eqb, ne-eqb}
-use Rattle.words.specs.Words.{keyRank, isValue}
-use Rattle.words.specs.Sequences.{all, neighbours, lexBefore}
+use Rattle.words.specs.Words.{isValue}
+use Rattle.words.specs.Sequences.{all, neighbours}
 use Rattle.words.proofs.Booleans.{absurd-true}
 use Rattle.plans.specs.Endings.{group}
 use Rattle.lists.specs.Groups.{Group, totalsWidth, keysBefore, groupIn}

@@ -1,5 +1,5 @@
 -- Rows compared key by key: where a word stands among others, the rank by a key, and which comes first by the keys from one on.
-use Prim.Native.Nat.{ℕ, suc, _+_, _-_, _%_, _≤_, _<_}
+use Prim.Native.Nat.{ℕ, suc, _+_, _-_, _≤_, _<_}
 use native.Mathlib.Omega.{arith}
 use native.Mathlib.Numerals.{add-one}
 use mathlib.Core.Path.{_≡_, refl, sym, _∙_, ap}
@@ -9,7 +9,7 @@ use lib.Dec.{eqb}
 use lib.ListN.{length, getD, drop, drop-of-length-le}
 use lib.Seq.{drop-cons}
 use borrow.Author.Tests.{eq-eqb, ne-eqb}
-use Rattle.words.specs.Words.{variable, low, kind, fallingKind, keyRank, lastRank, unbound, termValues}
+use Rattle.words.specs.Words.{variable, low, kind, fallingKind, keyRank, lastRank, unbound}
 use Rattle.words.specs.Sequences.{all, member, lexBefore}
 use Rattle.words.proofs.Booleans.{absurd-true}
 use Rattle.words.proofs.Bound.{any-default}
@@ -43,10 +43,6 @@ index-there w (x ∷ xs) m = go (eqb w x) refl m (index-there w xs)
         → cond b 0 (suc (indexOf w xs)) < suc (length xs)
     go true e p ih = omega arith
     go false e p ih = let l = ih p in omega arith
-
--- the variable of a key, as its word
-pub key-variable : (key t : ℕ) → t ≡ variable (low key % termValues) → t ≡ variable (low key)
-key-variable key t e = omega arith
 
 -- ---- the rank by a key
 pub rank-falling : (key w : ℕ) → kind key ≡ fallingKind → rankBy key w ≡ lastRank - keyRank w

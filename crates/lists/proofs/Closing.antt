@@ -18,8 +18,7 @@ use Rattle.lists.proofs.TopLists.{Fine}
 use Rattle.lists.proofs.GroupLists.{groups-in-gathered, groups-append}
 use Rattle.lists.proofs.GroupBounds.{mostRows, groups-fit}
 use Rattle.lists.proofs.ClosedGroups.{merge-closed, fits-closed, closed-right, length-closed}
-use Rattle.lists.proofs.OneRow.{gathered-nil}
-use Rattle.lists.proofs.Gatherings.{Valid, Gathering, gathering}
+use Rattle.lists.proofs.Gatherings.{Valid, gathering}
 
 -- ---- what done does not change: rows, best-of lists and registers
 pub rows-closed : (vs list : List ℕ) → closed (rows vs) list ≡ list
@@ -146,7 +145,3 @@ few-fit (rows vs) bs h = refl
 few-fit (top k vs keys) bs h = refl
 few-fit (group vs m) bs h = groups-fit vs m bs h
 few-fit (registers v) bs h = refl
-
--- ---- of no rows, before done: nothing, but for registers
-pub none-at : (e : Ending) → ((v : ℕ) → ¬ (e ≡ registers v)) → (threshold : List ℕ) → listAt e threshold false [] ≡ []
-none-at e h threshold = gathered-nil e h threshold

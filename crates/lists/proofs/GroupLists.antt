@@ -52,11 +52,6 @@ module _ (vs : List ℕ) (m : ℕ) where
       → groupsIn vs (gathered (group vs m) th bs) ≡ groupsOf vs m bs
   groups-in-gathered th bs f = groups-in-any th bs ∙ wrapped-all (groupsOf vs m bs) f
 
-  -- a threshold plays no part in groups
-  pub gathered-any : (th : List ℕ) (bs : List Bindings) → gathered (group vs m) th bs ≡ gathered (group vs m) [] bs
-  unfolding gathered
-  gathered-any th bs = refl
-
   -- no row, no word
   pub gathered-nil : (th : List ℕ) → gathered (group vs m) th [] ≡ []
   unfolding gathered addAllBy flatten

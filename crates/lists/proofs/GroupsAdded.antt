@@ -9,10 +9,10 @@ use lib.IntN.{+ℤ-assoc}
 use Rattle.words.specs.Words.{keyRank}
 use Rattle.words.specs.Sequences.{neighbours}
 use Rattle.words.proofs.Orders.{lex-ordered}
-use Rattle.lists.specs.Groups.{Group, together, keysBefore, addBy, addAllBy, addGroups}
+use Rattle.lists.specs.Groups.{Group, together, keysBefore, addAllBy, addGroups}
 use Rattle.words.proofs.Ascending.{Ascending, neighbours-ascending}
 use Rattle.lists.proofs.Adding.{Joins, ascending-addAll, add-twice, addAll-append}
-use Rattle.lists.proofs.AddingKeeps.{each-addAll, ascending-map, ascending-unmap, neighbours-map, add-map, addAll-map}
+use Rattle.lists.proofs.AddingKeeps.{each-addAll, ascending-map, ascending-unmap, neighbours-map, addAll-map}
 use Rattle.lists.proofs.Keys.{ranks}
 use Rattle.lists.proofs.GroupWords.{HaveKeys}
 use Rattle.lists.proofs.Extremes.{lesser-assoc, greater-assoc}
@@ -58,10 +58,6 @@ module _ (n : ℕ) where
   pub plain-keyed : (gs : List Group) (h : HaveKeys n gs) → plain (keyed gs h) ≡ gs
   plain-keyed [] h = refl
   plain-keyed (g ∷ gs) h = ap (λ l. g ∷ l) (plain-keyed gs (h .1))
-
-  pub plain-add : (x : Keyed n) (ys : List (Keyed n))
-      → plain (addBy keyedBefore keyedTogether x ys) ≡ addBy keysBefore together (x .0) (plain ys)
-  plain-add = add-map (λ x. x .0) keyedBefore keysBefore (λ x y. refl) keyedTogether together (λ x y. refl)
 
   pub plain-addAll : (xs ys : List (Keyed n))
       → plain (addAllBy keyedBefore keyedTogether xs ys) ≡ addGroups (plain xs) (plain ys)

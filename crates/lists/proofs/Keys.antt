@@ -1,5 +1,5 @@
 -- Keys that are values: one word has each rank, and lists of keys are the same exactly where neither comes before the other.
-use Prim.Native.Nat.{ℕ, _<_}
+use Prim.Native.Nat.{ℕ}
 use native.Mathlib.Omega.{arith}
 use mathlib.Core.Path.{_≡_, refl, sym, _∙_, ap₂}
 use mathlib.Core.Bool.{Bool, true, false, _&&_, _||_, not, true≢false}
@@ -7,12 +7,11 @@ use mathlib.Core.List.{List, [], _∷_, map}
 use lib.Dec.{eqb}
 use lib.ListN.{length}
 use borrow.Author.Tests.{eqb-true, eq-eqb}
-use Rattle.words.specs.Words.{isVariable, termKind, valueRank, unbound, keyRank, isValue}
+use Rattle.words.specs.Words.{isVariable, termKind, unbound, keyRank, isValue}
 use Rattle.words.specs.Sequences.{all, lexBefore}
 use Rattle.words.proofs.Booleans.{absurd-true, and-left, and-right}
 use Rattle.words.proofs.Orders.{Three, less, same, more, three, lex-less, lex-same, lex-asym}
-use Rattle.words.proofs.Ranks.{rank-bound, rank-below, rank-one}
-use Rattle.lists.specs.Groups.{Group, keysBefore}
+use Rattle.words.proofs.Ranks.{rank-below, rank-one}
 
 pub rank-same : (a b : ℕ) → isValue a ≡ true → isValue b ≡ true → keyRank a ≡ keyRank b → a ≡ b
 rank-same a b p q e = go (isVariable a) refl (isVariable b) refl p q e
@@ -51,31 +50,7 @@ keys-same (a ∷ ks) (b ∷ ls) l p q e f =
         (ih (sym (lex-same (ranks ks) (ranks ls) h) ∙ e) (sym (lex-same (ranks ls) (ranks ks) (sym h)) ∙ f))
     go (more h) ih = absurd-true (lex-less (ranks ls) (ranks ks) h) f
 
--- ---- the order of keys: unbound first, then names, numbers and texts, each by value
-pub unbound-key-first : (g h : Group) (w : ℕ) (ks ls : List ℕ) → g .keys ≡ unbound ∷ ks → h .keys ≡ w ∷ ls → w < unbound
-    → keysBefore g h ≡ true
-unfolding keysBefore
-unbound-key-first g h w ks ls p q l =
-    rw (p, q) (lex-less (ranks ks) (ranks ls) (let e = rank-bound w l in omega arith))
-
-pub kind-first : (g h : Group) (v w : ℕ) (ks ls : List ℕ) → g .keys ≡ v ∷ ks → h .keys ≡ w ∷ ls → termKind v < termKind w → w < unbound
-    → keysBefore g h ≡ true
-unfolding keysBefore
-kind-first g h v w ks ls p q k l =
-    let e = rank-bound v (omega arith) in
-    let f = rank-bound w l in
-    let m = rank-below v in
-    rw (p, q) (lex-less {x = keyRank v} {y = keyRank w} (ranks ks) (ranks ls) (omega arith))
-
-pub value-first : (g h : Group) (v w : ℕ) (ks ls : List ℕ) → g .keys ≡ v ∷ ks → h .keys ≡ w ∷ ls → termKind v ≡ termKind w
-    → valueRank v < valueRank w → w < unbound → keysBefore g h ≡ true
-unfolding keysBefore
-value-first g h v w ks ls p q k r l =
-    let e = rank-bound v (omega arith) in
-    let f = rank-bound w l in
-    rw (p, q) (lex-less {x = keyRank v} {y = keyRank w} (ranks ks) (ranks ls) (omega arith))
-
--- nothing comes before itself
+-- ---- the order of keys: nothing comes before itself
 pub lex-irreflexive : (xs : List ℕ) → lexBefore xs xs ≡ false
 lex-irreflexive xs = go (lexBefore xs xs) refl
   where

@@ -1,10 +1,10 @@
 -- The rows that a threshold leaves: all without one, and those strictly before it.
 use Prim.Native.Nat.{ℕ}
 use mathlib.Core.Path.{_≡_, refl}
-use mathlib.Core.Bool.{Bool, true}
+use mathlib.Core.Bool.{Bool}
 use mathlib.Core.List.{List, [], _∷_}
 use Rattle.words.specs.Sequences.{keep}
-use Rattle.words.proofs.Each.{Each, each-keep, each-kept}
+use Rattle.words.proofs.Each.{Each, each-keep}
 use Rattle.lists.specs.Rows.{ahead}
 
 module _ (before : List ℕ → List ℕ → Bool) where
@@ -27,8 +27,3 @@ pub each-ahead : (P : List ℕ → Type 0) (before : List ℕ → List ℕ → B
     → Each P xs → Each P (ahead before threshold xs)
 each-ahead P before [] xs p = rw (ahead-all before xs) p
 each-ahead P before (w ∷ ws) xs p = rw (ahead-row before w ws xs) (each-keep P (λ x. before x (w ∷ ws)) xs p)
-
--- each row that a threshold leaves comes strictly before it
-pub each-strict : (before : List ℕ → List ℕ → Bool) (w : ℕ) (ws : List ℕ) (xs : List (List ℕ))
-    → Each (λ (x : List ℕ). before x (w ∷ ws) ≡ true) (ahead before (w ∷ ws) xs)
-each-strict before w ws xs = rw (ahead-row before w ws xs) (each-kept (λ x. before x (w ∷ ws)) xs)

@@ -1,8 +1,8 @@
 -- Lists of registers: of some rows and of further ones, merged; of one row more; right for test 12; and 16 words always.
 use Prim.Native.Nat.{ℕ}
 use native.Mathlib.Omega.{arith}
-use mathlib.Core.Path.{_≡_, refl, sym, _∙_, ap, ap₂}
-use mathlib.Core.Bool.{Bool, true, false, cond, _||_, _&&_}
+use mathlib.Core.Path.{_≡_, refl, sym, _∙_, ap}
+use mathlib.Core.Bool.{Bool, true, false, cond, _||_}
 use mathlib.Core.List.{List, [], _∷_, _++_, map, append-nil, map-append}
 use lib.Dec.{eqb}
 use lib.ListN.{length, replicate}
@@ -17,7 +17,7 @@ use Rattle.registers.proofs.Merging.{registers-append}
 use Rattle.registers.proofs.Bounds.{registers-length, registers-right, greater-right}
 use Rattle.lists.specs.Rows.{hasValue, boundValues}
 use Rattle.lists.specs.Gathering.{gathered, merged, listRight}
-use Rattle.lists.specs.Delivering.{withValue, withRow}
+use Rattle.lists.specs.Delivering.{withRow}
 
 -- ---- any registers
 -- 16 words are as they are

@@ -1,12 +1,11 @@
 -- Merging lists of registers, as test 12 passes them: in either order, in any grouping, and a list that was merged adds nothing when it is merged again.
 -- An empty kept list adds nothing.
 use Prim.Native.Nat.{ℕ}
-use mathlib.Core.Path.{_≡_, refl, sym, _∙_, ap}
+use mathlib.Core.Path.{_≡_, sym, _∙_, ap}
 use mathlib.Core.Bool.{true}
 use mathlib.Core.List.{List, [], _∷_}
-use lib.ListN.{length}
 use Rattle.plans.specs.Endings.{registers}
-use Rattle.registers.specs.Registers.{registerCount, registersIn, greaterOf, areRegisters, keptRegisters}
+use Rattle.registers.specs.Registers.{registersIn, greaterOf, areRegisters}
 use Rattle.registers.proofs.Merging.{greater-comm, greater-assoc, greater-self}
 use Rattle.registers.proofs.Bounds.{none-greater, greater-right}
 use Rattle.registers.proofs.Reports.{some-right}

@@ -110,11 +110,6 @@ module _ (k : ℕ) (vs keys : List ℕ) where
       (each-append (λ (x : List ℕ). all isValue x ≡ true) (recordsIn (length vs) kept) (recordsIn (length vs) list)
       (right-values kept p) (right-values list q)))
 
-  pub room-merged : (kept list : List ℕ) → length (merged (top k vs keys) kept list) ≤ leastOutput (top k vs keys)
-  room-merged kept list =
-      rw (merged-top k vs keys kept list)
-      (room-best (recordsIn (length vs) kept ++ recordsIn (length vs) list) (wide-both kept list))
-
 -- rows: so many of them, so many words; and one row fits the least output
 pub length-rows : (vs threshold : List ℕ) (bs : List Bindings)
     → length (gathered (rows vs) threshold bs) ≡ length bs * length vs

@@ -6,7 +6,7 @@ use borrow.Author.Tests.{leb-true}
 use Rattle.words.specs.Answers.{wordsIn}
 use Rattle.words.specs.Buffers.{Overwritten}
 use Rattle.words.proofs.Buffers.{overwritten}
-use Rattle.merges.specs.Merging.{MergeInput, MergeResult, mergedWords, mergeOf}
+use Rattle.merges.specs.Merging.{MergeInput, MergeResult, mergedWords}
 use Rattle.merges.specs.Refusals.{Merges, MergeWrites}
 use Rattle.merges.proofs.Refusals.{merge-passed, merged-so}
 

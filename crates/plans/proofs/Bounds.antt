@@ -10,7 +10,6 @@ use lib.ListN.{length, take, drop, getD, length-take, length-drop}
 use lib.Seq.{getD-drop}
 use borrow.Author.Tests.{leb-true, ltb-false, eqb-true, eqb-false, not-true}
 use Rattle.words.specs.Words.{kind, low, isVariable, headKind, branchKind, rowsKind, topKind, groupKind, registersKind}
-use Rattle.words.specs.Sequences.{all}
 use Rattle.words.proofs.Booleans.{and-left, and-right, absurd-true}
 use Rattle.words.proofs.Testing.{none-some, some-injective}
 use Rattle.words.proofs.Elements.{all-take, all-at}
@@ -20,8 +19,8 @@ use Rattle.plans.specs.declared.Years.{Years}
 use Rattle.plans.specs.Years.{yearsIn, headOf, bodyOf}
 use Rattle.plans.specs.Conditions.{Condition, Read, next, readCondition, nodes, mostDepth, mostNodes}
 use Rattle.plans.specs.Branches.{Branch, patternWidth, mostPatterns, patternCount, withCondition, readBranch, readBranches, nthBranch}
-use Rattle.plans.specs.Endings.{Ending, rows, top, group, registers, mostRowVariables, mostBest, defaultBest, mostKeys, mostGroupVariables}
-use Rattle.plans.specs.Endings.{bestCount, rowWidth, rowVariables, afterRows, rowsForm, isKey, keysForm, lastOf, formAs, endingForm, endingAs, endingAt}
+use Rattle.plans.specs.Endings.{mostRowVariables, mostBest, defaultBest, mostKeys, mostGroupVariables}
+use Rattle.plans.specs.Endings.{bestCount, rowWidth, rowVariables, afterRows, rowsForm, keysForm, lastOf, formAs, endingForm, endingAs, endingAt}
 pub use Rattle.plans.specs.Forms.{BranchForm, RowForm, TopForm, GroupForm, EndingForm}
 use Rattle.plans.specs.Plans.{Plan, mostBranches, mostPlanWords, branchCount, withEnding, readPlan, hasForm, planOr, branchAt}
 

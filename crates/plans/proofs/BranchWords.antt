@@ -6,7 +6,7 @@ use mathlib.Core.Bool.{Bool, true, false, cond}
 use mathlib.Core.Option.{none, some}
 use mathlib.Core.List.{List, [], _∷_, _++_, append-assoc, map, flatten}
 use lib.Dec.{eqb, leb, ltb}
-use lib.ListN.{length, getD, take, drop, length-append, take-append-drop}
+use lib.ListN.{length, take, drop, length-append, take-append-drop}
 use lib.Seq.{drop-drop, length-take-le, take-append-seam, drop-append-seam}
 use borrow.Author.Tests.{leb-true, le-leb, ltb-false, le-ltb, eqb-true, eqb-false, eq-eqb, ne-eqb}
 use Rattle.words.specs.Words.{kind, low, lowNumbers, word, branchKind}
@@ -14,8 +14,7 @@ use Rattle.words.proofs.Testing.{none-some, some-injective}
 use Rattle.plans.specs.Conditions.{Condition, Read, readCondition, nodes, mostDepth, mostNodes}
 use Rattle.plans.specs.Branches.{Branch, patternWidth, mostPatterns, patternCount, withCondition, readPatterns, readBranch, readBranches, nthBranch}
 use Rattle.plans.specs.Reading.{countIn}
-use Rattle.plans.specs.Forms.{BranchForm}
-use Rattle.plans.specs.Grammar.{conditionWords, ConditionForm, branchWords, BranchAllowed}
+use Rattle.plans.specs.Grammar.{conditionWords, branchWords, BranchAllowed}
 use Rattle.plans.proofs.Bounds.{cond-some, cond-none, next-some}
 use Rattle.plans.proofs.ConditionWords.{BeginsWith, begins-both, read-condition, condition-back}
 

@@ -3,7 +3,7 @@ use Prim.Native.Nat.{ℕ, zero, suc, _+_, _≤_}
 use native.Mathlib.Omega.{arith}
 use mathlib.Core.Path.{_≡_, refl, sym, _∙_, ap, ap₂, subst}
 use mathlib.Core.Bool.{Bool, true, false, cond}
-use mathlib.Core.Option.{none, some}
+use mathlib.Core.Option.{some}
 use mathlib.Core.List.{List, [], _∷_, _++_, append-assoc}
 use lib.Dec.{eqb, leb}
 use lib.ListN.{length, drop, length-append}
@@ -13,7 +13,7 @@ use Rattle.words.specs.Words.{kind, low, word, trueKind, andKind, orKind, notKi
 use Rattle.words.proofs.Testing.{none-some, some-injective}
 use Rattle.plans.specs.declared.Node.{Node}
 use Rattle.plans.specs.declared.Node.the-variants.{Always, Pair, Negated, Compared, Wrong}
-use Rattle.plans.specs.Conditions.{Condition, always, both, either, negated, compared, Read, plainNode, nodeOf, pairOf, readNode, readCondition}
+use Rattle.plans.specs.Conditions.{Condition, always, both, either, negated, compared, Read, nodeOf, pairOf, readNode, readCondition}
 use Rattle.plans.specs.Grammar.{conditionWords, ConditionForm}
 use Rattle.plans.proofs.Bounds.{next-some}
 

@@ -1,17 +1,17 @@
 -- An ending is read from its words, and from no others.
 use Prim.Native.Nat.{ℕ, suc, _+_, _≤_}
 use native.Mathlib.Omega.{arith}
-use mathlib.Core.Path.{_≡_, refl, sym, _∙_, ap, ap₂, subst}
-use mathlib.Core.Bool.{Bool, true, false, cond, _&&_, not}
+use mathlib.Core.Path.{_≡_, refl, sym, _∙_, ap, ap₂}
+use mathlib.Core.Bool.{Bool, true, false, cond, not}
 use mathlib.Core.List.{List, [], _∷_, _++_, append-nil}
 use lib.Dec.{eqb, leb}
-use lib.ListN.{length, getD, take, drop, length-append, length-drop, take-append-drop, drop-of-length-le}
+use lib.ListN.{length, getD, take, drop, length-append, take-append-drop, drop-of-length-le}
 use lib.Seq.{drop-drop, drop-cons, length-take-le, take-append-seam, drop-append-seam, getD-drop, getD-append-seam}
 use borrow.Author.Tests.{leb-true, le-leb, eqb-true, eq-eqb, ne-eqb, eqb-false, not-true}
-use Rattle.words.specs.Words.{kind, low, lowNumbers, word, isVariable, rowsKind, topKind, groupKind, registersKind}
+use Rattle.words.specs.Words.{kind, low, word, isVariable, rowsKind, topKind, groupKind, registersKind}
 use Rattle.words.specs.Sequences.{all}
 use Rattle.words.proofs.Booleans.{absurd-true, and-left, and-right, and-both}
-use Rattle.words.proofs.Elements.{all-append, all-cons}
+use Rattle.words.proofs.Elements.{all-append}
 use Rattle.plans.specs.declared.Last.{Last}
 use Rattle.plans.specs.declared.Last.the-variants.{Rows, Top, Group, Registers, Neither}
 use Rattle.plans.specs.Endings.{Ending, rows, top, group, registers, mostRowVariables, mostBest, mostKeys, mostGroupVariables, bestCount}

@@ -13,9 +13,6 @@ pub gives : {A : Type 0} (other : A) (r : Read A) → isRead r ≡ true → Give
 gives other none e = let z : _≡_ {A = ℕ} 0 1 = cc in absurd (omega arith)
 gives other (some x) e = refl
 
-pub read-gives : {A : Type 0} (r : Read A) (x : A × ℕ) → r ≡ some x → Gives r (x .0)
-read-gives r x e = rw e
-
 pub given-read : {A : Type 0} (a : A) (r : Read A) → Gives r a → isRead r ≡ true
 given-read a r e = rw e
 

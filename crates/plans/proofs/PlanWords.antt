@@ -1,5 +1,5 @@
 -- Which words are accepted as a plan, both ways: a plan is read from its words and from no others, and tests 5, 6 and 23 pass exactly where the rules say so.
-use Prim.Native.Nat.{ℕ, suc, _≤_, _<_}
+use Prim.Native.Nat.{ℕ, _≤_}
 use native.Mathlib.Omega.{arith}
 use mathlib.Core.Path.{_≡_, refl, sym, _∙_, ap, subst}
 use mathlib.Core.Logic.{_↔_}
@@ -10,7 +10,7 @@ use lib.Dec.{eqb, leb}
 use lib.ListN.{length, getD, drop}
 use lib.Seq.{drop-append-seam}
 use borrow.Author.Tests.{leb-true, le-leb, eqb-true, eqb-false, eq-eqb, ne-eqb, not-true}
-use Rattle.words.specs.Words.{kind, low, lowNumbers, word, yearKind, headKind, yearWord, mostYear}
+use Rattle.words.specs.Words.{kind, low, word, yearKind, headKind, yearWord, mostYear}
 use Rattle.words.specs.Tests.{AllPass}
 use Rattle.words.proofs.Booleans.{and-left, and-right, and-both}
 use Rattle.words.proofs.Testing.{none-some, some-injective}
@@ -19,9 +19,9 @@ use Rattle.plans.specs.declared.Years.the-variants.{Latest, Every, Named
 use Rattle.plans.specs.Years.{yearsIn, yearWords, fromHead, headOf, bodyOf, yearAllowed}
 use Rattle.plans.specs.Conditions.{Read}
 use Rattle.plans.specs.Branches.{Branch, readBranches}
-use Rattle.plans.specs.Endings.{endingForm, endingAt}
+use Rattle.plans.specs.Endings.{endingForm}
 use Rattle.plans.specs.Plans.{Plan, mostBranches, mostPlanWords, branchCount, withEnding, readPlan, variablesRight, hasForm, planOr, planOf, planTests}
-use Rattle.plans.specs.Grammar.{branchWords, EndingWords, yearsWords, YearNumbered, PlanWords, VariablesBound, YearKnown, PlanAccepted}
+use Rattle.plans.specs.Grammar.{branchWords, yearsWords, YearNumbered, PlanWords, YearKnown, PlanAccepted}
 use Rattle.plans.proofs.Bounds.{cond-some, was-read}
 use Rattle.plans.proofs.ConditionWords.{behind-part}
 use Rattle.plans.proofs.BranchWords.{count-word, word-count, read-branches, branches-back}

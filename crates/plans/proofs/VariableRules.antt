@@ -5,10 +5,9 @@ use mathlib.Core.Path.{_≡_, refl, sym, _∙_, ap, ap₂}
 use mathlib.Core.Logic.{_↔_}
 use mathlib.Core.Bool.{Bool, true, false, _&&_, _||_, not}
 use mathlib.Core.List.{List, [], _∷_, _++_}
-use lib.Dec.{ltb}
-use lib.ListN.{length, getD}
+use lib.ListN.{length}
 use borrow.Author.Tests.{ltb-true, lt-ltb}
-use Rattle.words.specs.Words.{isVariable, termValue, variable, low}
+use Rattle.words.specs.Words.{isVariable, termValue}
 use Rattle.words.specs.Bindings.{variableCount}
 use Rattle.words.specs.Sequences.{all, member, distinct}
 use Rattle.words.proofs.Booleans.{absurd-true, and-left, and-right, and-both}

@@ -8,7 +8,7 @@ use lib.Seq.{take-all, take-take, getD-take}
 use Rattle.tables.specs.Tables.{tablesOf, columnCount}
 use Rattle.print_reading.specs.declared.FileParts.{FileParts}
 use Rattle.print_reading.specs.declared.Layout.the-variants.{Parts}
-use Rattle.print_reading.specs.Files.{fileWords, rowCountIn, posAt, ospAt, planAt, partsOf, layoutOf}
+use Rattle.print_reading.specs.Files.{fileWords, rowCountIn, posAt, ospAt, planAt, layoutOf}
 use Rattle.print_reading.proofs.LaidOut.{file-counted}
 use Rattle.print_writing.specs.FileQueries.{rowsIn, posIn, ospIn, planIn, fileTables, filePlan, fileQuantum, Asks}
 

@@ -1,20 +1,17 @@
 -- How long the texts of a line are at most: terms, fields, lines.
 use Prim.Native.Nat.{ℕ, suc, _+_, _*_, _^_, _≤_, _<_}
 use native.Mathlib.Omega.{arith}
-use mathlib.Core.Path.{_≡_, refl}
+use mathlib.Core.Path.{_≡_}
 use mathlib.Core.Bool.{Bool, true, false, cond}
-use mathlib.Core.List.{List, [], _∷_, _++_}
+use mathlib.Core.List.{List, [], _∷_}
 use lib.ListN.{length, getD, take, length-append}
 use lib.Seq.{length-take-le}
 use Rattle.words.specs.Words.{termKind, termValue, isVariable, isNumber, numberValue}
 use Rattle.lists.specs.Sums.{sumIn}
 use Rattle.lists.specs.Groups.{groupIn, pairAt, totalsWidth}
-use Rattle.turns.specs.declared.TurnEnding.{TurnEnding}
-use Rattle.turns.specs.declared.TurnEnding.the-variants.{Done, Spent, Full, Refused}
-use Rattle.print_texts.specs.Texts.{Text, newline, dash, decimal, integerText, kindLetter, valueText, termText, numberField, integerField, termField}
-use Rattle.print_texts.specs.Texts.{numberFields, termFields, turnWord, stepsWord, doneWord, spentWord, fullWord}
-use Rattle.print_lines.specs.Lines.{rowLine, groupFields, groupLine, listLine, refusedLine, servedLine, turnLine, rowLineRoom, groupLineRoom}
-use Rattle.print_lines.specs.Lines.{turnLineRoom}
+use Rattle.print_texts.specs.Texts.{newline, dash, decimal, integerText, kindLetter, valueText, termText, numberField, integerField, termField}
+use Rattle.print_texts.specs.Texts.{numberFields, termFields}
+use Rattle.print_lines.specs.Lines.{groupFields, listLine}
 use Rattle.print_texts.proofs.Decimals.{length-long, length-word}
 use Rattle.print_texts.proofs.Terms.{integer-word, integer-long}
 use Rattle.print_texts.proofs.Fields.{fields-most, three-length}
@@ -45,13 +42,6 @@ pub words-most : (ws : List ℕ) → ((i : ℕ) → getD ws i 0 < 2 ^ 32) → le
 words-most ws h = fields-most numberField 11 ws (λ i. let e = length-word (getD ws i 0) (h i) in omega arith)
 
 -- ---- lines
-pub row-most : (ws : List ℕ) → length ws ≤ 16 → length (rowLine ws) ≤ rowLineRoom
-unfolding rowLine
-row-most ws h =
-    let e = terms-most ws in
-    let a = length-append (termFields ws) (newline ∷ []) in
-    omega arith
-
 pub list-length : (ws : List ℕ) → length (listLine ws) ≡ 5 + length (numberFields ws)
 unfolding listLine
 list-length ws = let a = length-append (numberFields ws) (newline ∷ []) in omega arith
@@ -60,13 +50,6 @@ pub list-most : (ws : List ℕ) → ((i : ℕ) → getD ws i 0 < 2 ^ 32) → len
 list-most ws h =
     let e = words-most ws h in
     let a = list-length ws in
-    omega arith
-
-pub refused-most : (x : ℕ) → x < 2 ^ 32 → length (refusedLine x) ≤ turnLineRoom
-unfolding refusedLine
-refused-most x h =
-    let e = length-word x h in
-    let a = length-append (decimal x) (newline ∷ []) in
     omega arith
 
 -- the fields of a group's record
@@ -96,27 +79,3 @@ module _ (n : ℕ) (ws : List ℕ) (few : n ≤ 4) (whole : n + totalsWidth ≤ 
       let e = terms-most (getD ws (n + 6) 0 ∷ getD ws (n + 7) 0 ∷ []) in
       let f = fields-length n ws in
       omega arith
-
-  pub group-most : length (groupLine (groupIn n ws)) ≤ groupLineRoom
-  unfolding groupLine
-  group-most =
-      let e = group-fields-most in
-      let a = length-append (groupFields (groupIn n ws)) (newline ∷ []) in
-      omega arith
-
--- a turn's line
-module _ (n steps : ℕ) (l : n < 2 ^ 64) (s : steps < 2 ^ 32) where
-  served-most : (ending : Text) → length ending ≤ 7 → length (servedLine n steps ending) ≤ turnLineRoom
-  served-most ending h =
-      let x = length-long n l in
-      let y = length-word steps s in
-      let a = length-append (turnWord ++ numberField n ++ (stepsWord ++ numberField steps)) ending in
-      let b = length-append (turnWord ++ numberField n) (stepsWord ++ numberField steps) in
-      omega arith
-
-  pub turn-most : (e : TurnEnding) → ((x : ℕ) → e ≡ Refused x → x < 2 ^ 32) → length (turnLine n steps e) ≤ turnLineRoom
-  unfolding turnLine
-  turn-most Done h = served-most doneWord (omega arith)
-  turn-most Spent h = served-most spentWord (omega arith)
-  turn-most Full h = served-most fullWord (omega arith)
-  turn-most (Refused x) h = refused-most x (h x refl)

@@ -1,7 +1,7 @@
 -- A turn's list lies in its output; that of a row query's turn is whole rows.
 use Prim.Native.Nat.{ℕ, _%_, _≤_}
 use native.Mathlib.Omega.{arith}
-use native.Mathlib.Nat.{zero-mod, mul-mod-left}
+use native.Mathlib.Nat.{mul-mod-left}
 use mathlib.Core.Path.{_≡_, refl, _∙_, ap}
 use mathlib.Core.Bool.{Bool, true, false}
 use mathlib.Core.List.{List, [], map}

@@ -5,23 +5,13 @@ use native.Mathlib.Numerals.{add-one}
 use native.Mathlib.Nat.{zero-add}
 use mathlib.Core.Path.{_≡_, sym, _∙_, ap}
 use mathlib.Core.List.{List, [], _∷_, _++_, append-assoc}
-use lib.ListN.{length, take, drop, set, length-append, length-drop}
+use lib.ListN.{length, take, drop, set, length-append}
 use lib.Seq.{take-at, drop-at, drop-drop, set-split, take-set-le, drop-set-lt, drop-cons, getD-set-same, lt-length-set, append-snoc, length-take-le}
 use lib.Seq.{take-length, paste, paste-zero}
-use Rattle.words.proofs.Buffers.{length-over}
 use Rattle.lists.specs.Putting.{Listed}
 use Rattle.print_texts.specs.Texts.{Text, newline, digit, decimal}
 use Rattle.print_texts.specs.Placing.{placed, PlacedText}
 use Rattle.print_texts.proofs.Decimals.{decimal-more, length-more, decimal-one, length-one}
-
-pub length-placed : (text : Text) (at : ℕ) (line : List ℕ) → at + length text ≤ length line
-    → length (placed text at line) ≡ length line
-length-placed text at line h =
-    let e = length-append (take at line ++ text) (drop (at + length text) line) in
-    let f = length-append (take at line) text in
-    let g = length-take-le at line (omega arith) in
-    let d = length-drop (at + length text) line in
-    omega arith
 
 -- nothing, put anywhere
 pub placed-none : (at : ℕ) (line : List ℕ) → placed [] at line ≡ line
@@ -43,9 +33,6 @@ placed-both a b at line h =
 
 -- both as contracts say it
 module _ (a b : Text) (at p q : ℕ) (before between after : List ℕ) (h : at + length a ≤ length before) (x : PlacedText a at before between p) where
-  pub between-length : length between ≡ length before
-  between-length = ap length (x .1) ∙ length-placed a at before h
-
   pub placed-then : PlacedText b p between after q → PlacedText (a ++ b) at before after q
   placed-then y = (
     (let e = length-append a b in let f = x .0 in let g = y .0 in omega arith),
@@ -106,12 +93,3 @@ module _ (word mid : Text) (p q r : ℕ) (line one two three : List ℕ) (h : le
       (placed-front (word ++ mid ++ (newline ∷ [])) line three r
       (placed-then (word ++ mid) (newline ∷ []) 0 q r line two three (omega arith)
       (placed-then word mid 0 p q line one two (omega arith) x y) z))
-
--- ---- for a program that lends the printed part on: it lies within the line
-pub printed-part : (text : Text) (before after : List ℕ) (r : ℕ) → length text ≤ length before → Listed text before after r
-    → (r ≤ length after) × (r ≡ length (take r after))
-printed-part text before after r h x =
-    let n = ap length (x .1) ∙ length-over text before h in
-    let e = x .0 in
-    let l : r ≤ length after = omega arith in
-    (l, sym (length-take-le r after l))

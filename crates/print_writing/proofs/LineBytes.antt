@@ -1,6 +1,6 @@
 -- A line that was written into its buffer is handed over whole.
 use Prim.Native.Nat.{ℕ, _≤_}
-use mathlib.Core.Path.{_≡_, _∙_, ap₂}
+use mathlib.Core.Path.{_∙_, ap₂}
 use mathlib.Core.List.{List}
 use lib.ListN.{length, take}
 use Rattle.words.proofs.Buffers.{take-over}

@@ -1,7 +1,7 @@
 -- A query that goes on, and what that says of the uncut run: where it stands, what it keeps, and what it leaves when it is stopped.
 use Prim.Native.Nat.{ℕ, _+_, _<_}
-use mathlib.Core.Path.{_≡_, sym, _∙_, ap, subst, subst⁻¹}
-use mathlib.Core.Bool.{true, false, not}
+use mathlib.Core.Path.{_≡_, sym, _∙_, ap, subst⁻¹}
+use mathlib.Core.Bool.{true, false}
 use mathlib.Core.List.{List}
 use lib.ListN.{length}
 use Rattle.words.specs.Sequences.{over}
@@ -19,7 +19,7 @@ use Rattle.cuts.proofs.Keeping.{Kept}
 use Rattle.queries.specs.declared.Keeping.{Keeping}
 use Rattle.queries.specs.declared.Went.{Went}
 use Rattle.queries.specs.declared.Went.the-variants.{On, Over, Stopped}
-use Rattle.queries.specs.Stepping.{keeps, keptOf}
+use Rattle.queries.specs.Stepping.{keptOf}
 use Rattle.queries.specs.Playing.{Holds, Turns, StandsAfter, Finishes, Pauses, Cause, Stops}
 use Rattle.queries.proofs.UnderWay.{UnderWay}
 use Rattle.queries.proofs.Refusing.{at-first}

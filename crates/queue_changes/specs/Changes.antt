@@ -7,7 +7,6 @@ use mathlib.Core.List.{List}
 use lib.Dec.{leb, eqb}
 use lib.ListN.{length}
 use Rattle.queues.specs.declared.Entry.{Entry}
-use Rattle.queues.specs.declared.Queued.{Queued}
 use Rattle.queues.specs.declared.Queued.the-variants.{Lists, Refused}
 use Rattle.queues.specs.Lists.{mostEntries, LentLists}
 use Rattle.queues.specs.Joining.{QueuedResult}

@@ -1,17 +1,16 @@
 -- A turn of the front entry, and which entries are an owner's after it.
-use Prim.Native.Nat.{ℕ, zero, suc, _+_, _-_}
+use Prim.Native.Nat.{ℕ, zero, suc, _-_}
 use native.Mathlib.Omega.{arith}
 use mathlib.Core.Path.{_≡_, refl, sym, _∙_, ap, subst}
 use mathlib.Core.Bool.{Bool, true, false, cond}
 use mathlib.Core.Option.{Option, none, some}
-use mathlib.Core.List.{List, [], _∷_, _++_, append-assoc}
+use mathlib.Core.List.{List, [], _∷_, _++_}
 use lib.ListN.{take}
 use lib.Dec.{eqb, leb}
 use borrow.Author.Tests.{eqb-false, ne-eqb, le-leb}
 use Rattle.words.specs.Sequences.{member}
 use Rattle.words.specs.Tests.{firstFailing}
 use Rattle.words.proofs.Booleans.{or-left, or-right}
-use Rattle.steps.specs.Steps.{after}
 use Rattle.turns.specs.Surveys.{Survey}
 use Rattle.turns.specs.declared.TurnEnding.{TurnEnding}
 use Rattle.turns.specs.declared.TurnEnding.the-variants as ending
@@ -53,9 +52,6 @@ module _ (owner : ℕ) where
   pub has-one : (xs ys : List Entry) (e : Entry) → e .owner ≡ owner → NoneOf owner (xs ++ (e ∷ ys)) → ⊥
   has-one [] ys e h n = not-first e ys n h
   has-one (x ∷ xs) ys e h n = has-one xs ys e h (none-behind x (xs ++ (e ∷ ys)) n)
-
-snoc : (xs ys : List Entry) (a b : Entry) → (xs ++ (a ∷ ys)) ++ (b ∷ []) ≡ xs ++ (a ∷ (ys ++ (b ∷ [])))
-snoc xs ys a b = append-assoc xs (a ∷ ys) (b ∷ [])
 
 -- ---- a turn of the front entry
 pub record FrontTold (v : Survey) (s : Serving) (e : Entry) (y : ServeResult) : Type 0 where

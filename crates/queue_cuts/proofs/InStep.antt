@@ -1,5 +1,5 @@
 -- One owner's turns, as the calls on the queue answer them, are the turns of a cut of its own, whatever the others run.
-use Prim.Native.Nat.{ℕ, _+_, _-_, min}
+use Prim.Native.Nat.{ℕ, min}
 use mathlib.Core.Path.{_≡_, refl, sym, _∙_, ap, subst}
 use mathlib.Core.Logic.{_⊎_, inl, inr}
 use mathlib.Core.Bool.{Bool, true, false, cond}
@@ -20,7 +20,7 @@ use Rattle.turns.specs.declared.TurnEnding.the-variants as ending
 use Rattle.turns.specs.Turns.{TurnInput, TurnResult, turnOf}
 use Rattle.turns.proofs.Follows.{follows}
 use Rattle.merges.specs.Merging.{MergeResult, mergeOf}
-use Rattle.cuts.specs.Histories.{Event, turns, merges, joins, Phone, ServedTurn, servedIn, turnInputOf, servedOf, afterServed, afterTurn}
+use Rattle.cuts.specs.Histories.{Event, merges, joins, Phone, ServedTurn, servedIn, turnInputOf, servedOf, afterServed, afterTurn}
 use Rattle.cuts.specs.Histories.{afterTaking, mergeInputOf, afterMerge, afterJoin, afterMerging, afterJoining, happens, history}
 use Rattle.cuts.proofs.Keeping.{served-more}
 use Rattle.queues.specs.declared.Entry.{Entry}

@@ -1,5 +1,5 @@
 -- From joining on, an owner's query is as the uncut run, whatever the others run (demand 3).
-use Prim.Native.Nat.{ℕ, _+_, _-_, _≤_}
+use Prim.Native.Nat.{ℕ, _≤_}
 use native.Mathlib.Omega.{arith}
 use mathlib.Core.Path.{_≡_, refl, sym, _∙_, ap, subst}
 use mathlib.Core.Bool.{Bool, true, false, cond}
@@ -24,7 +24,7 @@ use Rattle.queues.specs.declared.Entry.{Entry}
 use Rattle.queues.specs.Lists.{entryPlanRoom, filled, LentLists, lineOf, asideOf}
 use Rattle.queues.specs.Joining.{Joining, newEntry, joinTests, joinQueueOf, QueuedResult, listsWith}
 use Rattle.queues.specs.Calls.{Queue, join, MadeCall, lentTo, afterQueued, afterCall}
-use Rattle.queue_cuts.specs.Owners.{Act, joining, ownEvents}
+use Rattle.queue_cuts.specs.Owners.{Act, ownEvents}
 use Rattle.queue_cuts.specs.Owners.{NeverAgain, NoneOf, HoldsQuery, Waits, in-line, set-aside}
 use Rattle.queues.proofs.Moving.{line-lent, aside-lent, both-taken}
 use Rattle.queue_cuts.proofs.FrontTurns.{none-of-no-one}

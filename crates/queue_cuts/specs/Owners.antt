@@ -1,14 +1,13 @@
 -- One owner's query among the calls of all: its own turns as a cut of its own (demand 3). Assumes nothing: these are definitions.
 use Prim.Native.Nat.{ℕ, min}
 use mathlib.Core.Path.{_≡_}
-use mathlib.Core.Bool.{Bool, true, false, cond, not}
+use mathlib.Core.Bool.{true, false, cond}
 use mathlib.Core.Option.{none}
 use mathlib.Core.List.{List, [], _∷_, _++_}
 use lib.ListN.{length, take, drop}
-use Rattle.words.specs.Sequences.{all, member}
+use Rattle.words.specs.Sequences.{member}
 use Rattle.words.specs.Tests.{firstFailing}
 use Rattle.turns.specs.Surveys.{Survey}
-use Rattle.turns.specs.declared.TurnEnding.{TurnEnding}
 use Rattle.turns.specs.declared.TurnEnding.the-variants as ending
 use Rattle.plans.specs.Plans.{planOf}
 use Rattle.cuts.specs.Uncut.{AsUncut}

@@ -1,6 +1,6 @@
 -- What a caller of the functions over lists has to give, and what it hears, for the callers within this crate. Assumes nothing.
 use mathlib.Core.Path.{_≡_, refl}
-use Prim.Native.Nat.{ℕ, _<_, _≤_, _-_, _^_, min}
+use Prim.Native.Nat.{ℕ, _<_, _≤_, _^_, min}
 use mathlib.Core.Bool.{Bool}
 use mathlib.Core.List.{[], _∷_, List}
 use lib.ListN.{length, take}

@@ -82,10 +82,6 @@ moved-up-is ys g (suc k) h = there (moved-up-is ys g k (omega arith)) ∙ sym he
 
 -- ---- what a list is after it is settled
 module _ (ys : List Entry) (e : Entry) where
-  -- nothing moves and nothing is added
-  pub settled-none : settled ys 0 0 false e ≡ ys
-  settled-none = refl
-
   -- one is added behind the first n
   pub settled-added : (n : ℕ) → n < length ys → settled ys n n true e ≡ entriesOver (take n ys ++ (e ∷ [])) ys
   settled-added n h =

@@ -2,7 +2,7 @@
 use queues::Entry;
 ghost use Rattle.queues.specs.Lists.{lentAs, ownersIn};
 ghost use mathlib.Core.Path.{_≡_};
-ghost use mathlib.Core.Bool.{Bool, true, cond, _&&_, not};
+ghost use mathlib.Core.Bool.{true, cond, _&&_, not};
 ghost use Prim.Native.Nat.{_<_, _≤_, min};
 ghost use lib.Dec.{leb, ltb, eqb};
 ghost use lib.ListN.{length, take, getD};

@@ -1,9 +1,8 @@
 -- Facts of a decision's parts, as its machine value tells them. Assumes nothing.
-use Prim.Native.Nat.{_<_, _-_, _^_}
+use Prim.Native.Nat.{_<_, _^_}
 use mathlib.Core.List.{List}
 use mir.Val.{Val}
 use denote.Laws.{Is}
-use denote.Steps.{nothing}
 use denote.Struct.Laws as LL
 use Rattle.queues.proofs.Entry as T
 use denote.Enum.Laws as EL

@@ -1,9 +1,7 @@
 -- Facts of the parts of what serving decides, as its machine value tells them. Assumes nothing.
-use Prim.Native.Nat.{_-_}
 use mathlib.Core.List.{List}
 use mir.Val.{Val}
 use denote.Laws.{Is}
-use denote.Steps.{nothing}
 use denote.Struct.Laws as LL
 use Rattle.queues.proofs.Entry as T
 use Rattle.queues.proofs.Service as Y

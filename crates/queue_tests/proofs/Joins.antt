@@ -6,7 +6,7 @@ use mathlib.Core.Bool.{Bool, true, false, cond, _&&_, _||_, not}
 use mathlib.Core.Option.{Option, none}
 use mathlib.Core.List.{List, [], _∷_, _++_}
 use lib.Dec.{ltb, eqb}
-use lib.ListN.{length, take, drop, getD, replicate, length-append, length-drop, take-append-drop}
+use lib.ListN.{length, take, drop, getD, replicate, length-append, length-drop}
 use lib.Seq.{take-length, length-take-le, paste}
 use Rattle.words.specs.Sequences.{all, member}
 use Rattle.words.specs.Tests.{firstFailing, numberOf, AllPass}
@@ -22,7 +22,7 @@ use Rattle.state_saving.proofs.Loads.{whole}
 use Rattle.turns.specs.Surveys.{Survey}
 use Rattle.queues.specs.declared.Entry.{Entry}
 use Rattle.queues.specs.declared.Queued.the-variants.{Lists}
-use Rattle.queues.specs.Lists.{LentLists, lentAs, lineOf, asideOf, ownersIn, owners, filled, entriesOver, entryPlanRoom, entryStateRoom}
+use Rattle.queues.specs.Lists.{LentLists, lentAs, lineOf, asideOf, ownersIn, owners, filled, entryPlanRoom, entryStateRoom}
 use Rattle.queues.specs.Joining.{Joining, joinTests, joinTestsBy, newEntry, joinedAs, joinQueueOf, listsWith}
 use Rattle.queues.specs.ToppingUp.{topUpTestsBy}
 use Rattle.queue_entries.specs.declared.Seen.{Seen}

@@ -1,5 +1,5 @@
 -- A turn takes no more steps than its quantum, and saves no more words than its buffer has, whether it is served or refused.
-use Prim.Native.Nat.{ℕ, _-_, _≤_}
+use Prim.Native.Nat.{ℕ, _≤_}
 use native.Mathlib.Omega.{arith}
 use mathlib.Core.Path.{_≡_, refl, ap}
 use lib.ListN.{length, drop, length-append, length-drop}

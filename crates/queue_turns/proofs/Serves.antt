@@ -1,5 +1,5 @@
 -- Serving by places: the number that refuses it, and where the front entry goes after its turn.
-use Prim.Native.Nat.{ℕ, zero, suc, _+_, _-_, _<_, _≤_, min}
+use Prim.Native.Nat.{ℕ, zero, suc, _-_, _<_, _≤_, min}
 use native.Mathlib.Nat.{le-trans, le-min, min-le-left, min-le-right}
 use native.Mathlib.Omega.{arith}
 use mathlib.Core.Path.{_≡_, refl, sym, _∙_, ap, subst}
@@ -25,7 +25,7 @@ use Rattle.queues.specs.Serving.{entryAfter, turnedTo, frontServed, servedAs, s
 use Rattle.queue_entries.specs.declared.Seen.{Seen}
 use Rattle.queue_entries.specs.Entries.{nobody}
 use Rattle.queue_entries.specs.Seeing.{SeenOf}
-use Rattle.queue_changes.specs.Changes.{unchanged, roomBy, firstNumber}
+use Rattle.queue_changes.specs.Changes.{roomBy, firstNumber}
 use Rattle.queue_changes.proofs.Following.{numbers-follow}
 use Rattle.queue_changes.proofs.Seeing.{seen-entries, seen-room, Roomy, roomy}
 use Rattle.queue_goings.specs.declared.Ended.{Ended}

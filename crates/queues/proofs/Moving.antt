@@ -20,7 +20,6 @@ use Rattle.turns.specs.declared.TurnEnding.the-variants as ending
 use Rattle.turns.specs.Turns.{TurnResult}
 use Rattle.turns.proofs.Progress.{progresses}
 use Rattle.queues.specs.declared.Entry.{Entry}
-use Rattle.queues.specs.declared.Queued.the-variants.{Refused}
 use Rattle.queues.specs.Lists.{LentLists, hasSteps, hasNone, lineOf, asideOf, entriesOver, ownersIn, owners, entriesRight, hasOwner}
 use Rattle.queues.specs.Joining.{Joining, newEntry, joinedAs, joinQueueOf, joinTests, listsWith}
 use Rattle.queues.specs.ToppingUp.{notOwner, withAllowance, topUpTests, toppedAs, topUpOf}

@@ -82,9 +82,6 @@ module _ (t : Tables) (plan : List ℕ) (q : Plan) (tables : firstFailing (table
     pub right-loads : (s : State) → RightState t q s → stateIn (stateWords survey s) ≡ s
     right-loads s r = state-back survey s (year-fits s r) (fits s r)
 
-    pub saved-most : (s : State) → RightState t q s → length (stateWords survey s) ≤ leastStateWords
-    saved-most s r = words-most (section t (s .year)) q (plan-form plan q read) (s .position) (r .position) survey (s .year)
-
     pub loads-back : (n : ℕ) (s : State) → after t q n .state ≡ some s → stateIn (stateWords survey s) ≡ s
     loads-back n s e = right-loads s (right-state n s e)
 

@@ -65,15 +65,6 @@ module _ (t : Tables) (w : tables-right.Right t) (q : Plan) (form : PlanForm q) 
       states.ends-at (step t q) (start t q) (x .last) (x .leads) (x .final)
 
 module _ (t : Tables) (q : Plan) where
-  -- done means that all the steps were taken, and after them nothing changes
-  pub done-whole : (r : RunLength t q) (n : ℕ) → after t q n .state ≡ none → r .steps ≤ n
-  unfolding after
-  done-whole = states.done-whole (step t q) (start t q)
-
-  pub whole-stays : (r : RunLength t q) (n : ℕ) → r .steps ≤ n → after t q n ≡ after t q (r .steps)
-  unfolding after
-  whole-stays = states.whole-stays (step t q) (start t q)
-
   -- no state twice
   once : RunLength t q → (m n : ℕ) (s : State) → after t q m .state ≡ some s → after t q n .state ≡ some s → m ≡ n
   unfolding after

@@ -1,10 +1,10 @@
 -- Test 9 passes exactly the words that have the form of a state, whatever numbers of 28 bits their places are.
 use Prim.Native.Nat.{ℕ, zero, suc, _+_, _-_, _*_, _≤_, _<_}
 use native.Mathlib.Omega.{arith}
-use mathlib.Core.Path.{_≡_, refl, sym, _∙_, ap, ap₂, subst}
+use mathlib.Core.Path.{_≡_, refl, sym, ap₂}
 use mathlib.Core.Logic.{_↔_}
 use mathlib.Core.Bool.{Bool, true, false, cond}
-use mathlib.Core.Option.{none, some}
+use mathlib.Core.Option.{some}
 use mathlib.Core.List.{List, [], _∷_, map}
 use lib.Dec.{eqb, ltb, leb}
 use lib.ListN.{length, getD, length-map}
@@ -27,7 +27,7 @@ use Rattle.steps.specs.Levels.{hasLevel}
 use Rattle.steps.specs.Years.{isYearRead}
 use Rattle.steps.specs.Saved.{isSurvey, isYear, isPlace, positionRight, shapeBehind, shapeRight}
 use Rattle.steps.proofs.YearsRead.{names-low, read-low}
-use Rattle.steps.specs.StateForms.{YearAmong, of-row, of-none, YearRead, StateForm}
+use Rattle.steps.specs.StateForms.{of-row, of-none, YearRead, StateForm}
 
 -- ---- the years that are read
 module _ (t : Tables) (w : Right t) (year : ℕ) where

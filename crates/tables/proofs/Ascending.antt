@@ -8,7 +8,6 @@ use Rattle.words.specs.Sequences.{lexBefore, countBelow}
 use Rattle.words.proofs.Pigeonhole.{Injection, Hit, all-hit}
 use Rattle.words.proofs.Permuting.{count-permuted}
 use Rattle.tables.specs.declared.Order.{Order}
-use Rattle.tables.specs.declared.Order.the-variants.{Spo}
 use Rattle.tables.specs.Tables.{Tables, columnCount, rowCount, rowAt, fieldsOf, fieldsAt}
 use Rattle.tables.specs.Right.{Right}
 use Rattle.tables.proofs.Columns.{fields-length}
@@ -45,8 +44,3 @@ module _ (t : Tables) (w : Right t) (o : Order) where
   -- as many places of an order as rows pass a test of the row
   pub count-rows : (f : ℕ → Bool) → countBelow (λ place. f (rowAt o t place)) (rowCount t) ≡ countBelow f (rowCount t)
   count-rows f = count-permuted f (rowAt o t) (rowCount t) order-injection
-
--- no two rows are the same
-pub one-row : (t : Tables) → Right t → (r q : ℕ) → r < rowCount t → q < rowCount t
-    → fieldsOf Spo (t .rows) r ≡ fieldsOf Spo (t .rows) q → r ≡ q
-one-row t w = one-fields t w Spo

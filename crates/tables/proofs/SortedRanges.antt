@@ -60,10 +60,6 @@ module _ (count : ℕ) (fields : ℕ → List ℕ) (fixed : List ℕ) where
   unfolding endAmong
   end-in-count = count-le _ count
 
-  pub bound-in-count : (last : Bool) → boundAs (startAmong fields count fixed) (endAmong fields count fixed) last ≤ count
-  bound-in-count true = end-in-count
-  bound-in-count false = let e = end-in-count in let s = start-before-end in omega arith
-
 -- ---- among sorted places
 module _ (columns count : ℕ) (fields : ℕ → List ℕ) (sorted : Sorted columns count fields) (fixed : List ℕ) where
   abbrev start : ℕ

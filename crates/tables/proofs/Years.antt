@@ -9,7 +9,7 @@ use lib.ListN.{drop}
 use borrow.Author.Tests.{lt-ltb, ltb-true, leb-true, eqb-true}
 use Rattle.words.specs.Words.{termKind, numberKind, number, mostYear}
 use Rattle.words.specs.Sequences.{lexBefore}
-use Rattle.words.proofs.Booleans.{absurd-true, and-left, and-right}
+use Rattle.words.proofs.Booleans.{absurd-true, and-right}
 use Rattle.words.proofs.Orders.{Three, less, same, more, three, lex-less, lex-same, lex-more}
 use Rattle.tables.specs.declared.Order.{Order}
 use Rattle.tables.specs.declared.Order.the-variants.{Spo, Pos, Osp}
@@ -55,9 +55,6 @@ module _ (t : Tables) (w : Right t) where
         let k = eqb-true (termKind (fieldOf (t .rows) row yearColumn)) numberKind (w .kinds row yearColumn h (omega arith)) in
         omega arith
 
-    pub year-least : 1 ≤ yearAt t row
-    year-least = leb-true _ _ (and-left (leb 1 (yearAt t row)) (leb (yearAt t row) mostYear) (w .years row h))
-
     pub year-most : yearAt t row ≤ mostYear
     year-most = leb-true _ _ (and-right (leb 1 (yearAt t row)) (leb (yearAt t row) mostYear) (w .years row h))
 
@@ -93,15 +90,6 @@ module _ (t : Tables) (w : Right t) where
       pub year-more : word < fieldOf (t .rows) (rowAt o t q) yearColumn → rangeEnd t (yearPrefix o word) ≤ q
       year-more h =
           side-lies t w (yearPrefix o word) q l After (rw (year-first o (t .rows) (rowAt o t q)) (one-after (at q) word (drop 1 (fieldsAt o t q)) h))
-
-      -- and the other way
-      pub before-start : q < rangeStart t (yearPrefix o word) → fieldOf (t .rows) (rowAt o t q) yearColumn < word
-      before-start h = go (three (at q) word)
-        where
-          go : Three (at q) word → at q < word
-          go (less k) = k
-          go (same k) = absurd (let a = year-same k in omega arith)
-          go (more k) = absurd (let a = year-more k in let b = start-le-end t (yearPrefix o word) in omega arith)
 
       pub in-year : rangeStart t (yearPrefix o word) ≤ q → q < rangeEnd t (yearPrefix o word)
           → fieldOf (t .rows) (rowAt o t q) yearColumn ≡ word

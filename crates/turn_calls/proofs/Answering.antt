@@ -2,7 +2,7 @@
 use Prim.Native.Nat.{ℕ}
 use mathlib.Core.Path.{_≡_, sym, _∙_, ap, subst, subst⁻¹}
 use mathlib.Core.Option.{none, some}
-use mathlib.Core.List.{List, []}
+use mathlib.Core.List.{List}
 use lib.ListN.{length}
 use Rattle.words.specs.Sequences.{over}
 use Rattle.words.specs.Tests.{firstFailing}
@@ -12,7 +12,7 @@ use Rattle.turns.specs.declared.TurnEnding.{TurnEnding}
 use Rattle.turns.specs.declared.TurnEnding.the-variants.{Refused}
 use Rattle.turns.specs.declared.Turned.{Turned}
 use Rattle.turn_runs.specs.declared.Ran.{Ran}
-use Rattle.turns.specs.Turns.{Progress, endingOf, stepsOf, leftOf, progress, fitsIn, TurnInput, TurnResult, givenPlan, givenState, finished, served}
+use Rattle.turns.specs.Turns.{Progress, endingOf, stepsOf, progress, fitsIn, TurnInput, TurnResult, givenPlan, givenState, finished, served}
 use Rattle.turns.specs.Turns.{turnTests, turnedAs, turnOf}
 use Rattle.turns.specs.Refusals.{TurnAnswers}
 use Rattle.turns.proofs.Refusals.{turn-refusals}

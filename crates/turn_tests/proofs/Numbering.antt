@@ -1,11 +1,10 @@
 -- The tests of a turn as a number, in the groups in which they are made; and what a turn has that passes them all.
 use Prim.Native.Nat.{ℕ, _≤_, _<_}
-use native.Mathlib.Omega.{arith}
 use mathlib.Core.Path.{_≡_, refl, sym, _∙_, ap}
 use mathlib.Core.Bool.{Bool, true, false, _&&_}
-use mathlib.Core.Option.{Option, none, some}
+use mathlib.Core.Option.{none, some}
 use mathlib.Core.List.{List, [], _∷_, _++_}
-use lib.Dec.{leb, ltb}
+use lib.Dec.{leb}
 use lib.ListN.{length}
 use borrow.Author.Tests.{ltb-true, leb-true}
 use Rattle.words.specs.Words.{lowNumbers}
@@ -13,7 +12,7 @@ use Rattle.words.specs.Sequences.{all}
 use Rattle.words.specs.Tests.{Test, firstFailing, numberOf}
 use Rattle.words.proofs.Booleans.{and-left, and-right}
 use Rattle.words.proofs.Testing.{passes-all, testNumbered, test-passed}
-use Rattle.words.proofs.Numbering.{one-fails, none-fails, front-fails, front-decides, rest-decides, both-pass}
+use Rattle.words.proofs.Numbering.{one-fails, none-fails, front-decides, rest-decides, both-pass}
 use Rattle.tables.specs.Tables.{Tables, tableTests}
 use Rattle.tables.specs.Right.{Right}
 use Rattle.tables.proofs.RightTables.{right}

@@ -6,7 +6,6 @@ use mathlib.Core.Bool.{Bool, true, false, _&&_}
 use mathlib.Core.List.{[]}
 use lib.Dec.{leb}
 use lib.ListN.{length, take}
-use Rattle.words.specs.Tests.{FirstFails}
 use Rattle.words.proofs.Testing.{some-injective, testNumbered, some-fails, fails-at, fails-first}
 use Rattle.tables.specs.Tables.{Tables}
 use Rattle.plans.specs.Plans.{Plan}

@@ -17,9 +17,9 @@ use Rattle.lists.proofs.Closing.{groups-closed, registers-at}
 use Rattle.lists.proofs.RegisterLists.{length-registers, registers-none}
 use Rattle.turns.specs.declared.TurnEnding.{TurnEnding}
 use Rattle.turns.specs.declared.TurnEnding.the-variants.{Done, Spent, Full, Refused}
-use Rattle.turns.specs.Turns.{isDone, isOver, TurnInput, givenPlan, turnOf, leftOf, served}
+use Rattle.turns.specs.Turns.{isDone, isOver, TurnInput, givenPlan, turnOf}
 use Rattle.turns.specs.Refusals.{Served}
-use Rattle.turns.specs.Follows.{givenRun, turnRun, listOf, Follows}
+use Rattle.turns.specs.Follows.{givenRun, turnRun, listOf}
 use Rattle.turns.specs.Closes.{Closes}
 use Rattle.turns.proofs.Stepping.{done-over}
 use Rattle.turns.proofs.Follows.{follows, served-ending, served-run}

@@ -1,5 +1,5 @@
 -- The ending of a served turn, in the words of the rules (docs/RULES.md, 7), each in both directions: done, spent or full, and exactly one.
-use Prim.Native.Nat.{ℕ, _≤_, _<_}
+use Prim.Native.Nat.{ℕ, _<_}
 use native.Mathlib.Omega.{arith}
 use mathlib.Core.Path.{_≡_, refl, sym, _∙_, ap, subst, subst⁻¹}
 use mathlib.Core.Logic.{_↔_}
@@ -8,18 +8,17 @@ use mathlib.Core.List.{List, [], _∷_, _++_}
 use lib.ListN.{length}
 use Rattle.words.specs.Bindings.{Bindings}
 use Rattle.words.proofs.Testing.{none-some, some-injective}
-use Rattle.steps.specs.Steps.{State, delivers, Run}
+use Rattle.steps.specs.Steps.{State, Run}
 use Rattle.steps.specs.Saved.{positionWords, savedWords, stateIn}
 use Rattle.prunings.specs.Pruning.{prunedStep}
 use Rattle.lists.specs.Gathering.{gathered}
-use Rattle.lists.specs.Space.{NoSpaceFor}
 use Rattle.lists.proofs.Room.{no-space-longer, longer-no-space}
 use Rattle.turns.specs.declared.TurnEnding.{TurnEnding}
 use Rattle.turns.specs.declared.TurnEnding.the-variants.{Done, Spent, Full, Refused}
 use Rattle.turns.specs.Turns.{Progress, going, stopped, endingOf, stepsOf, leftOf, rowsOf, TurnInput, givenState, givenPlan, served, turnOf}
 use Rattle.turns.specs.Refusals.{Served}
 use Rattle.turns.specs.Follows.{givenRun, turnRun}
-use Rattle.turns.specs.Endings.{NoSpace, IsDone, IsSpent, IsFull, ExactlyOne, first, second, third, Endings}
+use Rattle.turns.specs.Endings.{NoSpace, IsDone, IsSpent, IsFull, first, second, third, Endings}
 use Rattle.turns.proofs.Stepping.{GoesOn, AfterAttempts, roomFor, has-room, lacks-room, served-attempts}
 use Rattle.turns.proofs.Follows.{follows, served-steps, served-ending, served-run, rows-fit}
 use Rattle.turns.proofs.Limits.{turn-limits}

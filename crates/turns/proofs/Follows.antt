@@ -16,7 +16,7 @@ use Rattle.lists.specs.Closing.{listAt}
 use Rattle.lists.proofs.OneRow.{none-fits}
 use Rattle.lists.proofs.Closing.{at-room}
 use Rattle.turns.specs.Surveys.{Survey}
-use Rattle.turns.specs.Opening.{Opened, startWords, openOf, Opens}
+use Rattle.turns.specs.Opening.{Opened, startWords, Opens}
 use Rattle.turns.specs.Turns.{Progress, going, stopped, endingOf, stepsOf, leftOf, rowsOf, TurnInput, TurnResult, resultOf, givenPlan}
 use Rattle.turns.specs.Turns.{isOver, turnList, finished, served, turnOf}
 use Rattle.turns.specs.Refusals.{Served}

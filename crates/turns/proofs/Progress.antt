@@ -7,7 +7,7 @@ use mathlib.Core.List.{[], _∷_}
 use Rattle.words.specs.Bindings.{Bindings}
 use Rattle.steps.specs.Saved.{stateIn}
 use Rattle.lists.proofs.OneRow.{one-row}
-use Rattle.turns.specs.Turns.{Progress, stepsOf, TurnInput, givenState, givenPlan, served, turnOf}
+use Rattle.turns.specs.Turns.{Progress, stepsOf, TurnInput, givenState, givenPlan, served}
 use Rattle.turns.proofs.Stepping.{AfterAttempts, some-steps, roomFor, has-room, served-attempts}
 use Rattle.turns.specs.Refusals.{Served}
 use Rattle.turns.specs.OnTheRun.{Progresses}

@@ -1,6 +1,6 @@
 -- What a test that is true or false says of its parts.
 use mathlib.Core.Path.{_≡_, refl, sym, _∙_}
-use mathlib.Core.Bool.{Bool, true, false, cond, _&&_, _||_, not, true≢false}
+use mathlib.Core.Bool.{Bool, true, false, _&&_, _||_, true≢false}
 
 pub absurd-true {ℓ} : {A : Type ℓ} {b : Bool} → b ≡ true → b ≡ false → A
 absurd-true p q = absurd (true≢false (sym p ∙ q))

@@ -4,7 +4,7 @@ use native.Mathlib.Omega.{arith}
 use native.Mathlib.Numerals.{add-one}
 use mathlib.Core.Path.{_≡_, refl, sym, _∙_, ap}
 use mathlib.Core.List.{List, [], _∷_, _++_}
-use lib.ListN.{length, take, drop, getD, set, length-append, length-drop}
+use lib.ListN.{length, take, drop, set, length-append, length-drop}
 use lib.Seq.{take-append-seam, drop-append-seam, drop-append-add, drop-drop, set-append-seam, append-snoc, drop-cons}
 use Rattle.words.specs.Sequences.{over}
 use Rattle.words.specs.Buffers.{Overwritten}

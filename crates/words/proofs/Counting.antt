@@ -2,8 +2,8 @@
 use Prim.Native.Nat.{ℕ, zero, suc, _+_, _≤_, _<_}
 use native.Mathlib.Omega.{arith}
 use native.Mathlib.Decide.{decLt}
-use mathlib.Core.Path.{_≡_, refl, sym, _∙_, ap, subst}
-use mathlib.Core.Bool.{Bool, true, false, cond, _&&_}
+use mathlib.Core.Path.{_≡_, refl, subst}
+use mathlib.Core.Bool.{Bool, true, false, cond}
 use Rattle.words.specs.Sequences.{allBelow, countBelow}
 use Rattle.words.proofs.Booleans.{absurd-true, and-left, and-right, and-both}
 
@@ -22,11 +22,6 @@ module _ (f : ℕ → Bool) where
   unfolding countBelow
   count-all zero h = refl
   count-all (suc n) h = rw (h n (omega arith)) (let e = count-all n (λ i l. h i (omega arith)) in omega arith)
-
-  pub count-none : (n : ℕ) → ((i : ℕ) → i < n → f i ≡ false) → countBelow f n ≡ 0
-  unfolding countBelow
-  count-none zero h = refl
-  count-none (suc n) h = rw (h n (omega arith)) (count-none n (λ i l. h i (omega arith)))
 
   pub all-at : (n : ℕ) → allBelow f n ≡ true → (i : ℕ) → i < n → f i ≡ true
   unfolding allBelow

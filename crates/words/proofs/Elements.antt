@@ -1,11 +1,11 @@
 -- A test that passes at each element of a list: what it says of the list's elements, and of lists made from it.
 use Prim.Native.Nat.{ℕ, zero, suc, _<_}
 use native.Mathlib.Omega.{arith}
-use mathlib.Core.Path.{_≡_, refl, sym, _∙_, ap, subst}
-use mathlib.Core.Bool.{Bool, true, false, _&&_, _||_}
+use mathlib.Core.Path.{_≡_, refl, sym, _∙_, ap}
+use mathlib.Core.Bool.{Bool, true, false, _||_}
 use mathlib.Core.List.{List, [], _∷_, _++_}
 use lib.Dec.{eqb}
-use lib.ListN.{length, take, drop, getD, set, replicate}
+use lib.ListN.{length, take, getD, set, replicate}
 use borrow.Author.Tests.{eqb-true}
 use Rattle.words.specs.Sequences.{all, allBelow, member}
 use Rattle.words.proofs.Booleans.{absurd-true, and-left, and-right, and-both}
@@ -68,16 +68,6 @@ module _ {A : Type 0} (f : A → Bool) where
   all-weaken g [] h e = refl
   all-weaken g (x ∷ xs) h e =
       and-both (g x) (all g xs) (h x (and-left (f x) (all f xs) e)) (all-weaken g xs h (and-right (f x) (all f xs) e))
-
--- two tests that pass at each element pass there together
-pub all-both : {A : Type 0} (f g : A → Bool) (xs : List A) → all f xs ≡ true → all g xs ≡ true
-    → all (λ x. f x && g x) xs ≡ true
-unfolding all
-all-both f g [] p q = refl
-all-both f g (x ∷ xs) p q =
-    and-both (f x && g x) (all (λ y. f y && g y) xs)
-    (and-both (f x) (g x) (and-left (f x) (all f xs) p) (and-left (g x) (all g xs) q))
-    (all-both f g xs (and-right (f x) (all f xs) p) (and-right (g x) (all g xs) q))
 
 -- a word that is among others passes what they all pass
 pub member-all : (f : ℕ → Bool) (a : ℕ) (xs : List ℕ) → all f xs ≡ true → member a xs ≡ true → f a ≡ true

@@ -9,7 +9,7 @@ use lib.ListN.{length, getD}
 use borrow.Author.Tests.{lt-ltb, ltb-true}
 use Rattle.words.specs.Sequences.{lexBefore}
 use Rattle.words.proofs.Booleans.{absurd-true, Decided, yes, no, decided}
-use Rattle.words.proofs.Orders.{Three, less, same, more, three, Ordered}
+use Rattle.words.proofs.Orders.{Three, less, same, more, three}
 use Rattle.words.proofs.Ascending.{Ascending}
 use Rattle.words.proofs.SortedStrictly.{ascending-pairs}
 use Rattle.words.proofs.SortedNumbers.{before, totally, totally-ordered, alike, snoc-before, snoc-same}

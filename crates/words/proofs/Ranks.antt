@@ -6,12 +6,10 @@ use mathlib.Core.Path.{_≡_, refl, _∙_, ap}
 use mathlib.Core.Bool.{Bool, true, false}
 use lib.Bits.{bitAnd, bitXor, and-block, and-zero-r, xor-block, xor-zero-r}
 use lib.Dec.{leb}
-use lib.IntN.{subℕ}
 use borrow.Author.Tests.{eqb-true, eqb-false, eq-eqb, ne-eqb, le-leb, lt-leb}
 use Rattle.words.specs.Words.{termValues, halfValues, numberKind, variableKind, termKind, termValue, unbound, isNumber, isValue}
-use Rattle.words.specs.Words.{numberValue, valueRank, keyRank}
+use Rattle.words.specs.Words.{valueRank, keyRank}
 use Rattle.words.proofs.Orders.{less, same, more, three}
-use Rattle.words.proofs.Signed.{signed-moved}
 
 -- ---- among the terms of a kind
 pub number-rank : (w : ℕ) → termKind w ≡ numberKind → valueRank w ≡ (termValue w + halfValues) % termValues
@@ -42,12 +40,6 @@ rank-one a b k e = go (isNumber a) refl
         let r = other-rank a h in
         let s = other-rank b (λ q. h (omega arith)) in
         omega arith
-
--- a number's place is what it counts for, from the least number on
-pub rank-value : (w : ℕ) → termKind w ≡ numberKind → numberValue w ≡ subℕ (valueRank w) halfValues
-rank-value w e =
-    let r = number-rank w e in
-    signed-moved halfValues (termValue w) (valueRank w) (omega arith) (λ l. omega arith) (λ l. omega arith)
 
 -- ---- in the order of keys
 pub rank-bound : (w : ℕ) → w < unbound → keyRank w ≡ 1 + termKind w * termValues + valueRank w

@@ -54,14 +54,3 @@ signed-low half n h = rw (lt-ltb n half h)
 pub signed-high : (half n : ℕ) → half ≤ n → signed half n ≡ subℕ n (half + half)
 unfolding signed
 signed-high half n h = rw (le-ltb n half h)
-
--- the value moved up by the half: what is counted from the least value on
-pub signed-moved : (half n m : ℕ) → n < half + half → (n < half → m ≡ n + half) → (half ≤ n → m + half ≡ n)
-    → signed half n ≡ subℕ m half
-signed-moved half n m l p q =
-    elim (decLt n half) [
-      | yes h ↦ signed-low half n h ∙ sub-same n 0 m half (let e = p h in omega arith)
-      | no h ↦
-          let k : half ≤ n = omega arith in
-          signed-high half n k ∙ sub-same n (half + half) m half (let e = q k in omega arith)
-    ]

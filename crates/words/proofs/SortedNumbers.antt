@@ -4,7 +4,7 @@ use Prim.Native.Nat.{ℕ, _+_, _<_}
 use native.Mathlib.Omega.{arith}
 use mathlib.Core.Path.{_≡_, refl, sym, _∙_, ap, subst}
 use mathlib.Core.Bool.{Bool, true, false}
-use mathlib.Core.Logic.{_⊎_, inl, inr}
+use mathlib.Core.Logic.{inl, inr}
 use mathlib.Core.List.{List, [], _∷_, _++_}
 use lib.Dec.{ltb}
 use lib.ListN.{length, length-append}
@@ -90,9 +90,6 @@ module _ (f : ℕ → List ℕ) (w : ℕ) (l : (a : ℕ) → length (f a) ≡ w)
             insert-later before y x xs e ∙ ap (λ zs. x ∷ zs) (same-insert y xs (d .1))
             ∙ sym (insert-later totally y x xs (totally-less x y (d .0) ∙ e))
       ]
-
-  abbrev pub Rising : List ℕ → Type 0
-  Rising xs = Ascending ltb xs
 
   -- sorting rising numbers, put in after smaller ones
   same-insertAll : (ys xs : List ℕ) → Ascending ltb ys → Each (λ y. Each (λ x. x < y) xs) ys

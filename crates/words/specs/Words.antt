@@ -1,6 +1,6 @@
 -- Words: a kind in the top bits and a value or number in the low ones; the order of keys. Each kind value is written here
 -- and nowhere else in the definitions. Assumes nothing: these are definitions.
-use Prim.Native.Nat.{ℕ, _+_, _-_, _*_, _/_, _%_}
+use Prim.Native.Nat.{ℕ, _+_, _*_, _/_, _%_}
 use mathlib.Core.Bool.{Bool, cond, _||_, not}
 use lib.Dec.{eqb, ltb}
 use lib.IntN.{ℤ, subℕ}

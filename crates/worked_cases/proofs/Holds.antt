@@ -1,6 +1,6 @@
 -- Every case of the tables holds, by computation.
 use mathlib.Core.Path.{refl}
-use mathlib.Core.List.{flatten, _++_}
+use mathlib.Core.List.{flatten}
 use Rattle.words.specs.Computing as words
 use Rattle.tables.specs.Computing as tables
 use Rattle.plans.specs.Computing as plans

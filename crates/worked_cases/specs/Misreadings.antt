@@ -1,11 +1,11 @@
 -- The misreadings that the rules (docs/RULES.md, 11) name: for each what a call gives, the right words, and those of the misreading.
-use Prim.Native.Nat.{ℕ, suc}
+use Prim.Native.Nat.{ℕ}
 use mathlib.Core.Path.{_≡_}
 use mathlib.Core.List.{List, [], _∷_, _++_}
 use mathlib.Core.Bool.{Bool, true, false, _&&_}
 use lib.Dec.{eqb}
 use lib.ListN.{take}
-use Rattle.words.specs.Words.{name, number, unbound}
+use Rattle.words.specs.Words.{name, unbound}
 use Rattle.words.specs.Answers.{wordsIn}
 use Rattle.turns.specs.Turns.{TurnInput, TurnResult, turnOf}
 use Rattle.merges.specs.Merging.{MergeResult, mergeOf}

@@ -6,7 +6,6 @@ use mathlib.Core.Option.{none, some}
 use lib.ListN.{length, replicate}
 use Rattle.words.specs.declared.Written.the-variants.{Words}
 use Rattle.words.specs.Sequences.{over}
-use Rattle.tables.specs.Tables.{Tables}
 use Rattle.steps.specs.Steps.{inYear}
 use Rattle.turns.specs.declared.TurnEnding.the-variants.{Done, Spent}
 use Rattle.turns.specs.Opening.{openOf}

@@ -1,7 +1,7 @@
 -- The premise of an adviser's theorem is met by tables of different numbers of rows, so that their view, and all queries over it, are the same.
-use Prim.Native.Nat.{ℕ, zero, suc}
+use Prim.Native.Nat.{zero, suc}
 use native.Mathlib.Omega.{arith}
-use mathlib.Core.Path.{_≡_, refl}
+use mathlib.Core.Path.{refl}
 use mathlib.Core.List.{[], _∷_}
 use Rattle.table_answers.specs.Writing.{TableBuffers}
 use Rattle.views.specs.Hidden.{HiddenAlone, lending}

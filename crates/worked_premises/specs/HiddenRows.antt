@@ -1,5 +1,4 @@
 -- Two woods of different numbers of rows, to an adviser to whom n2 is granted: the three stems, and n2 with a stem that the other wood has not.
-use Prim.Native.Nat.{ℕ}
 use mathlib.Core.Path.{_≡_}
 use mathlib.Core.Option.{none}
 use mathlib.Core.List.{[], _∷_}

@@ -1,11 +1,10 @@
 -- An ending of registers, in literal words: its form, what a turn lists, test 11, and merging, each limit on both sides.
 use Prim.Native.Nat.{ℕ}
-use mathlib.Core.List.{List, [], _∷_, _++_, flatten}
+use mathlib.Core.List.{List, [], _∷_, _++_}
 use mathlib.Core.Option.{none, some}
-use lib.ListN.{length, replicate}
+use lib.ListN.{replicate}
 use Rattle.words.specs.declared.Written.the-variants.{Words}
 use Rattle.words.specs.Sequences.{over}
-use Rattle.tables.specs.Tables.{Tables}
 use Rattle.turns.specs.declared.TurnEnding.the-variants.{Done, Spent}
 use Rattle.turns.specs.Opening.{openOf}
 use Rattle.cuts.specs.Histories.{Event, turns, merges, Phone, fresh, history}

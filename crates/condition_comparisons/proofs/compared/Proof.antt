@@ -1,6 +1,5 @@
 -- `compared` meets its contract: a comparison is three words, and its value is that of its two terms' values.
 use borrow.Author.Needs.{needs}
-use native.Mathlib.Omega.{arith}
 use Rattle.condition_comparisons.proofs.compared.Statement.{statement}
 use Rattle.condition_comparisons.proofs.compared.Tie as tie
 

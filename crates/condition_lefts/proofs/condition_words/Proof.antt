@@ -1,6 +1,5 @@
 -- `condition_words` meets its contract.
 use borrow.Author.Needs.{needs}
-use native.Mathlib.Omega.{arith}
 use mathlib.Core.Path.{sym, _∙_}
 use Rattle.plans.specs.Conditions.{readCondition, mostDepth}
 use Rattle.plans.proofs.Trees.{bad-words, reads-words}

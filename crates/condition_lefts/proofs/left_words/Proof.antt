@@ -2,7 +2,6 @@
 use borrow.Author.Needs.{needs}
 use native.Mathlib.Omega.{arith}
 use mathlib.Core.Path.{refl, sym, _∙_}
-use mathlib.Core.List.{[]}
 use Rattle.plans.specs.declared.Node.the-variants.{Always, Pair, Negated, Compared, Wrong}
 use Rattle.conditions.proofs.Places.{no-left, left-found}
 use Rattle.condition_lefts.proofs.left_words.Statement.{statement}

@@ -1,7 +1,7 @@
 -- `always` meets its contract: where the first word is that node, the condition is it.
 use borrow.Author.Needs.{needs}
 use native.Mathlib.Omega.{arith}
-use mathlib.Core.Path.{_≡_, refl}
+use mathlib.Core.Path.{refl}
 use Rattle.words.proofs.Booleans.{absurd-true}
 use Rattle.conditions.proofs.Evaluating.{begins-at, starts-inside, is-always}
 use Rattle.condition_values.proofs.always.Statement.{statement}

@@ -5,9 +5,6 @@ use Prim.Native.Nat.{_/_, _%_}
 use Rattle.hashes.specs.Hashes.{mixed, hashOf}
 use Rattle.hashes.proofs.hash_of.Statement.{statement}
 use Rattle.hashes.proofs.hash_of.Tie as tie
-use Rattle.hashes.proofs.hash_of.Reads as reads
-use Rattle.hashes.proofs.hash_of.Lts as lts
-use Rattle.hashes.proofs.mix.Reads as mix-reads
 
 mix-requires : tie.Need-mix-requires
 mix-requires c κs = search needs

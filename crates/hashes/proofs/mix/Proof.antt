@@ -3,9 +3,6 @@ use borrow.Author.Needs.{needs}
 use Rattle.hashes.specs.Hashes.{mixed}
 use Rattle.hashes.proofs.mix.Statement.{statement}
 use Rattle.hashes.proofs.mix.Tie as tie
-use Rattle.hashes.proofs.mix.Reads as reads
-use Rattle.hashes.proofs.mix.Lts as lts
-use Rattle.hashes.proofs.wrapping_mul.Reads as wrapping-mul-reads
 
 wrapping-mul-requires : tie.Need-wrapping-mul-requires
 wrapping-mul-requires c κs = search needs

@@ -5,8 +5,6 @@ use Rattle.hashes.specs.Hashes.{rankIn}
 use Rattle.hashes.proofs.Ranks.{leading-more}
 use Rattle.hashes.proofs.rank_in.Statement.{statement}
 use Rattle.hashes.proofs.rank_in.Tie as tie
-use Rattle.hashes.proofs.rank_in.Reads as reads
-use Rattle.hashes.proofs.rank_in.Lts as lts
 
 sub-result : tie.Need-sub-result
 sub-result c = let e = leading-more (c .args .hash % 1152921504606846976) (omega arith) in omega (arith, e)

@@ -1,14 +1,11 @@
 -- `wrapping_mul` meets its contract: the sums of the halves' products wrap as the product does.
 use borrow.Author.Needs.{needs}
 use native.Mathlib.Omega.{arith}
-use mathlib.Core.Path.{_∙_, sym, ap, ap₂}
-use Prim.Native.Nat.{_+_, _*_, _/_, _%_, _^_}
+use mathlib.Core.Path.{_∙_, ap}
+use Prim.Native.Nat.{_+_, _*_, _%_, _^_}
 use Rattle.hashes.proofs.Halves.{below, product}
 use Rattle.hashes.proofs.wrapping_mul.Statement.{statement}
 use Rattle.hashes.proofs.wrapping_mul.Tie as tie
-use Rattle.hashes.proofs.wrapping_mul.Reads as reads
-use Rattle.hashes.proofs.wrapping_mul.Lts as lts
-use Rattle.std.proofs.num.wrapping_add_u64.Reads as wrapping-add-u64-reads
 
 mul-wrapping-add-u64 : tie.Need-mul-wrapping-add-u64
 mul-wrapping-add-u64 c = record { fits = below 32 (omega arith) (omega arith) }

@@ -1,10 +1,8 @@
 -- `merge_registers` meets its contract: test 12 of both lists, 14, and then they are merged.
 use borrow.Author.Needs.{needs}
-use native.Mathlib.Omega.{arith}
 use Prim.Native.Nat.{ℕ}
 use mathlib.Core.Path.{sym}
 use mathlib.Core.Bool.{Bool}
-use mathlib.Core.List.{List}
 use lib.ListN.{take}
 use lib.Seq.{length-take-le}
 use Rattle.plans.specs.Endings.{registers}

@@ -3,7 +3,7 @@ use borrow.Author.Needs.{needs}
 use mathlib.Core.Path.{_≡_, _∙_}
 use native.Mathlib.Omega.{arith}
 use Prim.Native.Nat.{_%_}
-use Rattle.words.specs.Words.{termValues, low, variable}
+use Rattle.words.specs.Words.{termValues, low}
 use Rattle.plan_ending_variables.proofs.is_key_among.Statement.{statement}
 use Rattle.plan_ending_variables.proofs.is_key_among.Tie as tie
 

@@ -1,7 +1,5 @@
 -- `put_field` meets its contract: by how the word is shown.
 use borrow.Author.Needs.{needs}
-use mathlib.Core.Path.{sym}
-use Rattle.print_terms.specs.Fields.{fieldAs}
 use Rattle.print_terms.proofs.put_field.Statement.{statement}
 use Rattle.print_terms.proofs.put_field.Tie as tie
 

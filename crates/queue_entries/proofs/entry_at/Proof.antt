@@ -1,9 +1,9 @@
 -- `queue_entries::entry_at` meets its contract: a walk of its MIR, by hand. Where the place is in the list it is computed, the slice is looked
 -- into, and the element is read and put back; else `nobody` is called. Assumes nothing.
 use mathlib.Core.Path.{_≡_, refl, sym, _∙_}
-use Prim.Native.Nat.{ℕ, _<_, _-_, _*_, _^_}
+use Prim.Native.Nat.{ℕ, _<_, _*_, _^_}
 use native.Mathlib.Omega.{arith}
-use mathlib.Core.Bool.{true, not}
+use mathlib.Core.Bool.{not}
 use mathlib.Core.List.{[], _∷_, List}
 use lib.Dec.{T as So, ltb, ltb→lt, nltb→le}
 use lib.ListN.{length, getD}

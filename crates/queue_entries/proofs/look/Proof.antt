@@ -1,7 +1,7 @@
 -- `queue_entries::look` meets its contract: a walk of its MIR, by hand. Both lists are lent on to each callee and come back, and what they found is put
 -- together. Assumes nothing.
 use mathlib.Core.Path.{_≡_, refl, ap}
-use Prim.Native.Nat.{ℕ, _<_, _≤_, _-_, _^_, zero-le, min}
+use Prim.Native.Nat.{ℕ, _<_, _≤_, _^_, zero-le, min}
 use native.Mathlib.Nat.{min-le-right}
 use native.Mathlib.Omega.{arith}
 use mathlib.Core.Bool.{Bool, true, false}
@@ -21,7 +21,7 @@ use contract.Monad.{Fun, fact}
 use contract.Running.{givenOf, tables, tablesOf}
 use types.Kit.{Given, ‵, raw, given, _⊛_, ⋆, some, later, _$_, _∵_, !, qed, by, move, keep, drop, use0, use1, use2, use3, split, join, rewrite, pick}
 use types.Kit.{fsplit, fjoin, suffices, frame, await, done}
-use types.Run.{look, init, store, forget, stop, fld, from, load, lit, true-lit, false-lit, of-opd, and-then, no-more, assigns, land, first, returns, enter}
+use types.Run.{look, init, store, forget, stop, fld, from, load, lit, true-lit, false-lit, of-opd, and-then, no-more, assigns, land, returns, enter}
 use types.Run.{alloc1, alloc0, params1, pass1, pass0, free1, free0}
 use types.Part.{agg, whole, sub, look-in}
 use sound.WpLaws.{FmC, fmOf, WpFn-mono}

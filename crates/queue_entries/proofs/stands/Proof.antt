@@ -1,7 +1,7 @@
 -- `stands` meets its contract: the first of its three tests that fails decides.
 use borrow.Author.Needs.{needs}
-use mathlib.Core.Path.{_≡_, refl, sym, _∙_}
-use mathlib.Core.Bool.{Bool, true, false, cond, _&&_, not}
+use mathlib.Core.Path.{_∙_}
+use mathlib.Core.Bool.{cond, _&&_, not}
 use lib.Dec.{leb, ltb, eqb}
 use Rattle.queue_entries.proofs.Deciding.{steps-fail, steps-pass, found-again, not-again}
 use Rattle.queue_entries.proofs.stands.Statement.{statement}

@@ -1,7 +1,6 @@
 -- `steps_right` meets its contract, by the list that the entry is in.
-use borrow.Author.Needs.{needs}
-use mathlib.Core.Path.{_≡_, refl, sym, ap}
-use mathlib.Core.Bool.{Bool, true, false, cond}
+use mathlib.Core.Path.{sym, ap}
+use mathlib.Core.Bool.{Bool, cond}
 use lib.Dec.{leb, eqb}
 use Rattle.queue_entries.proofs.steps_right.Statement.{statement}
 use Rattle.queue_entries.proofs.steps_right.Tie as tie

@@ -1,8 +1,7 @@
 -- `report` meets its contract: test 7, test 12, and then the counts.
 use borrow.Author.Needs.{needs}
-use native.Mathlib.Omega.{arith}
-use mathlib.Core.Path.{refl, sym, _∙_}
-use lib.ListN.{length, take}
+use mathlib.Core.Path.{sym, _∙_}
+use lib.ListN.{take}
 use lib.Seq.{length-take-le}
 use borrow.Author.Tests.{not-true, not-false}
 use Rattle.registers.proofs.Refusals.{report-told}

@@ -1,6 +1,5 @@
 -- `state_saving::depth_right` meets its contract.
 use borrow.Author.Needs.{needs}
-use Prim.Native.Nat.{_-_}
 use native.Mathlib.Omega.{arith}
 use borrow.Author.Tests.{le-leb}
 use Rattle.state_forms.proofs.depth_right.Statement.{statement}

@@ -2,7 +2,7 @@
 use borrow.Author.Needs.{needs}
 use Prim.Native.Nat.{_-_, _≤_, max}
 use native.Mathlib.Omega.{arith}
-use mathlib.Core.Path.{_≡_, refl, sym, _∙_, ap}
+use mathlib.Core.Path.{_≡_, refl, _∙_, ap}
 use lib.ListN.{length, getD, set, length-set}
 use Rattle.words.specs.Sequences.{over}
 use Rattle.list_registers.proofs.Merged.{mergedTo, merged-none, next-read, merged-over, merged-whole}

@@ -1,6 +1,6 @@
 -- `put_counted` meets its contract: there is room for 16 words.
 use borrow.Author.Needs.{needs}
-use mathlib.Core.Path.{_≡_, _∙_, ap}
+use mathlib.Core.Path.{_∙_, ap}
 use lib.ListN.{take}
 use Rattle.words.specs.Sequences.{over}
 use Rattle.registers.specs.Registers.{registerCount}

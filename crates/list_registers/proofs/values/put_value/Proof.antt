@@ -1,7 +1,6 @@
 -- `put_value` meets its contract: a value that is not bound leaves all as it was.
 use borrow.Author.Needs.{needs}
-use native.Mathlib.Omega.{arith}
-use mathlib.Core.Path.{_≡_, refl, sym, _∙_, ap}
+use mathlib.Core.Path.{_∙_}
 use borrow.Author.Tests.{eq-eqb, ne-eqb}
 use Rattle.words.specs.Words.{unbound}
 use Rattle.registers.specs.Registers.{registerCount}

@@ -1,9 +1,9 @@
 -- `raise` meets its contract: one word is set.
 use borrow.Author.Needs.{needs}
 use native.Mathlib.Omega.{arith}
-use mathlib.Core.Path.{_≡_, refl, sym, _∙_, ap, ap₂}
-use Prim.Native.Nat.{_≤_, _<_, max}
-use lib.ListN.{length, getD, set}
+use mathlib.Core.Path.{_≡_, _∙_, ap, ap₂}
+use Prim.Native.Nat.{_<_, max}
+use lib.ListN.{getD, set}
 use Rattle.hashes.specs.Hashes.{hashOf, pickedBy, rankIn}
 use Rattle.registers.specs.Registers.{registerCount}
 use Rattle.list_registers.proofs.Raising.{raised}

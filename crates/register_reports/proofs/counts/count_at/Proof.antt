@@ -1,7 +1,7 @@
 -- `count_at` meets its contract: what is counted, and what is left to count.
 use Prim.Native.Nat.{_+_, _-_, _≤_}
 use native.Mathlib.Omega.{arith}
-use mathlib.Core.Path.{_≡_, refl, sym, _∙_}
+use mathlib.Core.Path.{_≡_}
 use lib.ListN.{length, drop}
 use Rattle.registers.specs.Registers.{countAt}
 use Rattle.register_reports.proofs.Counting.{count-end, count-counts, count-skips}

@@ -1,7 +1,7 @@
 -- `counted` meets its contract, by whether the list is empty.
 use borrow.Author.Needs.{needs}
 use mathlib.Core.Path.{sym, _∙_, ap}
-use Rattle.registers.specs.Registers.{registersIn, countAt}
+use Rattle.registers.specs.Registers.{countAt}
 use Rattle.register_reports.proofs.Counting.{some-registers, no-registers}
 use Rattle.register_reports.proofs.counts.counted.Statement.{statement}
 use Rattle.register_reports.proofs.counts.counted.Tie as tie

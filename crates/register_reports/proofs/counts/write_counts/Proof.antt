@@ -1,7 +1,7 @@
 -- `write_counts` meets its contract: the counts at the values passed are written.
 use Prim.Native.Nat.{_-_, _≤_}
 use native.Mathlib.Omega.{arith}
-use mathlib.Core.Path.{_≡_, refl, sym, _∙_, ap}
+use mathlib.Core.Path.{_≡_, refl, _∙_, ap}
 use lib.ListN.{length, set, length-set}
 use Rattle.words.specs.Sequences.{over}
 use Rattle.registers.specs.Reporting.{reportWords}

@@ -1,6 +1,5 @@
 -- `finish` meets its contract: the state that is left is saved.
 use borrow.Author.Needs.{needs}
-use mathlib.Core.Path.{ap}
 use Rattle.turn_calls.proofs.turning.finish.Statement.{statement}
 use Rattle.turn_calls.proofs.turning.finish.Tie as tie
 
