@@ -8,7 +8,7 @@ from dataclasses import dataclass, field
 ROOT = os.path.realpath(os.path.join(os.path.dirname(os.path.abspath(__file__)), '..'))
 HEADER = re.compile(r'(?P<opens>(?:(?:abbrev|unfoldable|opaque) )*)(?P<public>pub )?(?:(?P<kind>record|data) )?(?P<name>[^\s:{(]+)(?P<rest>.*)')
 COMMENT = re.compile(r'(^|\s)(--|//)(\s|$).*')
-IMPORT = re.compile(r'(?:pub |ghost )?use (\S+?)(?:\.\{(.*)\}| as (\S+));?')
+IMPORT = re.compile(r'(?:pub |ghost )?use (\S+?)(?:\.\{(.*)\}| as (\S+))?;?')
 HERE = re.compile(r'Rattle·(\w+?)(?:·\w+)?\.(?:specs|proofs)\.declared\.(\w+).*|Rattle·(\w+?)(?:·\w+)?\.(specs|proofs)\.(.+)')
 TYPE = re.compile(r'((?:^//.*\n)*)((?:^#\[.*\n)*)^pub (?:struct|enum) (\w+)(?:\(.*\);| \{(?:.*\n)*?\})', re.M)
 IN_TYPE = re.compile(r'(?<=[:(,] )\w+|(?<=\()\w+')
@@ -37,6 +37,11 @@ class Item:
     def lines(self):
         return self.last - self.first + 1
 
+    @property
+    def closed(self):
+        """Whether it speaks of no variable."""
+        return not self.around and '→' not in self.statement
+
     def code_lines(self):
         """How many of its lines are not comments alone."""
         return sum(1 for line in read(self.path).splitlines()[self.first - 1:self.last] if COMMENT.sub('', line).strip())
@@ -55,18 +60,21 @@ class Source:
     """A file: its items, and what it uses of others."""
     def __init__(self, path):
         self.path, self.items, self.uses, self.short = path, [], {}, {}
-        modules, item, comment, begun = [], None, None, ''
+        modules, indents, item, comment, begun = [], [0], None, None, ''
         for number, line in enumerate(read(path).splitlines(), 1):
             code = COMMENT.sub('', line).rstrip()
             if not code:
                 comment = (comment or number) if line.strip() else None
                 continue
-            text, depth = code.strip(), len(code) - len(code.lstrip())
+            text, indent = code.strip(), len(code) - len(code.lstrip())
             if begun:                                       # a list of names, or a module's parameters, over several lines
-                text, depth = f'{begun} {text}', 2 * len(modules)
-            if depth < 2 * len(modules):
-                modules, item = modules[:depth // 2], None
-            depth -= 2 * len(modules)
+                text, indent = f'{begun} {text}', indents[-1]
+            elif len(indents) == len(modules):              # the first line of a module
+                indents.append(indent)
+            while indent < indents[-1]:
+                indents.pop()
+                modules, item = modules[:len(indents) - 1], None
+            depth = indent - indents[-1]
             if depth == 0 and re.match('(pub |ghost )?use |module ', text):
                 begun = self.outer_line(text, modules)
                 item = None
@@ -85,10 +93,10 @@ class Source:
             modules.append(text.removesuffix('where'))
         elif '{' in text and '}' not in text:
             return text
-        elif IMPORT.match(text):
-            module, names, alias = IMPORT.match(text).groups()
-            if alias:
-                self.short[alias] = module
+        elif IMPORT.fullmatch(text):
+            module, names, alias = IMPORT.fullmatch(text).groups()
+            if names is None:
+                self.short[alias or module.rpartition('.')[2]] = module
             for name in filter(None, (name.strip() for name in (names or '').split(','))):
                 known, _, other = name.partition(' as ')
                 self.uses[other or known] = (module, known)

@@ -7,7 +7,7 @@ use mathlib.Core.Option.{Option, none, some}
 use Rattle.words.specs.Tests.{firstFailing, numberOf, AllPass, FirstFails}
 use Rattle.words.proofs.Testing.{passes-all, all-passes, first-fails, fails-first}
 use Rattle.calls.specs.Calls.{CallSchema, CallResult, resultByNumber, resultOfCall, countsBy}
-use Rattle.calls.specs.Calls.{AnswersRight, RefusedBy, NotRefused, NothingDone, CallRefusals, RightCall}
+use Rattle.calls.specs.Calls.{AnswersRight, RefusedBy, NotRefused, CallRefusals, RightCall}
 
 module _ {I A E B W : Type 0} (c : CallSchema I A E B W) (r : RightCall c) (i : I) where
   -- what the first test that fails decides

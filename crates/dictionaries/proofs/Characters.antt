@@ -2,12 +2,12 @@
 use Prim.Native.Nat.{ℕ, _+_, _-_, _*_, _≤_, _<_}
 use native.Mathlib.Omega.{arith}
 use mathlib.Core.Path.{_≡_, refl, sym, _∙_, ap, ap₂, subst, subst₂}
-use mathlib.Core.Bool.{Bool, true, false, cond, true≢false}
+use mathlib.Core.Bool.{Bool, true, false, true≢false}
 use mathlib.Core.Option.{Option, none, some}
 use mathlib.Core.List.{List, [], _∷_}
 use lib.Dec.{leb}
 use borrow.Author.Tests.{leb-true}
-use Rattle.words.proofs.Booleans.{and-left, and-right, Decided, yes, no, decided}
+use Rattle.words.proofs.Booleans.{and-left, and-right, yes, no, decided}
 use Rattle.words.proofs.Each.{Each}
 use Rattle.dictionaries.specs.Utf8.{Span, span, isIn, trailing, Utf8Row, utf8Table, afterIn, afterFirst}
 use Rattle.dictionaries.specs.Utf8.{formedFrom, wellFormed, firstBits, sixMore, codePointsFrom, codePoints}

@@ -3,7 +3,7 @@ use Prim.Native.Nat.{ℕ, _+_, _*_, _<_}
 use native.Mathlib.Omega.{arith}
 use mathlib.Core.Path.{_≡_, refl, sym, _∙_, ap}
 use mathlib.Core.Bool.{true}
-use mathlib.Core.List.{List, [], _∷_}
+use mathlib.Core.List.{List, _∷_}
 use Rattle.dictionaries.specs.Strings.{stringBefore}
 use Rattle.dictionaries.specs.Utf8.{wellFormed, codePoints}
 use Rattle.dictionaries.proofs.Strings.{before-less, before-same, before-more, before-none, before-some, before-equal, before-self, heads}

@@ -1,9 +1,8 @@
 -- Bytes are well-formed exactly where the steps from byte to byte are, and leave nothing to come.
 use Prim.Native.Nat.{ℕ, suc, _+_, _≤_, _<_}
-use native.Mathlib.Omega.{arith}
 use native.Mathlib.Numerals.{add-one}
 use mathlib.Core.Path.{_≡_, refl, sym, _∙_, ap}
-use mathlib.Core.Bool.{Bool, true, false, cond, _&&_}
+use mathlib.Core.Bool.{Bool, false, cond, _&&_}
 use mathlib.Core.Option.{Option, none, some}
 use mathlib.Core.List.{List, [], _∷_}
 use lib.ListN.{length, getD, drop, drop-of-length-le}
@@ -76,12 +75,6 @@ rows1 = utf8Row (span 0xC2 0xDF) (trailing ∷ []) ∷ rows2
 
 abbrev step1 : ℕ → ByteStep
 step1 b = cond (isIn (span 0xC2 0xDF) b) (More One) (step2 b)
-
-abbrev rows0 : List Utf8Row
-rows0 = utf8Row (span 0x00 0x7F) [] ∷ rows1
-
-abbrev step0 : ℕ → ByteStep
-step0 b = cond (isIn (span 0x00 0x7F) b) (More Nothing) (step1 b)
 
 -- the table's spans behind a first byte are those of the step
 pub first-spans : (b : ℕ) → afterFirst b ≡ spansAfter (firstStep b)

@@ -1,13 +1,11 @@
 -- `find`: its refusals, and that its answers tell where the string stands.
-use Prim.Native.Nat.{ℕ, _<_}
+use Prim.Native.Nat.{ℕ}
 use native.Mathlib.Omega.{arith}
 use mathlib.Core.Path.{_≡_, refl, sym, _∙_, ap}
-use mathlib.Core.Bool.{Bool, true, false}
-use mathlib.Core.Logic.{_↔_}
-use mathlib.Core.Option.{Option, none, some}
-use mathlib.Core.List.{List, [], _∷_}
+use mathlib.Core.Bool.{true, false}
+use mathlib.Core.Option.{none, some}
+use mathlib.Core.List.{List}
 use lib.Dec.{ltb}
-use lib.ListN.{length, getD}
 use Rattle.words.specs.Tests.{firstFailing}
 use Rattle.words.proofs.Booleans.{Decided, yes, no, decided}
 use Rattle.words.proofs.Ascending.{Ascending, neighbours-ascending}
@@ -18,7 +16,7 @@ use Rattle.dictionaries.specs.declared.Lookup.{Lookup}
 use Rattle.dictionaries.specs.declared.Lookup.the-variants as lookup
 use Rattle.dictionaries.specs.Strings.{stringBefore}
 use Rattle.dictionaries.specs.Dictionaries.{stringsOf, stringRank, isAmong}
-use Rattle.dictionaries.specs.Checking.{dictionaryRight, RightOf}
+use Rattle.dictionaries.specs.Checking.{dictionaryRight}
 use Rattle.dictionaries.specs.Lookups.{lookupIn}
 use Rattle.dictionaries.proofs.Strings.{before-ordered}
 use Rattle.dictionaries.proofs.Searching.{strings-length}

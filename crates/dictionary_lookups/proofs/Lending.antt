@@ -3,15 +3,14 @@ use Prim.Native.Nat.{ℕ, _≤_, _<_}
 use native.Mathlib.Omega.{arith}
 use mathlib.Core.Path.{_≡_, refl, sym, _∙_, ap, ap₂}
 use mathlib.Core.Bool.{Bool, true, false, cond}
-use mathlib.Core.Logic.{_↔_}
-use mathlib.Core.List.{List, [], _∷_}
+use mathlib.Core.List.{List, _∷_}
 use lib.Dec.{ltb}
 use lib.ListN.{length, getD}
 use borrow.Author.Tests.{lt-ltb, le-ltb, ltb-true, ltb-false}
 use Rattle.words.proofs.Booleans.{Decided, yes, no, decided}
 use Rattle.calls.specs.Calls.{CallResult, RightCall, CallRefusals, resultOfCall}
 use Rattle.calls.proofs.Refusals.{by-number, by-none, call-told, call-refusals}
-use Rattle.dictionaries.specs.Dictionaries.{byteRange, stringsOf}
+use Rattle.dictionaries.specs.Dictionaries.{byteRange}
 use Rattle.dictionaries.specs.Checking.{dictionaryRight}
 use Rattle.dictionaries.proofs.Searching.{ends-bounds, strings-at}
 use Rattle.dictionaries.proofs.Checking.{tested}

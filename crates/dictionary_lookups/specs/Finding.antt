@@ -6,7 +6,7 @@ use mathlib.Core.Option.{Option, none, some}
 use mathlib.Core.List.{List, [], _∷_}
 use lib.Dec.{ltb}
 use lib.ListN.{length, getD}
-use Rattle.words.specs.Tests.{Test, AllPass}
+use Rattle.words.specs.Tests.{Test}
 use Rattle.calls.specs.Calls.{CallSchema, resultOfCall}
 use Rattle.dictionaries.specs.declared.StringKind.{StringKind}
 use Rattle.dictionaries.specs.declared.Lookup.{Lookup}

@@ -1,14 +1,14 @@
 -- Strings put one behind the other, and cut again at their ends.
-use Prim.Native.Nat.{ℕ, suc, _+_, _-_, _≤_}
+use Prim.Native.Nat.{ℕ, suc, _+_, _-_}
 use native.Mathlib.Omega.{arith}
 use mathlib.Core.Path.{_≡_, refl, sym, _∙_, ap, ap₂}
 use mathlib.Core.Bool.{true}
-use mathlib.Core.List.{List, [], _∷_, _++_, flatten}
+use mathlib.Core.List.{List, [], _∷_, flatten}
 use lib.ListN.{length, take, drop, length-append}
 use lib.Seq.{take-append-seam, drop-append-seam, drop-drop}
 use borrow.Author.Tests.{le-leb, eq-eqb}
 use Rattle.words.proofs.Booleans.{and-both}
-use Rattle.dictionaries.specs.Dictionaries.{byteRange, stringsFrom, endsRight}
+use Rattle.dictionaries.specs.Dictionaries.{stringsFrom, endsRight}
 use Rattle.dictionary_numberings.specs.Numbering.{endsAfter}
 
 pub ends-length : (a : ℕ) (ss : List (List ℕ)) → length (endsAfter a ss) ≡ length ss

@@ -1,29 +1,28 @@
 -- Strings numbered: the dictionary holds exactly the strings that were given, each once; numbers are the same exactly where strings are, and less exactly
 -- where one comes before the other.
-use Prim.Native.Nat.{ℕ, _+_, _≤_, _<_}
+use Prim.Native.Nat.{ℕ, _<_}
 use native.Mathlib.Omega.{arith}
-use mathlib.Core.Path.{_≡_, refl, sym, _∙_, ap, subst, subst⁻¹}
-use mathlib.Core.Bool.{Bool, true, false}
-use mathlib.Core.Logic.{_↔_}
-use mathlib.Core.List.{List, [], _∷_, map, flatten}
+use mathlib.Core.Path.{_≡_, refl, sym, _∙_, ap, subst}
+use mathlib.Core.Bool.{true}
+use mathlib.Core.List.{List, []}
 use lib.Dec.{ltb, leb}
 use lib.ListN.{length, getD, length-map}
 use borrow.Author.Tests.{leb-true, le-leb, lt-ltb, ltb-true}
 use Rattle.words.specs.Sequences.{all, neighbours}
 use Rattle.words.proofs.Booleans.{and-left, and-right, and-both}
-use Rattle.words.proofs.Each.{Each, all-each, each-all}
+use Rattle.words.proofs.Each.{all-each, each-all}
 use Rattle.words.proofs.Somewhere.{map-at}
 use Rattle.words.proofs.Ascending.{Ascending, ascending-neighbours}
 use Rattle.dictionaries.specs.declared.StringKind.{StringKind}
 use Rattle.dictionaries.specs.declared.Lookup.the-variants.{At}
 use Rattle.dictionaries.specs.Strings.{stringBefore}
-use Rattle.dictionaries.specs.Dictionaries.{stringsOf, endsRight, mostStrings, stringRank, isAmong}
-use Rattle.dictionaries.specs.Checking.{stringRight, dictionaryRight, RightOf}
+use Rattle.dictionaries.specs.Dictionaries.{stringsOf, mostStrings, stringRank, isAmong}
+use Rattle.dictionaries.specs.Checking.{stringRight, dictionaryRight}
 use Rattle.dictionaries.specs.Lookups.{lookupIn}
 use Rattle.dictionaries.proofs.Searching.{among-at, lookup-at}
 use Rattle.dictionaries.proofs.Ranking.{StandsAt, among-stands, rank-tells}
 use Rattle.dictionaries.proofs.Checking.{tested}
-use Rattle.dictionary_numberings.specs.Numbering.{stringsOnce, bytesOnce, endsOnce, endsAfter, stringNumbers, stringsRight, Numbered}
+use Rattle.dictionary_numberings.specs.Numbering.{stringsOnce, bytesOnce, endsOnce, stringNumbers, stringsRight, Numbered}
 use Rattle.dictionary_numberings.proofs.Once.{once-each, once-ascends, once-length, once-among}
 use Rattle.dictionary_numberings.proofs.Cutting.{ends-length, ends-cut, strings-cut}
 

@@ -2,13 +2,12 @@
 use Prim.Native.Nat.{ℕ, suc, _≤_}
 use native.Mathlib.Omega.{arith}
 use mathlib.Core.Path.{_≡_, refl, sym, _∙_, ap}
-use mathlib.Core.Bool.{Bool, true, false, cond, _||_}
+use mathlib.Core.Bool.{Bool, true, false, _||_}
 use mathlib.Core.List.{List, [], _∷_}
 use lib.ListN.{length}
-use Rattle.words.specs.Sequences.{all}
 use Rattle.words.proofs.Booleans.{Decided, yes, no, decided}
-use Rattle.words.proofs.Each.{Each, all-each, each-all}
-use Rattle.words.proofs.Ascending.{Ahead, Ascending, ahead-less}
+use Rattle.words.proofs.Each.{Each}
+use Rattle.words.proofs.Ascending.{Ascending, ahead-less}
 use Rattle.dictionaries.specs.Strings.{stringBefore, sameString}
 use Rattle.dictionaries.specs.Dictionaries.{isAmong}
 use Rattle.dictionaries.proofs.Strings.{before-equal, before-ordered}

@@ -9,7 +9,7 @@ use lib.ListN.{length, getD}
 use Rattle.words.specs.Sequences.{all}
 use Rattle.dictionaries.specs.declared.StringKind.{StringKind}
 use Rattle.dictionaries.specs.Strings.{stringBefore}
-use Rattle.dictionaries.specs.Dictionaries.{stringsOf, endsRight, mostStrings, stringRank, isAmong}
+use Rattle.dictionaries.specs.Dictionaries.{stringsOf, mostStrings, stringRank, isAmong}
 use Rattle.dictionaries.specs.Checking.{stringRight, RightOf}
 
 -- ---- each string once, ascending

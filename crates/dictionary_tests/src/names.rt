@@ -1,6 +1,5 @@
 // Whether an IRI in <> may have some bytes.
 ghost use mathlib.Core.Path.{_≡_};
-ghost use Rattle.words.specs.Sequences.{all};
 ghost use Rattle.dictionaries.specs.Checking.{iriCharacter, isIri};
 
 // Whether it may have a byte.

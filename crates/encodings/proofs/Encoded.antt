@@ -1,31 +1,29 @@
 -- Terms turned into words by right dictionaries and decoded again are those terms.
-use Prim.Native.Nat.{ℕ, suc, _+_, _-_, _*_, _/_, _%_, _≤_, _<_}
+use Prim.Native.Nat.{ℕ, suc, _+_, _-_, _*_, _/_, _%_, _<_}
 use native.Mathlib.Omega.{arith}
 use native.Mathlib.Decide.{decLt}
 use mathlib.Core.Path.{_≡_, refl, sym, _∙_, ap, ap₂}
-use mathlib.Core.Bool.{Bool, true, false, cond}
+use mathlib.Core.Bool.{Bool, true, false}
 use mathlib.Core.Option.{Option, none, some}
 use mathlib.Core.List.{List, [], _∷_, map}
-use lib.Dec.{eqb, ltb, leb}
-use lib.ListN.{length, getD, length-map}
-use lib.IntN.{ℤ, pos, negsuc, subℕ}
+use lib.ListN.{length}
+use lib.IntN.{ℤ, pos, negsuc}
 use borrow.Author.Tests.{eq-eqb, ne-eqb, lt-ltb, le-ltb, ltb-true, leb-true}
 use Rattle.words.specs.Words as words
 use Rattle.words.proofs.Booleans.{absurd-true, Decided, decided}
 use Rattle.words.proofs.Signed.{below, above, sub-same}
-use Rattle.words.proofs.Ascending.{Ascending, neighbours-ascending}
+use Rattle.words.proofs.Ascending.{neighbours-ascending}
 use Rattle.words.proofs.Somewhere.{map-at}
 use Rattle.plans.specs.Conditions.{next}
 use Rattle.dictionaries.specs.declared.Lookup.{Lookup}
 use Rattle.dictionaries.specs.declared.Lookup.the-variants.{At, Absent}
-use Rattle.dictionaries.specs.Strings.{stringBefore}
 use Rattle.dictionaries.specs.Utf8.{codePoints}
 use Rattle.dictionaries.specs.Dictionaries.{stringsOf, RightDictionary, mostStrings}
 use Rattle.dictionaries.specs.Lookups.{lookupIn}
 use Rattle.dictionaries.proofs.Strings.{before-ordered}
 use Rattle.dictionaries.proofs.Ranking.{found}
 use Rattle.dictionaries.proofs.Searching.{strings-length}
-use Rattle.sparql.specs.Terms.{RdfTerm, iri, integer, text}
+use Rattle.sparql.specs.Terms.{iri, integer, text}
 use Rattle.sparql.specs.Reading.{termOf, twosComplement, wholeNumber}
 use Rattle.sparql.proofs.Terms.{Sort, aNumber, aText, aName, sortOf}
 use Rattle.sparql.proofs.TwosComplement.{whole-difference}

@@ -1,23 +1,22 @@
 -- The dictionaries of just the strings of some terms are right and hold exactly these; so their terms have words, but for whole numbers out of 30 bits.
 use Prim.Native.Nat.{ℕ, suc, _+_, _-_, _≤_}
 use native.Mathlib.Omega.{arith}
-use mathlib.Core.Path.{_≡_, refl, sym, _∙_, ap, ap₂, subst}
-use mathlib.Core.Bool.{Bool, true, false, cond, _||_}
-use mathlib.Core.Option.{Option, none, some}
-use mathlib.Core.List.{List, [], _∷_, _++_, map, flatten, append-nil, append-assoc}
-use lib.Dec.{eqb, leb}
+use mathlib.Core.Path.{_≡_, refl, sym, _∙_, ap, ap₂}
+use mathlib.Core.Bool.{Bool, true, false, _||_}
+use mathlib.Core.Option.{some}
+use mathlib.Core.List.{List, [], _∷_, _++_, map, flatten, append-assoc}
 use lib.ListN.{length, take, drop, length-append}
 use borrow.Author.Tests.{eq-eqb, le-leb}
 use Rattle.words.specs.Words as words
 use Rattle.words.specs.Sequences.{all, neighbours}
-use Rattle.words.proofs.Booleans.{and-left, and-right, Decided, yes, no, decided}
+use Rattle.words.proofs.Booleans.{and-left, and-right, yes, no, decided}
 use Rattle.words.proofs.Each.{Each, all-each, each-all}
 use Rattle.words.proofs.Ascending.{Ahead, Ascending, ascending-neighbours}
 use Rattle.dictionaries.specs.Strings.{stringBefore, sameString}
 use Rattle.dictionaries.specs.Utf8.{wellFormed}
 use Rattle.dictionaries.specs.Dictionaries.{byteRange, stringsFrom, stringsOf, endsRight, RightDictionary, mostStrings, stringRank, isAmong}
 use Rattle.dictionaries.specs.Lookups.{lookupIn}
-use Rattle.dictionaries.proofs.Strings.{before-trans, before-equal, same-self, same-equal}
+use Rattle.dictionaries.proofs.Strings.{before-trans, before-equal, same-self}
 use Rattle.sparql.specs.Terms.{iri, integer, text}
 use Rattle.sparql_strings.specs.Decoding.{termDecoded}
 use Rattle.sparql_strings.specs.Strings.{Dictionaries, RightDictionaries, decoding}

@@ -1,25 +1,25 @@
 -- What the words of rows of strings stand for is the graph of these rows, year by year; so SPARQL's solutions over what tables stand for are those over
 -- the given rows.
-use Prim.Native.Nat.{ℕ, _+_, _*_}
+use Prim.Native.Nat.{ℕ}
 use native.Mathlib.Omega.{arith}
-use mathlib.Core.Path.{_≡_, refl, sym, _∙_, ap, ap₂, subst}
-use mathlib.Core.Bool.{Bool, true, false, _&&_, _||_}
-use mathlib.Core.Option.{Option, none, some}
+use mathlib.Core.Path.{_≡_, sym, _∙_, ap, ap₂}
+use mathlib.Core.Bool.{_&&_, _||_}
+use mathlib.Core.Option.{none, some}
 use mathlib.Core.List.{List, [], _∷_, flatten}
 use lib.Dec.{eqb}
-use lib.IntN.{ℤ, pos}
+use lib.IntN.{pos}
 use borrow.Author.Tests.{eqb-true, eqb-false, eq-eqb, ne-eqb}
 use Rattle.words.specs.Words as words
 use Rattle.words.proofs.Booleans.{Decided, yes, no, decided}
-use Rattle.tables.specs.Tables.{Tables, section}
+use Rattle.tables.specs.Tables.{Tables}
 use Rattle.plans.specs.Plans.{Plan}
 use Rattle.sparql.specs.Terms.{iri, integer, TripleOver, sameTriple}
 use Rattle.sparql.specs.Reading.{tripleIn}
 use Rattle.sparql_strings.specs.Carrying.{carryTriple}
 use Rattle.sparql_strings.specs.Decoding.{hasDecoded, unionDecoded, decodedIn}
 use Rattle.sparql_strings.specs.Strings.{byString, Dictionaries, RightDictionaries, decoding}
-use Rattle.encodings.specs.Encodings.{StringTerm, isSigned30, wordOf, wordsOf}
-use Rattle.encodings.specs.StringRows.{StringRow, termsOf, rowTerms}
+use Rattle.encodings.specs.Encodings.{isSigned30, wordOf, wordsOf}
+use Rattle.encodings.specs.StringRows.{StringRow, rowTerms}
 use Rattle.encodings.specs.StringGraphs.{tripleGiven, graphGiven}
 use Rattle.encodings.proofs.Encoded.{split, term-encoded}
 

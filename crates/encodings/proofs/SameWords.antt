@@ -2,14 +2,13 @@
 use Prim.Native.Nat.{ℕ}
 use native.Mathlib.Omega.{arith}
 use mathlib.Core.Path.{_≡_, refl, sym, _∙_, ap, ap₂, subst}
-use mathlib.Core.Bool.{Bool, true, false}
-use mathlib.Core.Option.{none, some}
+use mathlib.Core.Bool.{true}
+use mathlib.Core.Option.{some}
 use mathlib.Core.List.{List, []}
 use lib.Dec.{eqb}
-use Rattle.words.specs.Sequences.{all}
 use Rattle.words.specs.Words as words
 use Rattle.words.proofs.Elements.{same-test}
-use Rattle.words.proofs.Each.{Each, all-each}
+use Rattle.words.proofs.Each.{all-each}
 use Rattle.words.proofs.Ascending.{neighbours-ascending}
 use Rattle.words.proofs.Somewhere.{each-at}
 use Rattle.dictionaries.specs.declared.Lookup.{Lookup}

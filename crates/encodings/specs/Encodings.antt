@@ -1,5 +1,5 @@
 -- Terms of strings and whole numbers, and their words by two dictionaries. Assumes nothing: these are definitions.
-use Prim.Native.Nat.{ℕ, suc, _-_}
+use Prim.Native.Nat.{ℕ, _-_}
 use mathlib.Core.Bool.{Bool, true, cond}
 use mathlib.Core.Option.{Option, none, some}
 use mathlib.Core.List.{List, [], _∷_}
@@ -13,7 +13,7 @@ use Rattle.dictionaries.specs.Utf8.{codePoints}
 use Rattle.dictionaries.specs.Dictionaries.{stringsOf}
 use Rattle.dictionaries.specs.Lookups.{lookupIn}
 use Rattle.sparql.specs.Terms.{RdfTermOver, iri, integer, text}
-use Rattle.sparql_strings.specs.Carrying.{Carrier, carryTerm}
+use Rattle.sparql_strings.specs.Carrying.{carryTerm}
 use Rattle.sparql_strings.specs.Strings.{byString, Dictionaries}
 
 -- a term as it is given, names and texts by their bytes; and by the code points that these are

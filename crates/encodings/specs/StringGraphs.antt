@@ -1,6 +1,6 @@
 -- The graph of rows of strings in a year, names and texts in code points. Assumes nothing: these are definitions.
 use Prim.Native.Nat.{ℕ}
-use mathlib.Core.Bool.{Bool, false, _&&_, _||_}
+use mathlib.Core.Bool.{false, _&&_, _||_}
 use mathlib.Core.List.{List, [], _∷_}
 use lib.Dec.{eqb}
 use Rattle.sparql.specs.Terms.{iri, TripleOver, sameTriple, GraphOver}

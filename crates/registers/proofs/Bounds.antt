@@ -1,11 +1,11 @@
 -- What is gathered and what is merged passes test 12; an empty kept list adds nothing.
-use Prim.Native.Nat.{ℕ, zero, suc, _+_, _%_, _^_, _≤_, max}
+use Prim.Native.Nat.{ℕ, _%_, _^_, _≤_, max}
 use native.Mathlib.Omega.{arith}
 use native.Mathlib.Nat.{max-le, zero-max}
 use mathlib.Core.Path.{_≡_, refl, sym, _∙_, ap, ap₂}
-use mathlib.Core.Bool.{Bool, true, false, cond, _&&_}
+use mathlib.Core.Bool.{Bool, true, false, cond}
 use mathlib.Core.List.{List, [], _∷_, map}
-use lib.Dec.{eqb, leb}
+use lib.Dec.{eqb}
 use lib.ListN.{length, replicate, length-map}
 use lib.Count.{leading-le}
 use borrow.Author.Tests.{leb-true, le-leb, eq-eqb, eqb-true}

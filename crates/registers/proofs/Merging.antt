@@ -59,13 +59,3 @@ pub registers-append : (xs ys : List ℕ) → greaterOf (registersOf xs) (regist
 unfolding registersOf
 registers-append xs ys =
     greater-map _ _ (numbers registerCount) ∙ map-same _ _ (λ i. sym (register-append i xs ys)) (numbers registerCount)
-
--- in either order
-pub registers-swap : (xs ys : List ℕ) → registersOf (xs ++ ys) ≡ registersOf (ys ++ xs)
-registers-swap xs ys = sym (registers-append xs ys) ∙ greater-comm (registersOf xs) (registersOf ys) ∙ registers-append ys xs
-
--- and a value that stands twice counts once
-pub register-twice : (i x : ℕ) (xs : List ℕ) → registerOf i (x ∷ x ∷ xs) ≡ registerOf i (x ∷ xs)
-unfolding registerOf
-register-twice i x xs =
-    sym (max-assoc (givenTo i x) (givenTo i x) (registerOf i xs)) ∙ ap (λ n. max n (registerOf i xs)) (max-self (givenTo i x))

@@ -2,7 +2,7 @@
 use Prim.Native.Nat.{_≤_}
 use native.Mathlib.Omega.{arith}
 use mathlib.Core.Path.{_≡_, sym, _∙_, ap, subst⁻¹}
-use mathlib.Core.Bool.{true, _&&_}
+use mathlib.Core.Bool.{true}
 use lib.Dec.{leb}
 use lib.ListN.{length, take}
 use borrow.Author.Tests.{leb-true}
@@ -11,8 +11,8 @@ use Rattle.words.specs.Buffers.{Overwritten}
 use Rattle.words.specs.Sequences.{over}
 use Rattle.words.proofs.Booleans.{and-right}
 use Rattle.words.proofs.Buffers.{overwritten, take-over}
-use Rattle.registers.specs.Registers.{keptRegisters, registerCount, total}
-use Rattle.registers.specs.Reporting.{ReportInput, ReportResult, givenRegisters, reportWords, reportedWords, reportOf}
+use Rattle.registers.specs.Registers.{keptRegisters, total}
+use Rattle.registers.specs.Reporting.{ReportInput, ReportResult, givenRegisters, reportWords, reportedWords}
 use Rattle.registers.specs.Refusals.{Reports, ReportWrites}
 use Rattle.registers.proofs.Refusals.{report-passed, reported-so}
 use Rattle.registers.proofs.Reports.{report-length, report-makes}

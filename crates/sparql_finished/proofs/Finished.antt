@@ -14,7 +14,7 @@ use Rattle.lists.specs.Closing.{closed, listAt}
 use Rattle.turns.specs.Surveys.{Survey}
 use Rattle.turns.specs.Opening.{openOf, Opens}
 use Rattle.turns.specs.Turns.{isOver}
-use Rattle.cuts.specs.Histories.{Event, Phone, servedIn, stepsIn, doneIn, history, fresh}
+use Rattle.cuts.specs.Histories.{Event, servedIn, stepsIn, doneIn, history, fresh}
 use Rattle.cuts.specs.Premises.{Premises}
 use Rattle.cuts.specs.TurnRows.{deliveredIn}
 use Rattle.cuts.specs.Uncut.{EndsAt, runFits, runList}

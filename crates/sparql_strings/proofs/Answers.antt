@@ -1,6 +1,6 @@
 -- An answer of SPARQL over numbers is one over what they stand for.
 use Prim.Native.Nat.{ℕ}
-use mathlib.Core.Path.{_≡_, refl, sym, _∙_, ap, ap₂, subst}
+use mathlib.Core.Path.{_≡_, sym, _∙_, ap, subst}
 use mathlib.Core.List.{List, map, map-map}
 use lib.ListN.{length}
 use Rattle.words.specs.Bindings.{Bindings}
@@ -8,7 +8,7 @@ use Rattle.words.specs.Sequences.{all}
 use Rattle.tables.specs.Tables.{Tables}
 use Rattle.plans.specs.Endings.{Ending, rows, top, group, registers}
 use Rattle.plans.specs.Plans.{Plan}
-use Rattle.sparql.specs.Terms.{Vocabulary, byNumber, MappingOver}
+use Rattle.sparql.specs.Terms.{Vocabulary, byNumber}
 use Rattle.sparql.specs.Algebra.{occurrences, MultisetOver, ToList, projectAll}
 use Rattle.sparql.specs.Ordering.{keysAscend, FirstOf}
 use Rattle.sparql.specs.Aggregates.{AggregatesOver, groupKeys, GroupBy, termsBound, SameSet}
@@ -16,7 +16,7 @@ use Rattle.sparql.specs.Reading.{termOf, mappingOf, aggregatesIn, variableOf, v
 use Rattle.sparql.specs.Answers.{RowsAnswer, BestAnswer, GroupAnswer, RegistersAnswer, Answer}
 use Rattle.sparql.specs.Answers.{YearByYear, YearByYearOver, RowsAnswerOver, BestAnswerOver, GroupAnswerOver, RegistersAnswerOver}
 use Rattle.sparql_strings.specs.Carrying.{Carrier, Keeps, Equality, carryTerm, carryMapping, carryAggregates, CarriedMultiset}
-use Rattle.sparql_strings.specs.Decoding.{termDecoded, mappingDecoded, aggregatesDecoded, decodedIn, decodedOf, readDecoded, AnswerDecoded}
+use Rattle.sparql_strings.specs.Decoding.{mappingDecoded, aggregatesDecoded, decodedIn, decodedOf, readDecoded, AnswerDecoded}
 use Rattle.sparql_strings.proofs.Terms.{carry-project}
 use Rattle.sparql_strings.proofs.Ordering.{carry-ascend}
 use Rattle.sparql_strings.proofs.Multisets.{carried-list, list-carried}

@@ -1,14 +1,12 @@
 -- A condition has the value that it has of what terms and mappings stand for.
-use Prim.Native.Nat.{ℕ}
-use mathlib.Core.Path.{_≡_, refl, sym, _∙_, ap, ap₂}
-use mathlib.Core.Bool.{Bool, true, false, cond, _&&_}
+use mathlib.Core.Path.{_≡_, refl, _∙_, ap, ap₂}
 use mathlib.Core.Option.{Option, none, some}
-use Rattle.sparql.specs.Terms.{Vocabulary, RdfTermOver, iri, integer, text, sameTerm, isLiteral, MappingOver, lookup}
-use Rattle.sparql.specs.Expressions.{PatternTermOver, variable, constant, Outcome, T, F, E, logicalAnd, logicalOr, logicalNot, fnCompare, rdfTermEqual}
+use Rattle.sparql.specs.Terms.{Vocabulary, RdfTermOver, iri, integer, text, MappingOver}
+use Rattle.sparql.specs.Expressions.{PatternTermOver, variable, constant, logicalAnd, logicalOr, logicalNot, fnCompare, rdfTermEqual}
 use Rattle.sparql.specs.Expressions.{Operator, equal, notEqual, less, greater, lessOrEqual, greaterOrEqual, operate, comparesEqual, isMinusOne, isOne}
 use Rattle.sparql.specs.Expressions.{ExpressionOver, always, both, either, negated, compare, valueUnder, compareValues, evaluate}
 use Rattle.sparql_strings.specs.Carrying.{Carrier, Keeps, carryTerm, carryValue, carryMapping, carryPatternTerm, carryExpression}
-use Rattle.sparql_strings.proofs.Terms.{carry-term, carry-lookup}
+use Rattle.sparql_strings.proofs.Terms.{carry-lookup}
 
 module _ {N M : Vocabulary} (c : Carrier N M) (k : Keeps c) where
   pub carry-text : (a b : N .Name) → fnCompare M (c .text a) (c .text b) ≡ fnCompare N a b

@@ -1,14 +1,14 @@
 -- The graph of what the rows of a year stand for, and the solutions of a plan over it.
 use Prim.Native.Nat.{ℕ}
-use mathlib.Core.Path.{_≡_, refl, sym, _∙_, ap, ap₂}
-use mathlib.Core.Bool.{Bool, true, false, _&&_, _||_, true≢false}
+use mathlib.Core.Path.{_≡_, refl, sym, ap₂}
+use mathlib.Core.Bool.{true, _&&_, _||_, true≢false}
 use mathlib.Core.List.{List, [], _∷_, map}
 use lib.Dec.{eqb}
-use Rattle.words.proofs.Booleans.{and-left, and-right, Decided, yes, no, decided}
+use Rattle.words.proofs.Booleans.{and-left, and-right, yes, no, decided}
 use Rattle.tables.specs.Tables.{Tables, Section, section}
 use Rattle.plans.specs.Branches.{Branch}
 use Rattle.plans.specs.Plans.{Plan}
-use Rattle.sparql.specs.Terms.{Vocabulary, byNumber, TripleOver, sameTerm, sameTriple, GraphOver}
+use Rattle.sparql.specs.Terms.{Vocabulary, byNumber, TripleOver, sameTerm, sameTriple}
 use Rattle.sparql.specs.Algebra.{basicGraphPattern}
 use Rattle.sparql.specs.Years.{yearsRead}
 use Rattle.sparql.specs.Reading.{tripleIn, hasTriple, graphOf, patternsOf, expressionOf}

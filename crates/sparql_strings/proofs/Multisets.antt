@@ -1,11 +1,11 @@
 -- Multisets of what mappings stand for: those of basic graph patterns, filters and unions, and the sequences of their mappings.
-use Prim.Native.Nat.{ℕ, _+_, _≤_}
+use Prim.Native.Nat.{_+_, _≤_}
 use native.Mathlib.Omega.{arith}
 use mathlib.Core.Path.{_≡_, refl, sym, _∙_, ap, ap₂, subst}
-use mathlib.Core.Bool.{Bool, true, false, cond, true≢false}
+use mathlib.Core.Bool.{Bool, true, false, cond}
 use mathlib.Core.List.{List, [], _∷_, map}
 use mathlib.Core.Logic.{_⊎_, inl, inr}
-use Rattle.words.proofs.Booleans.{absurd-true, Decided, yes, no, decided}
+use Rattle.words.proofs.Booleans.{Decided, yes, no, decided}
 use Rattle.sparql.specs.Terms.{Vocabulary, GraphOver, MappingOver, sameMapping}
 use Rattle.sparql.specs.Expressions.{ExpressionOver, evaluate, isEffective}
 use Rattle.sparql.specs.Algebra.{TriplePatternOver, MultisetOver, noSolutions, isSolution, basicGraphPattern, filter, union, occurrences, ToList}

@@ -2,20 +2,19 @@
 use Prim.Native.Nat.{ℕ, zero, suc, _<_}
 use native.Mathlib.Omega.{arith}
 use mathlib.Core.Path.{_≡_, refl, sym, _∙_, ap, ap₂, subst}
-use mathlib.Core.Bool.{Bool, true, false, cond, _&&_, _||_, true≢false}
+use mathlib.Core.Bool.{Bool, true, false, _&&_, _||_, true≢false}
 use mathlib.Core.Option.{Option, none, some}
 use mathlib.Core.List.{List, [], _∷_, map}
-use mathlib.Core.Logic.{_⊎_, inl, inr}
 use lib.Dec.{eqb}
-use lib.ListN.{length, getD, length-map}
+use lib.ListN.{length, length-map}
 use borrow.Author.Tests.{eqb-true}
 use Rattle.words.specs.Sequences.{all, allBelow}
-use Rattle.words.proofs.Booleans.{absurd-true, and-left, and-right, Decided, yes, no, decided}
+use Rattle.words.proofs.Booleans.{and-left, and-right, Decided, yes, no, decided}
 use Rattle.words.proofs.Counting.{all-at}
 use Rattle.sparql.specs.Terms.{Vocabulary, RdfTermOver, TripleOver, GraphOver, MappingOver, variables, lookup, isBound}
 use Rattle.sparql.specs.Expressions.{PatternTermOver, variable, constant, valueUnder}
 use Rattle.sparql.specs.Algebra.{TriplePatternOver, isVariableNamed, mentions, occurs, tripleOf, instanceUnder, inGraph, sameTruth, domainIs, isSolution}
-use Rattle.sparql_strings.specs.Carrying.{Carrier, Keeps, carryTerm, carryValue, carryMapping, carryTriple}
+use Rattle.sparql_strings.specs.Carrying.{Carrier, Keeps, carryValue, carryMapping, carryTriple}
 use Rattle.sparql_strings.specs.Carrying.{carryPatternTerm, carryPattern, CarriedGraph}
 use Rattle.sparql_strings.proofs.Terms.{carry-lookup, carry-bound}
 use Rattle.sparql_strings.proofs.Conditions.{carry-under}

@@ -1,14 +1,14 @@
 -- Sequences of what mappings stand for: as often, in order, the first of them; sets of what terms stand for.
-use Prim.Native.Nat.{ℕ, zero, suc, _≤_}
+use Prim.Native.Nat.{ℕ, _≤_}
 use native.Mathlib.Omega.{arith}
 use mathlib.Core.Path.{_≡_, refl, sym, _∙_, ap, ap₂, subst}
-use mathlib.Core.Bool.{Bool, true, false, _||_}
+use mathlib.Core.Bool.{false, _||_}
 use mathlib.Core.Option.{Option, none, some}
 use mathlib.Core.List.{List, [], _∷_, map}
 use mathlib.Core.Logic.{_⊎_, inl, inr}
 use lib.ListN.{take}
 use Rattle.words.specs.Sequences.{keep}
-use Rattle.words.proofs.Booleans.{Decided, yes, no, decided}
+use Rattle.words.proofs.Booleans.{yes, no, decided}
 use Rattle.sparql.specs.Terms.{Vocabulary, RdfTermOver, MappingOver, sameTerm, lookup}
 use Rattle.sparql.specs.Algebra.{MultisetOver, occurrences, projectAll}
 use Rattle.sparql.specs.Ordering.{Comparator, tied, OrderBy, FirstOf}

@@ -1,14 +1,13 @@
 -- A right dictionary keeps equality and order: numbers are the same exactly where their strings are, and less exactly where these come before.
-use Prim.Native.Nat.{ℕ, zero, suc, _+_, _≤_, _<_}
+use Prim.Native.Nat.{ℕ, zero, suc, _+_, _<_}
 use native.Mathlib.Omega.{arith}
-use mathlib.Core.Path.{_≡_, refl, sym, _∙_, ap, ap₂, subst}
-use mathlib.Core.Bool.{Bool, true, false}
+use mathlib.Core.Path.{_≡_, refl, sym, _∙_, ap, ap₂}
+use mathlib.Core.Bool.{true, false}
 use mathlib.Core.List.{List, [], _∷_, map}
 use lib.Dec.{eqb, ltb}
-use lib.ListN.{length, getD, length-map, List·getD-eq-default}
+use lib.ListN.{length, getD, List·getD-eq-default}
 use borrow.Author.Tests.{lt-ltb, le-ltb, eq-eqb, ne-eqb}
 use native.Mathlib.Decide.{decLt}
-use Rattle.words.specs.Sequences.{all}
 use Rattle.words.proofs.Booleans.{absurd-true, Decided, decided}
 use Rattle.words.proofs.Orders.{Three, less, same, more, three}
 use Rattle.words.proofs.Each.{Each, all-each}

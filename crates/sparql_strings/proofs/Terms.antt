@@ -1,10 +1,9 @@
 -- What the same terms, triples, values and mappings stand for is the same, and what others stand for is other.
 use Prim.Native.Nat.{ℕ, zero, suc}
-use mathlib.Core.Path.{_≡_, refl, sym, _∙_, ap, ap₂}
-use mathlib.Core.Bool.{Bool, true, false, _&&_, true≢false}
+use mathlib.Core.Path.{_≡_, refl, sym, ap, ap₂}
+use mathlib.Core.Bool.{true, _&&_, true≢false}
 use mathlib.Core.Option.{Option, none, some}
 use mathlib.Core.List.{List, [], _∷_, map}
-use lib.ListN.{getD}
 use Rattle.words.proofs.Booleans.{and-left, and-right}
 use Rattle.sparql.specs.Terms.{Vocabulary, RdfTermOver, iri, integer, text, sameTerm, TripleOver, sameTriple}
 use Rattle.sparql.specs.Terms.{MappingOver, lookup, isBound, sameValue, sameMapping}

@@ -1,9 +1,8 @@
 -- Terms, patterns, expressions and mappings carried over from names and texts of one kind to those of another. Assumes nothing: these are definitions.
-use Prim.Native.Nat.{ℕ}
 use mathlib.Core.Path.{_≡_}
-use mathlib.Core.Bool.{Bool, true}
+use mathlib.Core.Bool.{true}
 use mathlib.Core.Option.{Option, none, some}
-use mathlib.Core.List.{List, map}
+use mathlib.Core.List.{map}
 use mathlib.Core.Logic.{_⊎_}
 use Rattle.sparql.specs.Terms.{Vocabulary, RdfTermOver, iri, integer, text, TripleOver, GraphOver, MappingOver}
 use Rattle.sparql.specs.Expressions.{PatternTermOver, variable, constant, ExpressionOver, always, both, either, negated, compare}

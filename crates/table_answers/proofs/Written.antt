@@ -11,7 +11,7 @@ use Rattle.words.proofs.Buffers.{overwritten, take-over}
 use Rattle.calls.specs.Calls.{RightCall}
 use Rattle.tables.specs.Tables.{Tables, columnCount}
 use Rattle.table_answers.specs.declared.TablesWritten.the-variants.{Words}
-use Rattle.table_answers.specs.Writing.{TableBuffers, tableBuffers, TablesResult, writtenWith, tableWords, tablesLeft, writesTables}
+use Rattle.table_answers.specs.Writing.{TableBuffers, tableBuffers, TablesResult, writtenWith, tablesLeft, writesTables}
 use Rattle.table_answers.specs.Counts.{TablesCount, TablesOver}
 
 pub writing-right : {I : Type 0} (tests : I → List Test) (numbers : List ℕ) (lent : I → TableBuffers) (tables : I → Tables)

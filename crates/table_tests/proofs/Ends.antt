@@ -1,12 +1,11 @@
 -- Tables of one year, all of whose orders are right: no subject is greater than the one that the rows have last, no predicate than the one that
 -- POS has last, and no object than the one that OSP has last. So what stands last says that all kinds and years are right.
-use Prim.Native.Nat.{ℕ, zero, suc, _-_, _*_, _≤_, _<_}
+use Prim.Native.Nat.{ℕ, zero, suc, _-_, _≤_, _<_}
 use native.Mathlib.Omega.{arith}
-use mathlib.Core.Path.{_≡_, refl, sym, _∙_, ap}
-use mathlib.Core.Bool.{Bool, true, false, _&&_}
+use mathlib.Core.Path.{_≡_, sym, _∙_, ap}
+use mathlib.Core.Bool.{true, _&&_}
 use mathlib.Core.List.{List, _∷_}
 use lib.Dec.{leb, ltb}
-use lib.ListN.{length}
 use borrow.Author.Tests.{lt-ltb, le-leb, eq-eqb, ltb-true, leb-true}
 use Rattle.words.specs.Sequences.{lexBefore}
 use Rattle.words.specs.Words.{number, variable, mostYear, termKind, termValue}
@@ -21,7 +20,7 @@ use Rattle.tables.specs.Tables.{yearColumn, subjectColumn, predicateColumn, obj
 use Rattle.tables.proofs.Columns.{fields-length}
 use Rattle.tables.proofs.Sorted as sorted
 use Rattle.walks.specs.Walk.{OneYear}
-use Rattle.table_tests.specs.Ends.{boundsFine, rowOfLast, endsFine}
+use Rattle.table_tests.specs.Ends.{rowOfLast, endsFine}
 use Rattle.table_tests.proofs.Covering.{each-covered}
 
 -- behind the same word, a list that comes before another does not begin with more

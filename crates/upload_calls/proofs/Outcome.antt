@@ -1,22 +1,20 @@
 -- The outcome of making tables, test by test.
-use Prim.Native.Nat.{ℕ, _-_, _*_, _%_, _≤_, _<_}
+use Prim.Native.Nat.{ℕ, _-_, _*_, _%_, _<_}
 use native.Mathlib.Omega.{arith}
 use mathlib.Core.Path.{_≡_, sym, _∙_}
 use mathlib.Core.Bool.{true, false}
 use mathlib.Core.List.{List}
-use lib.Dec.{leb}
 use lib.ListN.{length}
-use borrow.Author.Tests.{eq-eqb, ne-eqb, le-leb, lt-leb, leb-true}
+use borrow.Author.Tests.{eq-eqb, ne-eqb, lt-leb}
 use Rattle.words.specs.Sequences.{over}
 use Rattle.words.specs.Tests.{firstFailing}
-use Rattle.words.proofs.Booleans.{and-left, and-right}
 use Rattle.calls.specs.Calls.{resultOfCall}
 use Rattle.tables.specs.declared.Order.the-variants.{Pos, Osp}
 use Rattle.tables.specs.Tables.{columnCount, mostRows}
 use Rattle.uploads.specs.declared.Made.the-variants.{Words, Refused}
-use Rattle.uploads.specs.Uploads.{uploadCount, keptCount, droppedCount, entryWords, madeTables, droppedReport}
-use Rattle.uploads.specs.Making.{MadeBuffers, makeBuffers, MakeInput, MakeResult, uploadRight, makeRoomRight, madeWith, makeOf}
-use Rattle.uploads.proofs.Lengths.{all-rows, made-length, numbers-made, report-length}
+use Rattle.uploads.specs.Uploads.{uploadCount, keptCount, droppedCount, madeTables, droppedReport}
+use Rattle.uploads.specs.Making.{makeBuffers, MakeInput, MakeResult, uploadRight, makeRoomRight, madeWith, makeOf}
+use Rattle.uploads.proofs.Lengths.{all-rows, made-length, numbers-made}
 use Rattle.uploads.proofs.Writes.{room-right}
 use Rattle.upload_rooms.specs.Rooms.{makeRoomFor}
 

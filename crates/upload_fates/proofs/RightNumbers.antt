@@ -8,7 +8,6 @@ use lib.Dec.{ltb}
 use lib.ListN.{length}
 use borrow.Author.Tests.{le-leb}
 use Rattle.words.specs.Sequences.{all, keep, numbers}
-use Rattle.words.specs.Sorting.{sortBy}
 use Rattle.words.proofs.Ascending.{Ascending}
 use Rattle.words.proofs.Each.{Each, each-all, all-each, each-kept, each-keep}
 use Rattle.words.proofs.Numbers.{numbers-all, numbers-below, numbers-rise, kept-stands}

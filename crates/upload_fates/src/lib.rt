@@ -13,7 +13,7 @@ use uploads::WRONG;
 ghost use mathlib.Core.Path.{_≡_};
 ghost use mathlib.Core.Bool.{true};
 ghost use Prim.Native.Nat.{_+_, _*_, _≤_};
-ghost use lib.ListN.{length, take};
+ghost use lib.ListN.{length};
 ghost use Rattle.words.specs.Sequences.{all};
 ghost use Rattle.tables.specs.Tables.{columnCount};
 ghost use Rattle.tables.specs.RowLists.{inRows};

@@ -2,7 +2,7 @@
 use Prim.Native.Nat.{ℕ}
 use native.Mathlib.Omega.{arith}
 use mathlib.Core.Path.{_≡_, refl, _∙_, ap}
-use mathlib.Core.Bool.{Bool, true, not}
+use mathlib.Core.Bool.{true, not}
 use mathlib.Core.List.{List, [], _∷_, map, flatten}
 use lib.Dec.{eqb, ltb}
 use lib.ListN.{length, getD}
@@ -18,7 +18,7 @@ use Rattle.tables.specs.declared.Order.the-variants.{Spo}
 use Rattle.tables.specs.Tables.{fieldsOf}
 use Rattle.tables.specs.RowLists.{numberBefore}
 use Rattle.tables.proofs.RowNumbers.{number-ordered}
-use Rattle.uploads.specs.Uploads.{uploadCount, keptCode, kindsGood, fateOf, isKept, isDropped, keptNumbers, keptCount, entryOf, madeRows, droppedReport}
+use Rattle.uploads.specs.Uploads.{uploadCount, keptCode, kindsGood, isKept, isDropped, keptNumbers, keptCount, entryOf, madeRows, droppedReport}
 use Rattle.uploads.proofs.Fates.{kept-good}
 use Rattle.upload_fates.specs.Judging.{goodNumbers, rightNumbers, Judged}
 use Rattle.upload_fates.proofs.RightNumbers.{right-below}

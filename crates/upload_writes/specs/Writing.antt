@@ -7,7 +7,7 @@ use lib.Dec.{eqb}
 use lib.ListN.{length, getD}
 use Rattle.words.specs.Sequences.{keep, numbers}
 use Rattle.tables.specs.declared.Order.the-variants.{Spo}
-use Rattle.tables.specs.Tables.{columnCount, mostRows, fieldsOf}
+use Rattle.tables.specs.Tables.{mostRows, fieldsOf}
 use Rattle.uploads.specs.Uploads.{uploadCount, keptCode, keptCount}
 use Rattle.upload_fates.specs.Judging.{rightNumbers, Judged}
 

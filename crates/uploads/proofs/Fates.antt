@@ -6,7 +6,6 @@ use mathlib.Core.Bool.{Bool, true, false, cond, not}
 use mathlib.Core.Logic.{_⊎_, inl, inr}
 use mathlib.Core.List.{List}
 use lib.Dec.{eqb}
-use Rattle.words.specs.Sequences.{someBelow}
 use Rattle.words.proofs.Booleans.{absurd-true, Decided, yes, no, decided}
 use Rattle.words.proofs.Somewhere.{some-at, at-some}
 use Rattle.tables.specs.declared.Order.the-variants.{Spo}

@@ -2,11 +2,11 @@
 use Prim.Native.Nat.{ℕ, suc, _-_, _≤_, _<_}
 use native.Mathlib.Omega.{arith}
 use mathlib.Core.Path.{_≡_, _∙_, ap}
-use mathlib.Core.Bool.{Bool, true}
-use mathlib.Core.List.{List, [], map, flatten}
+use mathlib.Core.Bool.{true}
+use mathlib.Core.List.{List, [], map}
 use lib.Dec.{ltb}
 use lib.ListN.{length, getD, length-map}
-use Rattle.words.specs.Sequences.{keep, lexBefore, numbers}
+use Rattle.words.specs.Sequences.{numbers}
 use Rattle.words.specs.Sorting.{sortBy}
 use Rattle.words.proofs.Booleans.{absurd-true, Decided, yes, no, decided}
 use Rattle.words.proofs.Ascending.{Ascending}
@@ -23,7 +23,7 @@ use Rattle.tables.specs.declared.Order.the-variants.{Spo}
 use Rattle.tables.specs.Tables.{columnCount, mostRows, yearColumn, fieldsOf, fieldRight, yearRight}
 use Rattle.tables.specs.RowLists.{numberBefore, RowsRight}
 use Rattle.tables.proofs.Columns.{fields-length}
-use Rattle.tables.proofs.FlatRows.{own-field, FieldsRight, flat-right, flat-fields, flat-count}
+use Rattle.tables.proofs.FlatRows.{own-field, flat-right, flat-fields}
 use Rattle.uploads.specs.Uploads.{uploadCount, sameRow, isKept, keptNumbers, keptCount, madeRows}
 use Rattle.uploads.proofs.SameRows.{good-field, good-year, fields-same}
 use Rattle.uploads.proofs.Fates.{kept-good, kept-new}

@@ -1,16 +1,15 @@
 -- What a served call leaves: tables that the tests accept, which hold exactly the kept rows, and a report of exactly the dropped rows.
 use Prim.Native.Nat.{ℕ, _≤_}
-use mathlib.Core.Path.{_≡_, sym, _∙_, ap, subst⁻¹}
+use mathlib.Core.Path.{_≡_, _∙_, ap, subst⁻¹}
 use mathlib.Core.Option.{none}
 use mathlib.Core.List.{List}
-use lib.ListN.{length, take}
 use Rattle.words.specs.Tests.{firstFailing}
 use Rattle.words.proofs.Buffers.{take-over}
 use Rattle.calls.specs.Calls.{NotRefused}
-use Rattle.tables.specs.Tables.{Tables, tablesOf, mostRows, tableTests}
+use Rattle.tables.specs.Tables.{Tables, mostRows, tableTests}
 use Rattle.tables.proofs.MadeTables.{made-accepted}
 use Rattle.uploads.specs.Uploads.{uploadCount, madeRows, madeTables, droppedReport}
-use Rattle.uploads.specs.Making.{MakeInput, MadeBuffers, MakeResult, madeWith, makeSchema, makeOf}
+use Rattle.uploads.specs.Making.{MakeInput, MadeBuffers, madeWith, makeSchema, makeOf}
 use Rattle.uploads.specs.Exactness.{tablesMade, reportIn, ExactlyKept, Reported, MadeRight}
 use Rattle.uploads.proofs.Kept.{kept-right}
 use Rattle.uploads.proofs.Exact.{made-exactly}

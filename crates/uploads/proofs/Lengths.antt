@@ -2,7 +2,7 @@
 use Prim.Native.Nat.{ℕ, _+_, _*_, _/_}
 use native.Mathlib.Omega.{arith}
 use mathlib.Core.Path.{_≡_, refl, _∙_, ap}
-use mathlib.Core.List.{List, map, flatten}
+use mathlib.Core.List.{List, map}
 use lib.ListN.{length, length-map}
 use Rattle.words.specs.Sequences.{numbers}
 use Rattle.words.specs.Sorting.{sortBy}

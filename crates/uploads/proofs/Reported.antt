@@ -1,22 +1,22 @@
 -- The report names exactly the dropped rows, with their codes, in upload order.
-use Prim.Native.Nat.{ℕ, suc, _+_, _*_, _/_, _%_, _<_}
+use Prim.Native.Nat.{ℕ, suc, _+_, _*_, _<_}
 use native.Mathlib.Omega.{arith}
-use mathlib.Core.Path.{_≡_, refl, sym, _∙_, ap, subst}
-use mathlib.Core.Bool.{true, false, not}
-use mathlib.Core.Logic.{_⊎_, inl, inr, _↔_}
-use mathlib.Core.List.{List, [], map, flatten}
+use mathlib.Core.Path.{_≡_, sym, _∙_, ap, subst}
+use mathlib.Core.Bool.{true, not}
+use mathlib.Core.Logic.{_⊎_}
+use mathlib.Core.List.{List, [], map}
 use lib.Dec.{ltb}
 use lib.ListN.{length, getD, length-map}
 use borrow.Author.Tests.{ltb-true, ne-eqb}
 use Rattle.words.specs.Sequences.{numbers}
-use Rattle.words.proofs.Each.{Each, each-kept, each-keep}
+use Rattle.words.proofs.Each.{each-kept, each-keep}
 use Rattle.words.proofs.Flattening.{flatten-at}
 use Rattle.words.proofs.Numbers.{numbers-below, numbers-rise, keep-stands}
 use Rattle.words.proofs.Somewhere.{each-at, map-at}
 use Rattle.words.proofs.SortedStrictly.{ascending-keep, ascending-pairs}
-use Rattle.uploads.specs.Uploads.{uploadCount, keptCode, wrongCode, repeatCode, kindsGood, fateOf, isKept, isDropped, droppedNumbers, droppedCount}
+use Rattle.uploads.specs.Uploads.{uploadCount, keptCode, wrongCode, repeatCode, fateOf, isDropped, droppedNumbers, droppedCount}
 use Rattle.uploads.specs.Uploads.{entryWords, entryOf, droppedReport}
-use Rattle.uploads.specs.Exactness.{entryCount, entryPlaceAt, codeAt, Names, Earlier, Reported}
+use Rattle.uploads.specs.Exactness.{entryCount, entryPlaceAt, codeAt, Names, Reported}
 use Rattle.uploads.proofs.Fates.{wrong-fate, fate-wrong, repeat-fate, fate-repeat, dropped-code, earlier, earlier-repeats}
 use Rattle.uploads.proofs.Lengths.{report-wide, report-length}
 

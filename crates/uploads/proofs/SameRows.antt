@@ -5,10 +5,9 @@ use mathlib.Core.Path.{_≡_, sym, _∙_, ap}
 use mathlib.Core.Bool.{true}
 use mathlib.Core.List.{List}
 use lib.Dec.{eqb}
-use lib.ListN.{length, getD}
+use lib.ListN.{getD}
 use lib.Seq.{ext-getD}
 use borrow.Author.Tests.{eq-eqb, eqb-true}
-use Rattle.words.specs.Sequences.{allBelow}
 use Rattle.words.proofs.Booleans.{and-left, and-right, and-both}
 use Rattle.words.proofs.Counting.{all-at, at-all}
 use Rattle.tables.specs.declared.Order.the-variants.{Spo}

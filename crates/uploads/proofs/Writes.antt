@@ -1,6 +1,5 @@
 -- When a call is served, in counts of rows, and what it then writes.
 use Prim.Native.Nat.{ℕ, _*_, _%_, _≤_}
-use native.Mathlib.Omega.{arith}
 use mathlib.Core.Path.{_≡_, sym, _∙_, ap, subst, subst⁻¹}
 use mathlib.Core.Logic.{_↔_}
 use mathlib.Core.Bool.{true, _&&_}
@@ -12,12 +11,12 @@ use Rattle.words.specs.Buffers.{Overwritten}
 use Rattle.words.specs.Sequences.{over}
 use Rattle.words.proofs.Booleans.{and-left, and-right}
 use Rattle.words.proofs.Buffers.{overwritten}
-use Rattle.words.proofs.Testing.{testNumbered, test-passed}
+use Rattle.words.proofs.Testing.{test-passed}
 use Rattle.calls.specs.Calls.{NotRefused}
 use Rattle.tables.specs.declared.Order.the-variants.{Pos, Osp}
 use Rattle.tables.specs.Tables.{columnCount, mostRows}
 use Rattle.uploads.specs.Uploads.{uploadCount, keptCount, droppedCount, entryWords, madeRows, madeTables, droppedReport}
-use Rattle.uploads.specs.Making.{MadeBuffers, MakeInput, MakeResult, uploadRight, makeRoomRight, makeTests, makeSchema, madeWords}
+use Rattle.uploads.specs.Making.{MakeInput, MakeResult, uploadRight, makeRoomRight, makeTests, makeSchema, madeWords}
 use Rattle.uploads.specs.Refusals.{MakeSuffices, MakeWrites}
 use Rattle.uploads.proofs.Lengths.{made-length, numbers-made, report-length}
 use Rattle.uploads.proofs.Refusals.{made-so, make-refusals}

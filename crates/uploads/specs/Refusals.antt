@@ -1,5 +1,5 @@
 -- When making tables is served, in counts of rows, and what it then writes. Assumes nothing: these are definitions.
-use Prim.Native.Nat.{ℕ, _*_, _%_, _≤_}
+use Prim.Native.Nat.{_*_, _%_, _≤_}
 use mathlib.Core.Path.{_≡_}
 use lib.ListN.{length}
 use Rattle.words.specs.Buffers.{Overwritten}

@@ -1,9 +1,9 @@
 -- What the call view shows of the words of rows of strings are the words of the visible rows, by the same dictionaries.
 use Prim.Native.Nat.{ℕ, _/_, _<_}
 use native.Mathlib.Omega.{arith}
-use mathlib.Core.Path.{_≡_, refl, sym, _∙_, ap, ap₂, subst}
+use mathlib.Core.Path.{_≡_, refl, sym, _∙_, ap, ap₂}
 use mathlib.Core.Bool.{Bool, true, false, _&&_, _||_}
-use mathlib.Core.Option.{none, some}
+use mathlib.Core.Option.{some}
 use mathlib.Core.List.{List, [], _∷_, map, flatten}
 use lib.Dec.{eqb}
 use lib.IntN.{pos}
@@ -13,17 +13,17 @@ use Rattle.words.proofs.Each.{Each, each-keep}
 use Rattle.words.proofs.Somewhere.{each-at}
 use Rattle.tables.specs.declared.Order.the-variants.{Spo}
 use Rattle.tables.specs.Tables.{columnCount, fieldOf, fieldsOf, yearColumn, subjectColumn, predicateColumn, objectColumn}
-use Rattle.views.specs.Views.{admits, visible, visibleNumbers, viewRows}
+use Rattle.views.specs.Views.{admits, visible, viewRows}
 use Rattle.dictionaries.specs.Strings.{sameString}
 use Rattle.dictionaries.specs.Dictionaries.{isAmong}
-use Rattle.sparql.specs.Terms.{iri, integer, text, sameTerm}
+use Rattle.sparql.specs.Terms.{iri, integer, text}
 use Rattle.sparql_strings.specs.Strings.{Dictionaries, RightDictionaries}
 use Rattle.encodings.specs.Encodings.{StringTerm, wordOf, wordsOf}
 use Rattle.encodings.specs.StringRows.{StringRow, rowTerms}
 use Rattle.encodings.proofs.Encoded.{split}
 use Rattle.encodings.proofs.SameWords.{same-words}
 use Rattle.encodings.proofs.RowWords.{wordIn, fieldsIn, HasWords, rows-known, words-known, rows-counted, field-is, fields-are}
-use Rattle.view_names.specs.VisibleStrings.{someRow, isGranted, admitsRow, isVisible, visibleRows}
+use Rattle.view_names.specs.VisibleStrings.{isGranted, admitsRow, isVisible, visibleRows}
 use Rattle.view_names.specs.EncodedViews.{HaveWords}
 use Rattle.view_names.proofs.Places.{some-place, kept-places}
 

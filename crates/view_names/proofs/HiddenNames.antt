@@ -1,13 +1,13 @@
 -- Non-interference over strings: rows of strings that differ only in rows that are hidden where they stand are the same to an adviser, names and
 -- dictionaries included.
 use Prim.Native.Nat.{ℕ}
-use mathlib.Core.Path.{_≡_, refl, sym, _∙_, ap, subst}
-use mathlib.Core.Bool.{Bool, true, false, _&&_, _||_, not}
-use mathlib.Core.Option.{Option, some}
+use mathlib.Core.Path.{_≡_, refl, sym, _∙_, ap}
+use mathlib.Core.Bool.{Bool, true, _&&_, _||_, not}
+use mathlib.Core.Option.{some}
 use mathlib.Core.List.{List, [], _∷_}
 use lib.Dec.{eqb}
 use borrow.Author.Tests.{eqb-true, eq-eqb}
-use Rattle.words.specs.Sequences.{all, keep}
+use Rattle.words.specs.Sequences.{keep}
 use Rattle.words.proofs.Booleans.{absurd-true, and-left, and-right, Decided, yes, no, decided}
 use Rattle.words.proofs.Each.{Each, all-each}
 use Rattle.words.proofs.EachMore.{each-weaken, each-both, each-always}
@@ -24,9 +24,8 @@ use Rattle.sparql_strings.proofs.Terms.{term-equal}
 use Rattle.sparql_strings.proofs.Strings.{strings-equality}
 use Rattle.encodings.specs.StringRows.{StringRow, sameStringRow, rowDictionaries, rowWords}
 use Rattle.encodings.proofs.Gathered.{or-later}
-use Rattle.view_turns.specs.Adviser.{SameQueries}
 use Rattle.view_turns.proofs.Adviser.{same-queries}
-use Rattle.view_names.specs.VisibleStrings.{someRow, isGranted, admitsRow, isVisible, visibleRows, adviserDictionaries, adviserTables}
+use Rattle.view_names.specs.VisibleStrings.{someRow, isGranted, admitsRow, isVisible, visibleRows, adviserTables}
 use Rattle.view_names.specs.VisibleStrings.{standsIn, HiddenRows, RowsDiffer, SameStrings}
 
 -- ---- a test that passes at some row

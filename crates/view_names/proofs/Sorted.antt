@@ -5,7 +5,7 @@ use mathlib.Core.Bool.{Bool, true, false}
 use mathlib.Core.List.{List, [], _∷_, List·Memᴰ, List·Memᴰ·head, List·Memᴰ·tail}
 use borrow.Author.Tests.{eq-eqb}
 use Rattle.words.specs.Sequences.{keep}
-use Rattle.words.proofs.Booleans.{absurd-true, Decided, yes, no, decided}
+use Rattle.words.proofs.Booleans.{absurd-true, yes, no, decided}
 use Rattle.words.proofs.Each.{Each, each-keep, each-kept}
 use Rattle.words.proofs.EachMore.{each-weaken, each-both}
 use Rattle.words.proofs.Ascending.{Ascending}

@@ -11,9 +11,8 @@ use Rattle.words.proofs.Counting.{all-at, at-all}
 use Rattle.words.proofs.EachMore.{each-always}
 use Rattle.words.proofs.Keeping.{keep-agree}
 use Rattle.tables.specs.declared.Order.the-variants.{Spo}
-use Rattle.tables.specs.Tables.{Tables, columnCount, yearColumn, subjectColumn, predicateColumn, objectColumn, fieldOf, fieldsOf}
-use Rattle.tables.specs.RowLists.{tablesFrom}
-use Rattle.views.specs.Views.{isOf, admits, visible, viewRows, viewOf}
+use Rattle.tables.specs.Tables.{columnCount, yearColumn, subjectColumn, predicateColumn, objectColumn, fieldOf, fieldsOf}
+use Rattle.views.specs.Views.{isOf, admits, visible, viewRows}
 
 and-false : (a b : Bool) → a && (b && false) ≡ false
 and-false true true = refl

@@ -1,7 +1,7 @@
 -- Which rows are visible: by a granted subject, or by a row of their year that admits their subject. Rows of one subject in one year are
 -- visible alike, and a row of another year admits nothing.
 use Prim.Native.Nat.{ℕ, _/_, _<_}
-use mathlib.Core.Path.{_≡_, refl, sym, _∙_, ap₂, subst}
+use mathlib.Core.Path.{_≡_, refl, sym, _∙_, subst}
 use mathlib.Core.Bool.{Bool, true, false, not, _||_}
 use mathlib.Core.List.{List}
 use lib.Dec.{eqb}
@@ -90,12 +90,6 @@ module _ (rows grant : List ℕ) (membership : ℕ) where
       → visible rows grant membership row ≡ belongs rows grant membership (fieldOf rows row yearColumn) (fieldOf rows row subjectColumn)
   unfolding visible
   by-others row p = rw p
-
-  -- by the year and the subject alone
-  pub visible-alike : (j i : ℕ) → fieldOf rows j yearColumn ≡ fieldOf rows i yearColumn → fieldOf rows j subjectColumn ≡ fieldOf rows i subjectColumn
-      → visible rows grant membership j ≡ visible rows grant membership i
-  unfolding visible
-  visible-alike j i y e = ap₂ (λ year s. member s grant || belongs rows grant membership year s) y e
 
   -- a row that admits a subject is visible itself
   pub admits-seen : (year s y : ℕ) → y < length rows / columnCount → admits rows grant membership year s y ≡ true

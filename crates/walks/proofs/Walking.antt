@@ -4,17 +4,17 @@ use native.Mathlib.Omega.{arith}
 use native.Mathlib.Decide.{decLt}
 use native.Mathlib.Numerals.{add-one}
 use mathlib.Core.Path.{_≡_, refl, sym, _∙_, ap, subst}
-use mathlib.Core.Bool.{Bool, true, false, cond, _&&_}
+use mathlib.Core.Bool.{Bool, true, false, _&&_}
 use lib.Dec.{ltb}
 use borrow.Author.Tests.{lt-ltb, le-ltb, ltb-true, ltb-false}
 use Rattle.words.specs.Sequences.{allBelow, lexBefore}
 use Rattle.words.proofs.Booleans.{and-left, and-right, and-both}
-use Rattle.words.proofs.Counting.{all-at, at-all, fails-below}
+use Rattle.words.proofs.Counting.{all-at, fails-below}
 use Rattle.tables.specs.declared.Order.{Order}
-use Rattle.tables.specs.declared.Order.the-variants.{Spo, Osp}
-use Rattle.tables.specs.Tables.{Tables, rowCount, rowAt, ascends}
+use Rattle.tables.specs.declared.Order.the-variants.{Osp}
+use Rattle.tables.specs.Tables.{Tables, rowCount, rowAt}
 use Rattle.walks.specs.declared.Reading.{Reading}
-use Rattle.walks.specs.Walk.{orderAt, orderCount, keysOf, keysAt, readingAt, rightUpto, orderRight, rightOrders}
+use Rattle.walks.specs.Walk.{orderAt, orderCount, keysAt, readingAt, rightUpto, orderRight, rightOrders}
 
 -- ---- numbers of orders
 pub third-order : (turn : ℕ) → (turn ≡ 0 → ⊥) → (turn ≡ 1 → ⊥) → Osp ≡ orderAt turn

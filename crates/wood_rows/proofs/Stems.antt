@@ -3,7 +3,7 @@ use Prim.Native.Nat.{ℕ, suc, _+_, _*_}
 use native.Mathlib.Omega.{arith}
 use native.Mathlib.Numerals.{add-one}
 use mathlib.Core.Path.{_≡_, refl, sym, _∙_, ap}
-use mathlib.Core.List.{List, [], _∷_, _++_, flatten, append-nil}
+use mathlib.Core.List.{[], _∷_, _++_, flatten}
 use Rattle.words.specs.Sequences.{iterate}
 use Rattle.words.proofs.Flattening.{flatten-append}
 use Rattle.woods.specs.Woods.{nextDraw, standRow, diameterRow, woodRows}

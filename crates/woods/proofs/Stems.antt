@@ -1,10 +1,9 @@
 -- The rows of a wood: which stand where, that they are of right kinds and years, and that they ascend.
-use Prim.Native.Nat.{ℕ, zero, suc, _+_, _*_, _/_, _%_, _≤_, _<_}
+use Prim.Native.Nat.{ℕ, zero, suc, _+_, _*_, _≤_, _<_}
 use native.Mathlib.Omega.{arith}
-use mathlib.Core.Path.{_≡_, refl, sym, _∙_, ap}
+use mathlib.Core.Path.{_≡_, refl, _∙_, ap}
 use mathlib.Core.Bool.{true}
 use mathlib.Core.List.{List, [], _∷_, _++_, flatten}
-use lib.Dec.{eqb, ltb}
 use lib.ListN.{length, getD, length-append, List·getD-append}
 use lib.Seq.{getD-append-add}
 use borrow.Author.Tests.{eq-eqb, le-leb, lt-ltb}
@@ -13,9 +12,9 @@ use Rattle.words.specs.Sequences.{lexBefore}
 use Rattle.words.proofs.Each.{each-append}
 use Rattle.words.proofs.Flattening.{Wide}
 use Rattle.words.proofs.Orders.{Three, less, same, more, three, lex-less, lex-same}
-use Rattle.tables.specs.Tables.{columnCount, mostRows, yearColumn, fieldRight, yearRight}
+use Rattle.tables.specs.Tables.{columnCount, yearColumn, fieldRight, yearRight}
 use Rattle.tables.specs.RowLists.{RowsRight}
-use Rattle.tables.proofs.FlatRows.{FieldsRight, flat-right}
+use Rattle.tables.proofs.FlatRows.{flat-right}
 use Rattle.woods.specs.Woods.{standOf, diameterOf, stemName, inStand, hasDiameter, standRow, diameterRow, woodRows}
 use Rattle.woods.specs.Growing.{mostStems}
 

@@ -1,13 +1,13 @@
 -- Three stems whose names and texts are strings, in literal bytes: "a", "ab" and "é". Each stands in "s" by "in"; the first has the "note" "é", the
 -- third an empty one, and the second is -3 "wide". As text and as name "é" has another number.
 use Prim.Native.Nat.{ℕ}
-use mathlib.Core.Option.{Option, none, some}
+use mathlib.Core.Option.{none, some}
 use mathlib.Core.List.{List, [], _∷_, _++_}
-use lib.IntN.{pos, negsuc}
+use lib.IntN.{negsuc}
 use lib.ListN.{replicate}
 use Rattle.tables.specs.Tables.{Tables, tablesOf}
 use Rattle.cuts.specs.Histories.{Event, turns, merges, joins}
-use Rattle.sparql.specs.Terms.{RdfTermOver, iri, integer, text, MappingOver}
+use Rattle.sparql.specs.Terms.{iri, integer, text, MappingOver}
 use Rattle.sparql_strings.specs.Strings.{byString, Dictionaries}
 use Rattle.encodings.specs.Encodings.{StringTerm}
 use Rattle.encodings.specs.StringRows.{StringRow}

@@ -1,9 +1,7 @@
 -- `find` meets its contract.
 use borrow.Author.Needs.{needs}
-use mathlib.Core.Path.{_≡_, sym, _∙_}
-use mathlib.Core.Bool.{true, false}
+use mathlib.Core.Path.{sym, _∙_}
 use borrow.Author.Tests.{not-true, not-false}
-use Rattle.dictionaries.specs.Checking.{dictionaryRight}
 use Rattle.dictionaries.proofs.Checking.{tested}
 use Rattle.dictionary_lookups.specs.Finding.{findInput}
 use Rattle.dictionary_lookups.proofs.Finding.{find-refused, find-served}

@@ -1,6 +1,6 @@
 -- `string` meets its contract.
 use borrow.Author.Needs.{needs}
-use mathlib.Core.Path.{_≡_, sym, ap₂, _∙_}
+use mathlib.Core.Path.{sym, ap₂, _∙_}
 use borrow.Author.Tests.{not-true, not-false}
 use Rattle.dictionary_lookups.specs.declared.StringBounds.the-variants.{Part}
 use Rattle.dictionary_lookups.specs.Lending.{stringInput}

@@ -1,11 +1,10 @@
 -- `dictionary_right` meets its contract.
 use borrow.Author.Needs.{needs}
 use native.Mathlib.Omega.{arith}
-use mathlib.Core.Path.{_≡_, refl, sym, _∙_}
-use mathlib.Core.Bool.{true}
+use mathlib.Core.Path.{sym, _∙_}
 use lib.ListN.{length}
 use borrow.Author.Tests.{le-leb, lt-leb, not-true, not-false}
-use Rattle.dictionaries.specs.Dictionaries.{endsRight, mostStrings}
+use Rattle.dictionaries.specs.Dictionaries.{mostStrings}
 use Rattle.dictionaries.specs.Checking.{dictionaryRight}
 use Rattle.dictionary_tests.proofs.dictionary_right.Statement.{statement}
 use Rattle.dictionary_tests.proofs.dictionary_right.Tie as tie

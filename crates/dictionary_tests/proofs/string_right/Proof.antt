@@ -7,7 +7,7 @@ use mathlib.Core.List.{List}
 use borrow.Author.Tests.{not-true, not-false}
 use Rattle.dictionaries.specs.declared.StringKind.{StringKind}
 use Rattle.dictionaries.specs.declared.StringKind.the-variants.{Names, Texts}
-use Rattle.dictionaries.specs.Utf8.{wellFormed, codePoints}
+use Rattle.dictionaries.specs.Utf8.{wellFormed}
 use Rattle.dictionaries.specs.Checking.{isIri, stringRight}
 use Rattle.dictionaries.proofs.Checking.{iri-bytes}
 use Rattle.dictionary_tests.proofs.string_right.Statement.{statement}

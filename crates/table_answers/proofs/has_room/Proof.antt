@@ -1,7 +1,6 @@
 -- `has_room` meets its contract: the first length that is too short decides.
 use borrow.Author.Needs.{needs}
 use mathlib.Core.Path.{sym}
-use lib.ListN.{length}
 use Rattle.table_answers.proofs.Rooms.{no-rows, no-pos, by-osp}
 use Rattle.table_answers.proofs.has_room.Statement.{statement}
 use Rattle.table_answers.proofs.has_room.Tie as tie

@@ -1,5 +1,4 @@
 -- `table_readings::keys` meets its contract: by the order, its keys.
-use mathlib.Core.Path.{_≡_}
 use borrow.Author.Needs.{needs}
 use Rattle.walks.specs.Walk.{keysOf}
 use Rattle.table_readings.proofs.keys.Statement.{statement}

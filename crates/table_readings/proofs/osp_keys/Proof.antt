@@ -1,5 +1,5 @@
 -- `table_readings::osp_keys` meets its contract.
-use mathlib.Core.Path.{_≡_, _∙_, ap, ap₂}
+use mathlib.Core.Path.{_∙_, ap, ap₂}
 use mathlib.Core.List.{[], _∷_}
 use borrow.Author.Needs.{needs}
 use Rattle.walks.specs.Walk.{longOf, keysOf}

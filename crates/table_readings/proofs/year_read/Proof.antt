@@ -1,5 +1,4 @@
 -- `table_readings::year_read` meets its contract.
-use mathlib.Core.Path.{_≡_}
 use borrow.Author.Needs.{needs}
 use Rattle.table_readings.proofs.year_read.Statement.{statement}
 use Rattle.table_readings.proofs.year_read.Tie as tie

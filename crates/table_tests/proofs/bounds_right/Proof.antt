@@ -1,5 +1,4 @@
 -- `table_tests::bounds_right` meets its contract: each bound is looked at where those before it are right.
-use mathlib.Core.Path.{_≡_}
 use native.Mathlib.Omega.{arith}
 use borrow.Author.Tests.{lt-ltb, le-ltb, le-leb, lt-leb}
 use Rattle.words.specs.Words.{number, mostYear}

@@ -1,8 +1,8 @@
 -- `table_tests::check` meets its contract: the orders are walked, and where all are right and there is one year, what stands last is looked at;
 -- where that does not settle it, the tests of kinds and years are made first.
-use Prim.Native.Nat.{ℕ, _-_}
+use Prim.Native.Nat.{_-_}
 use mathlib.Core.Path.{_≡_, sym, _∙_, ap}
-use mathlib.Core.Bool.{true, false}
+use mathlib.Core.Bool.{true}
 use native.Mathlib.Omega.{arith}
 use lib.ListN.{length}
 use borrow.Author.Tests.{not-true, not-false, eqb-true}

@@ -1,5 +1,5 @@
 -- `table_tests::ends_right` meets its contract: the last row, and the rows that POS and OSP have last.
-use Prim.Native.Nat.{_-_, _<_}
+use Prim.Native.Nat.{_-_}
 use mathlib.Core.Path.{_≡_, _∙_, ap, ap₂}
 use native.Mathlib.Omega.{arith}
 use lib.ListN.{length}

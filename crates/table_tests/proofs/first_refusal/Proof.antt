@@ -1,6 +1,5 @@
 -- `table_tests::first_refusal` meets its contract.
-use Prim.Native.Nat.{ℕ, zero, suc}
-use mathlib.Core.Path.{_≡_, refl, sym, _∙_, ap}
+use mathlib.Core.Path.{sym, _∙_, ap}
 use borrow.Author.Needs.{needs}
 use Rattle.table_tests.specs.Refusals.{refusalWith}
 use Rattle.table_tests.proofs.Refusing.{refused-by}

@@ -1,5 +1,5 @@
 -- `table_tests::passes` meets its contract.
-use mathlib.Core.Path.{_≡_, refl, sym, _∙_}
+use mathlib.Core.Path.{refl, sym, _∙_}
 use borrow.Author.Tests.{not-false}
 use Rattle.words.proofs.Booleans.{absurd-true}
 use Rattle.table_tests.proofs.passes.Statement.{statement}

@@ -1,7 +1,5 @@
 -- `table_tests::years_alike` meets its contract: in the rows' own order the first row has the first place, and the last row the last.
-use Prim.Native.Nat.{_-_}
-use mathlib.Core.Path.{_≡_, _∙_, ap, ap₂}
-use native.Mathlib.Omega.{arith}
+use mathlib.Core.Path.{_∙_, ap, ap₂}
 use lib.Dec.{eqb}
 use borrow.Author.Needs.{needs}
 use Rattle.tables.specs.Tables.{fieldOf, yearColumn}

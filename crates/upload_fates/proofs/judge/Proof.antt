@@ -1,7 +1,6 @@
 -- `judge` meets its contract.
 use native.Mathlib.Omega.{arith}
-use mathlib.Core.Path.{_≡_, refl, sym, _∙_, ap}
-use lib.ListN.{length, take}
+use mathlib.Core.Path.{sym}
 use lib.Seq.{length-take-le}
 use Rattle.upload_fates.proofs.Judging.{front-named, front-length, sorted-named, listed, judged}
 use borrow.Author.Needs.{needs}

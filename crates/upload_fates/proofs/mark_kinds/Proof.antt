@@ -1,10 +1,10 @@
 -- `mark_kinds` meets its contract. The invariant: the rows before `row` are marked, and those of right kinds listed.
-use Prim.Native.Nat.{ℕ, _+_, _-_, _*_, _≤_, _<_}
+use Prim.Native.Nat.{_-_, _≤_}
 use native.Mathlib.Omega.{arith}
 use native.Mathlib.Numerals.{add-one}
 use mathlib.Core.Path.{_≡_, refl, sym, _∙_, ap, subst}
 use mathlib.Core.List.{_++_, _∷_, []}
-use lib.ListN.{length, take, set, length-set}
+use lib.ListN.{length, take, length-set}
 use lib.Seq.{take-suc-set}
 use Rattle.uploads.specs.Uploads.{uploadCount}
 use Rattle.upload_fates.specs.Judging.{goodNumbers, Marked}

@@ -1,12 +1,10 @@
 -- `mark_repeats` meets its contract. The invariant: the places before `place` are marked.
 use Prim.Native.Nat.{ℕ, _+_, _-_, _*_, _≤_, _<_}
 use native.Mathlib.Omega.{arith}
-use mathlib.Core.Path.{_≡_, refl, sym, _∙_, ap}
-use mathlib.Core.Bool.{true, false, not}
+use mathlib.Core.Path.{_≡_, refl, sym, _∙_}
 use mathlib.Core.List.{List}
-use lib.ListN.{length, getD, set, length-set}
+use lib.ListN.{length, getD, length-set}
 use borrow.Author.Tests.{leb-true}
-use Rattle.words.specs.Sequences.{all}
 use Rattle.words.proofs.Elements.{all-at}
 use Rattle.tables.specs.Tables.{columnCount}
 use Rattle.tables.specs.RowLists.{inRows}

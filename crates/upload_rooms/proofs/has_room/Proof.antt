@@ -1,6 +1,6 @@
 -- `has_room` meets its contract: the first length that is too short decides.
 use native.Mathlib.Omega.{arith}
-use mathlib.Core.Path.{_≡_, refl, sym}
+use mathlib.Core.Path.{sym}
 use Rattle.upload_rooms.proofs.Rooms.{no-rows, no-pos, no-osp, by-report}
 use Rattle.upload_rooms.proofs.has_room.Statement.{statement}
 use Rattle.upload_rooms.proofs.has_room.Tie as tie

@@ -1,5 +1,4 @@
 -- `one_more` meets its contract: what is seen is one as a number.
-use borrow.Author.Needs.{needs}
 use Prim.Native.Nat.{ℕ, _+_, _≤_}
 use mathlib.Core.Path.{_≡_, refl}
 use mathlib.Core.Bool.{Bool, true, false, cond}

@@ -1,11 +1,9 @@
 -- `stem_words` meets its contract: the terms are made of values that fit.
 use borrow.Author.Needs.{needs}
-use Prim.Native.Nat.{ℕ, _+_, _*_, _/_, _%_}
+use Prim.Native.Nat.{ℕ}
 use native.Mathlib.Omega.{arith}
-use mathlib.Core.Path.{_≡_, refl}
-use mathlib.Core.List.{List, [], _∷_}
-use Rattle.words.specs.Words.{name, number}
-use Rattle.woods.specs.Woods.{stemName}
+use mathlib.Core.Path.{_≡_}
+use mathlib.Core.List.{[], _∷_}
 use Rattle.wood_rows.proofs.stem_words.Statement.{statement}
 use Rattle.wood_rows.proofs.stem_words.Tie as tie
 

@@ -1,8 +1,8 @@
 -- `write_rows` meets its contract. The invariant: the rows of the stems before `stem` are written, and x has moved twice for each.
 use borrow.Author.Needs.{needs}
-use Prim.Native.Nat.{ℕ, _+_, _-_, _*_, _≤_}
+use Prim.Native.Nat.{_+_, _-_, _*_, _≤_}
 use mathlib.Core.Path.{_≡_, refl, sym, ap, _∙_}
-use mathlib.Core.List.{List, flatten, _++_}
+use mathlib.Core.List.{flatten}
 use native.Mathlib.Omega.{arith}
 use lib.ListN.{length}
 use lib.Seq.{paste}

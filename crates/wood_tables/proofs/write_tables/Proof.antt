@@ -1,7 +1,7 @@
 -- `write_tables` meets its contract.
-use Prim.Native.Nat.{ℕ, _+_, _*_, _≤_}
+use Prim.Native.Nat.{ℕ, _*_, _≤_}
 use native.Mathlib.Omega.{arith}
-use mathlib.Core.Path.{_≡_, refl, sym, _∙_, ap}
+use mathlib.Core.Path.{_≡_, sym, _∙_, ap}
 use mathlib.Core.List.{List, _++_, flatten}
 use lib.ListN.{length, take, drop}
 use lib.Seq.{length-take-le}
@@ -12,7 +12,6 @@ use Rattle.tables.specs.declared.Order.the-variants.{Pos, Osp}
 use Rattle.tables.specs.Tables.{columnCount, mostRows}
 use Rattle.tables.specs.RowLists.{rowNumbers}
 use Rattle.woods.specs.Woods.{woodRows}
-use Rattle.woods.specs.Refusals.{rowsFor}
 use Rattle.woods.proofs.Lengths.{rows-length, list-counts}
 use borrow.Author.Needs.{needs}
 use Rattle.wood_tables.proofs.write_tables.Statement.{statement}

@@ -1,17 +1,16 @@
 -- `write_report` meets its contract. The invariant: the dropped rows before `row` are written.
-use Prim.Native.Nat.{ℕ, _+_, _-_, _*_, _≤_, _<_}
+use Prim.Native.Nat.{ℕ, _+_, _-_, _≤_, _<_}
 use native.Mathlib.Omega.{arith}
 use native.Mathlib.Numerals.{add-one}
-use mathlib.Core.Path.{_≡_, refl, sym, _∙_, ap, subst}
+use mathlib.Core.Path.{_≡_, refl, sym, _∙_, ap}
 use mathlib.Core.Bool.{true, false, not}
 use mathlib.Core.List.{List, [], _∷_, _++_}
-use lib.ListN.{length, take, getD, length-append}
-use lib.Seq.{paste}
+use lib.ListN.{length, getD, length-append}
 use borrow.Author.Tests.{eq-eqb, ne-eqb}
 use Rattle.words.specs.Sequences.{numbers, over}
 use Rattle.words.proofs.Numbers.{numbers-none, numbers-next}
 use Rattle.upload_writes.specs.Writing.{writtenFor, isKeptIn, droppedWords}
-use Rattle.upload_writes.proofs.Written.{over-more, written-none, written-yes, written-no, numbers-part, grow-whole, grow-count, grow-length}
+use Rattle.upload_writes.proofs.Written.{written-none, written-yes, written-no, numbers-part, grow-whole, grow-count, grow-length}
 use Rattle.upload_writes.proofs.reports.write_report.Statement.{statement}
 use Rattle.upload_writes.proofs.reports.write_report.Tie as tie
 

@@ -2,21 +2,20 @@
 use Prim.Native.Nat.{ℕ, _+_, _-_, _*_, _≤_, _<_}
 use native.Mathlib.Omega.{arith}
 use native.Mathlib.Numerals.{add-one}
-use mathlib.Core.Path.{_≡_, refl, sym, _∙_, ap, subst}
+use mathlib.Core.Path.{_≡_, refl, sym, _∙_, ap}
 use mathlib.Core.Bool.{true, false}
 use mathlib.Core.List.{List, [], _∷_, _++_}
 use lib.ListN.{length, take, getD, length-append}
-use lib.Seq.{take-suc, take-length, length-paste, paste}
+use lib.Seq.{take-suc, take-length, paste}
 use borrow.Author.Tests.{leb-true, eq-eqb, ne-eqb}
-use Rattle.words.specs.Sequences.{all, over}
+use Rattle.words.specs.Sequences.{over}
 use Rattle.words.proofs.Elements.{all-at}
 use Rattle.tables.specs.declared.Order.the-variants.{Spo}
 use Rattle.tables.specs.Tables.{columnCount, fieldsOf}
 use Rattle.tables.proofs.Columns.{fields-length}
 use Rattle.tables.specs.RowLists.{inRows}
-use Rattle.uploads.specs.Uploads.{uploadCount}
-use Rattle.upload_writes.specs.Writing.{writtenFor, isKeptIn, keptWords}
-use Rattle.upload_writes.proofs.Written.{over-more, written-none, written-yes, written-no, written-part, grow-whole, grow-count, grow-length}
+use Rattle.upload_writes.specs.Writing.{isKeptIn, keptWords}
+use Rattle.upload_writes.proofs.Written.{written-none, written-yes, written-no, written-part, grow-whole, grow-count, grow-length}
 use Rattle.upload_writes.proofs.rows.write_rows.Statement.{statement}
 use Rattle.upload_writes.proofs.rows.write_rows.Tie as tie
 
