@@ -3,7 +3,7 @@ use Prim.Native.Nat.{ℕ, zero, suc, _≤_, _<_}
 use native.Mathlib.Omega.{arith}
 use mathlib.Core.Path.{_≡_, refl, sym, _∙_, ap, ap₂}
 use mathlib.Core.Bool.{Bool, true, false, cond, _||_}
-use mathlib.Core.List.{List, [], _∷_, _++_, map}
+use mathlib.Core.List.{List, [], _∷_, _++_, map, map-append}
 use lib.ListN.{length, getD, take, drop}
 use lib.Seq.{take-suc, take-all}
 use Rattle.words.specs.Sequences.{numbers}
@@ -58,10 +58,6 @@ module _ (f : ℕ → List ℕ) (before : ℕ → ℕ → Bool) (t : List ℕ) w
   sort-among : (xs : List ℕ) → isAmong (map f (sortBy before xs)) t ≡ isAmong (map f xs) t
   unfolding isAmong sortBy
   sort-among xs = all-among [] xs ∙ or-false (isAmong (map f xs) t)
-
-map-append : {A B : Type 0} (f : A → B) (xs ys : List A) → map f (xs ++ ys) ≡ map f xs ++ map f ys
-map-append f [] ys = refl
-map-append f (x ∷ xs) ys = ap (λ l. f x ∷ l) (map-append f xs ys)
 
 -- ---- each place in turn is the list
 front-numbers : {A : Type 0} (xs : List A) (d : A) (n : ℕ) → n ≤ length xs → map (λ p. getD xs p d) (numbers n) ≡ take n xs

@@ -3,7 +3,7 @@ use Prim.Native.Nat.{ℕ, suc, _+_, _≤_, _<_}
 use native.Mathlib.Omega.{arith}
 use native.Mathlib.Numerals.{add-one}
 use mathlib.Core.Path.{_≡_, refl, sym, _∙_, ap, ap₂}
-use mathlib.Core.Bool.{Bool, true, false, _||_, true≢false}
+use mathlib.Core.Bool.{Bool, true, false, _||_}
 use mathlib.Core.List.{List, [], _∷_, _++_, flatten, append-assoc, append-nil}
 use lib.Dec.{eqb}
 use lib.ListN.{length, getD, set, take, drop, length-set, length-append, length-map, take-append-drop, drop-of-length-le}
@@ -13,6 +13,7 @@ use Rattle.words.specs.Sequences.{over}
 use Rattle.words.proofs.Somewhere.{map-at}
 use Rattle.words.proofs.Booleans.{or-left, or-right, Decided, yes, no, decided}
 use Rattle.dictionaries.specs.Strings.{stringBefore}
+use Rattle.dictionaries.proofs.Checking.{or-rest}
 use Rattle.dictionary_numberings.specs.Numbering.{endsAfter}
 use Rattle.dictionaries.specs.Dictionaries.{stringsOf, placeBefore}
 use Rattle.dictionary_numberings.specs.Sorted.{lastOfEach, stringsAt}
@@ -27,10 +28,6 @@ last-one x = refl
 last-none : lastOfEach [] ≡ []
 unfolding lastOfEach
 last-none = refl
-
-or-rest : (a b : Bool) → a ≡ false → a || b ≡ true → b ≡ true
-or-rest true b e h = absurd (true≢false e)
-or-rest false b e h = h
 
 module _ (xs : List (List ℕ)) (k : ℕ) (h : k < length xs) where
   taken-by : eqb (suc k) (length xs) || stringBefore (getD xs k []) (getD xs (suc k) []) ≡ true → Decided (eqb (suc k) (length xs))
