@@ -2,20 +2,20 @@
 use Prim.Native.Nat.{ℕ, suc, _+_, _*_, _≤_, _<_}
 use native.Mathlib.Omega.{arith}
 use mathlib.Core.Path.{_≡_, refl, sym, _∙_, ap, ap₂}
-use mathlib.Core.Bool.{Bool, true, false, _&&_}
+use mathlib.Core.Bool.{Bool, true, false, _&&_, _||_, not}
 use mathlib.Core.Logic.{_↔_}
-use mathlib.Core.List.{List, _∷_}
+use mathlib.Core.List.{List, [], _∷_}
 use lib.Dec.{eqb, ltb, leb}
 use lib.ListN.{length}
 use borrow.Author.Tests.{lt-ltb, ne-eqb}
 use Rattle.words.specs.Sequences.{all, neighbours, member}
-use Rattle.words.proofs.Booleans.{and-left, and-right, and-both}
+use Rattle.words.proofs.Booleans.{absurd-true, and-left, and-right, and-both}
 use Rattle.words.proofs.Elements.{all-weaken}
 use Rattle.dictionaries.specs.declared.StringKind.{StringKind}
 use Rattle.dictionaries.specs.declared.StringKind.the-variants.{Names, Texts}
 use Rattle.dictionaries.specs.Strings.{stringBefore}
 use Rattle.dictionaries.specs.Utf8.{wellFormed, codePoints}
-use Rattle.dictionaries.specs.Dictionaries.{stringsOf, endsRight, mostStrings}
+use Rattle.dictionaries.specs.Dictionaries.{stringsOf, endsRight, mostStrings, RightDictionary}
 use Rattle.dictionaries.specs.Checking.{iriCharacter, isIri, stringRight, dictionaryRight, RightOf}
 use Rattle.dictionaries.proofs.Characters.{Utf8Text, end, one, two, three, four, text-of}
 
@@ -71,6 +71,11 @@ pub iri-bytes : (s : List ℕ) → wellFormed s ≡ true → isIri s ≡ isIri (
 iri-bytes s h = let t = text-of s h in ap₂ _&&_ (some-points t) (bytes-points iriCharacter iri-late t)
 
 -- ---- the test of a whole dictionary
+-- what is left of an "or" whose first part is false
+pub or-rest : (a b : Bool) → a ≡ false → a || b ≡ true → b ≡ true
+or-rest true b e h = absurd-true refl e
+or-rest false b e h = h
+
 string-formed : (k : StringKind) (s : List ℕ) → stringRight k s ≡ true → wellFormed s ≡ true
 string-formed Names s h = and-left (wellFormed s) (isIri (codePoints s)) h
 string-formed Texts s h = h

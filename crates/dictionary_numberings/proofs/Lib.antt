@@ -1,3 +1,5 @@
 pub mod Once
 pub mod Cutting
+pub mod Repeats
+pub mod Places
 pub mod Numbered

@@ -80,13 +80,13 @@ once-length [] = omega arith
 once-length (s ∷ ss) = let i = once-length ss in let j = insert-length s (stringsOnce ss) in omega arith
 
 -- ---- exactly these
-or-swap : (a b c : Bool) → a || (b || c) ≡ b || (a || c)
+pub or-swap : (a b c : Bool) → a || (b || c) ≡ b || (a || c)
 or-swap true true c = refl
 or-swap true false c = refl
 or-swap false true c = refl
 or-swap false false c = refl
 
-or-twice : (a c : Bool) → a || (a || c) ≡ a || c
+pub or-twice : (a c : Bool) → a || (a || c) ≡ a || c
 or-twice true c = refl
 or-twice false c = refl
 

@@ -4,15 +4,16 @@ use native.Mathlib.Omega.{arith}
 use native.Mathlib.Numerals.{add-one}
 use mathlib.Core.Path.{_≡_, refl, sym, _∙_, ap}
 use mathlib.Core.Bool.{Bool, true, false, _&&_, _||_}
-use mathlib.Core.List.{List, _∷_}
-use lib.Dec.{eqb}
+use mathlib.Core.List.{List, [], _∷_}
+use lib.Dec.{eqb, ltb, leb}
 use lib.ListN.{length, getD, drop, drop-of-length-le}
 use lib.Seq.{drop-cons}
 use borrow.Author.Tests.{le-ltb, le-leb, lt-leb, eqb-true, eqb-false}
-use Rattle.words.proofs.Booleans.{absurd-true, or-left, or-right, Decided, yes, no, decided}
-use Rattle.words.specs.Sequences.{all, neighbours}
+use Rattle.words.proofs.Booleans.{or-left, or-right, Decided, yes, no, decided}
+use Rattle.words.specs.Sequences.{all, neighbours, member}
 use Rattle.dictionaries.specs.Dictionaries.{endsRight}
 use Rattle.dictionaries.specs.Checking.{iriCharacter}
+use Rattle.dictionaries.proofs.Checking.{or-rest}
 
 -- ---- a byte of a name
 pub low-out : (b : ℕ) → b ≤ 0x20 → iriCharacter b ≡ false
@@ -54,10 +55,6 @@ module _ (n last : ℕ) (ends : List ℕ) (i : ℕ) where
 pub and-false : (b : Bool) → b && false ≡ false
 and-false true = refl
 and-false false = refl
-
-or-rest : (a b : Bool) → a ≡ false → a || b ≡ true → b ≡ true
-or-rest true b e h = absurd-true refl e
-or-rest false b e h = h
 
 -- ---- each element passes, and each two neighbours do, from a place on
 abbrev pub bothFrom : {A : Type 0} → (A → Bool) → (A → A → Bool) → List A → ℕ → Bool
