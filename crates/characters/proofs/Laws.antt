@@ -4,7 +4,7 @@ use native.Mathlib.Omega.{arith}
 use native.Mathlib.Nat.{add-zero}
 use native.Mathlib.Numerals.{add-one}
 use mathlib.Core.Path.{_≡_, refl, sym, _∙_, ap}
-use mathlib.Core.Bool.{Bool, true, false, cond, _&&_, not, true≢false}
+use mathlib.Core.Bool.{Bool, true, _&&_, not, true≢false}
 use mathlib.Core.Option.{Option, none, some}
 use mathlib.Core.List.{List, [], _∷_}
 use lib.Dec.{eqb, ltb}
@@ -13,9 +13,9 @@ use lib.Seq.{drop-cons, drop-drop}
 use Rattle.words.proofs.Booleans.{yes, no, decided}
 use Rattle.dictionaries.specs.Utf8.{Span, isIn, afterFirst, firstBits, sixMore}
 use Rattle.characters.specs.declared.Character.{Character}
-use Rattle.characters.specs.Sequences.{character, badByte, noPoint, sequenceFrom, sequenceBy, sequenceOf}
+use Rattle.characters.specs.Sequences.{noPoint, sequenceFrom, sequenceBy, sequenceOf}
 use Rattle.characters.specs.Escapes.{hexDigit, hexFrom, isScalar, backslash, escapeTo, escapeOf}
-use Rattle.characters.specs.Characters.{characterAt, leavesBackslash, PlacedCharacter, characterOn, charactersFrom}
+use Rattle.characters.specs.Characters.{characterAt, leavesBackslash, characterOn, charactersFrom}
 
 -- ---- a character ends within the bytes
 from-fits : (bs : List ℕ) (ss : List Span) (c n : ℕ) → sequenceFrom bs ss c n .more ≤ n + length bs

@@ -1,6 +1,6 @@
 -- SPARQL 1.1, 19.2: \u and four hexadecimal digits, \U and eight, anywhere in a text. Assumes nothing: these are definitions.
 use Prim.Native.Nat.{ℕ, zero, suc, _+_, _-_, _*_}
-use mathlib.Core.Bool.{Bool, true, false, cond, _&&_, _||_}
+use mathlib.Core.Bool.{Bool, cond, _&&_, _||_}
 use mathlib.Core.List.{List, [], _∷_}
 use lib.Dec.{eqb, ltb, leb}
 use Rattle.dictionaries.specs.Utf8.{span, isIn}

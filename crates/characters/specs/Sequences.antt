@@ -1,6 +1,6 @@
 -- One character of UTF-8, by tables 3-7 and 3-6 of the Unicode Standard. Assumes nothing: these are definitions.
 use Prim.Native.Nat.{ℕ, _+_}
-use mathlib.Core.Bool.{Bool, true, false, cond}
+use mathlib.Core.Bool.{cond}
 use mathlib.Core.Option.{Option, none, some}
 use mathlib.Core.List.{List, [], _∷_}
 use Rattle.dictionaries.specs.Utf8.{Span, isIn, afterFirst, firstBits, sixMore}

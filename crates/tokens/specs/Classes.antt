@@ -1,7 +1,7 @@
 -- The classes of characters that the terminals of SPARQL 1.1's grammar are made of; numbers in brackets are its productions (19.8).
 -- A byte that is no UTF-8 is in none. Assumes nothing: these are definitions.
 use Prim.Native.Nat.{ℕ}
-use mathlib.Core.Bool.{Bool, true, false, _&&_, _||_, not}
+use mathlib.Core.Bool.{Bool, false, _&&_, _||_, not}
 use mathlib.Core.List.{List, [], _∷_}
 use lib.Dec.{eqb, ltb}
 use Rattle.dictionaries.specs.Utf8.{Span, span, isIn}

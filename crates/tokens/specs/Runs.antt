@@ -2,7 +2,7 @@
 use Prim.Native.Nat.{ℕ, zero, suc, _+_, _-_}
 use mathlib.Core.Bool.{Bool, true, false, cond, _&&_, _||_, not}
 use mathlib.Core.List.{List, [], _∷_}
-use lib.Dec.{eqb, ltb}
+use lib.Dec.{eqb}
 use lib.ListN.{drop}
 use Rattle.characters.specs.Sequences.{noPoint}
 use Rattle.tokens.specs.Classes.{isDigit, isBlank, isLineEnd, isNameLetter, isNameCharacter, isHexDigit, isNameEscape}

@@ -1,12 +1,11 @@
 -- The token that some characters begin with: the longest that fits. Assumes nothing: these are definitions.
 use Prim.Native.Nat.{ℕ, zero, suc, _+_, _-_}
-use mathlib.Core.Bool.{Bool, true, false, cond, _&&_, _||_}
+use mathlib.Core.Bool.{Bool, false, cond, _&&_, _||_}
 use mathlib.Core.List.{List, [], _∷_, _++_}
 use lib.Dec.{eqb}
 use lib.ListN.{drop}
 use Rattle.characters.specs.Sequences.{noPoint}
 use Rattle.characters.specs.Escapes.{backslash}
-use Rattle.tokens.specs.declared.TokenKind.{TokenKind}
 use Rattle.tokens.specs.declared.TokenKind.the-variants as kind
 use Rattle.tokens.specs.declared.Token.{Token}
 use Rattle.tokens.specs.Classes.{isOneOf, isDigit, isAsciiLetter, isWordCharacter, isIriCharacter, isSign}

@@ -2,18 +2,10 @@
 use borrow.Author.Tests.{eq-eqb, ne-eqb}
 use Rattle.characters.specs.Characters.{characterAt}
 use borrow.Author.Needs.{needs}
-use Prim.Native.Nat.{ℕ, _+_, _-_, _*_, _/_, _≤_, _<_, zero-le}
-use mathlib.Core.Path.{_≡_, refl, sym, ap, _∙_}
-use mathlib.Core.List.{List}
-use mathlib.Core.Bool.{true, false}
-use native.Mathlib.Omega.{arith}
-use lib.ListN.{length, getD, take, drop}
+use mathlib.Core.Path.{refl, sym, _∙_}
+use lib.ListN.{getD}
 use Rattle.character_passes.proofs.character.Statement.{statement}
 use Rattle.character_passes.proofs.character.Tie as tie
-use Rattle.character_passes.proofs.character.Reads as reads
-use Rattle.character_passes.proofs.character.Lts as lts
-use Rattle.character_passes.proofs.escapes.escape.Reads as escape-reads
-use Rattle.character_passes.proofs.sequences.sequence.Reads as sequence-reads
 
 shared-slice-read-if1 : tie.Need-shared-slice-read-if1
 shared-slice-read-if1 c = search needs

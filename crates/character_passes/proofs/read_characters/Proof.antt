@@ -7,18 +7,12 @@ use Rattle.characters.specs.Characters.{placesOf}
 use Rattle.characters.proofs.Laws.{character-within, characters-end, characters-next}
 use Rattle.character_passes.proofs.Written.{written-next, behind-next, written-all}
 use borrow.Author.Needs.{needs}
-use Prim.Native.Nat.{ℕ, _+_, _-_, _*_, _/_, _≤_, _<_, zero-le}
+use Prim.Native.Nat.{_+_, _-_, _≤_}
 use mathlib.Core.Path.{_≡_, refl, sym, ap, _∙_}
-use mathlib.Core.List.{List}
-use mathlib.Core.Bool.{true, false}
 use native.Mathlib.Omega.{arith}
-use lib.ListN.{length, getD, take, drop}
+use lib.ListN.{length, take, drop}
 use Rattle.character_passes.proofs.read_characters.Statement.{statement}
 use Rattle.character_passes.proofs.read_characters.Tie as tie
-use Rattle.character_passes.proofs.read_characters.Reads as reads
-use Rattle.character_passes.proofs.read_characters.Lts as lts
-use Rattle.character_passes.proofs.character.Reads as character-reads
-use Rattle.character_passes.proofs.leaves_backslash.Reads as leaves-backslash-reads
 
 abbrev Inv-loop : tie.InvT-loop
 Inv-loop text points₀ places₀ at₀ n₀ behind₀ points places at n behind =

@@ -2,18 +2,10 @@
 use Rattle.characters.specs.Escapes.{escapeTo}
 use Rattle.character_passes.proofs.Digits.{escape-end, escape-four, escape-eight, escape-none}
 use borrow.Author.Needs.{needs}
-use Prim.Native.Nat.{ℕ, _+_, _-_, _*_, _/_, _≤_, _<_, zero-le}
-use mathlib.Core.Path.{_≡_, refl, sym, ap, _∙_}
-use mathlib.Core.List.{List}
-use mathlib.Core.Bool.{true, false}
+use mathlib.Core.Path.{sym, ap, _∙_}
 use native.Mathlib.Omega.{arith}
-use lib.ListN.{length, getD, take, drop}
 use Rattle.character_passes.proofs.escapes.escape.Statement.{statement}
 use Rattle.character_passes.proofs.escapes.escape.Tie as tie
-use Rattle.character_passes.proofs.escapes.escape.Reads as reads
-use Rattle.character_passes.proofs.escapes.escape.Lts as lts
-use Rattle.character_passes.proofs.escapes.escape_to.Reads as escape-to-reads
-use Rattle.character_passes.proofs.escapes.hex_number.Reads as hex-number-reads
 
 returns : tie.Need-returns
 returns c = let a = c .before .before .args in sym (escape-end (a .text .now) (a .from) (omega (arith, c .if1 .taken)))

@@ -2,18 +2,10 @@
 use Rattle.dictionaries.specs.Utf8.{span, isIn}
 use Rattle.characters.specs.Escapes.{hexDigit}
 use borrow.Author.Needs.{needs}
-use Prim.Native.Nat.{ℕ, _+_, _-_, _*_, _/_, _≤_, _<_, zero-le}
-use mathlib.Core.Path.{_≡_, refl, sym, ap, _∙_}
-use mathlib.Core.List.{List}
+use mathlib.Core.Path.{_≡_, refl, sym, _∙_}
 use mathlib.Core.Bool.{true, false}
-use native.Mathlib.Omega.{arith}
-use lib.ListN.{length, getD, take, drop}
 use Rattle.character_passes.proofs.escapes.hex_digit.Statement.{statement}
 use Rattle.character_passes.proofs.escapes.hex_digit.Tie as tie
-use Rattle.character_passes.proofs.escapes.hex_digit.Reads as reads
-use Rattle.character_passes.proofs.escapes.hex_digit.Lts as lts
-use Rattle.character_passes.proofs.sequences.left_of.Reads as left-of-reads
-use Rattle.dictionary_checks.proofs.is_in.Reads as is-in-reads
 
 is-in-requires : tie.Need-is-in-requires
 is-in-requires c κs = search needs

@@ -2,17 +2,12 @@
 use Rattle.characters.specs.Escapes.{hexFrom}
 use Rattle.character_passes.proofs.Digits.{digits-done, digits-end, no-digit, past-last, next-digit}
 use borrow.Author.Needs.{needs}
-use Prim.Native.Nat.{ℕ, _+_, _-_, _*_, _/_, _≤_, _<_, zero-le}
+use Prim.Native.Nat.{_+_, _-_, _*_, _≤_}
 use mathlib.Core.Path.{_≡_, refl, sym, ap, _∙_}
-use mathlib.Core.List.{List}
-use mathlib.Core.Bool.{true, false}
 use native.Mathlib.Omega.{arith}
-use lib.ListN.{length, getD, take, drop}
+use lib.ListN.{length, drop}
 use Rattle.character_passes.proofs.escapes.hex_number.Statement.{statement}
 use Rattle.character_passes.proofs.escapes.hex_number.Tie as tie
-use Rattle.character_passes.proofs.escapes.hex_number.Reads as reads
-use Rattle.character_passes.proofs.escapes.hex_number.Lts as lts
-use Rattle.character_passes.proofs.escapes.hex_digit.Reads as hex-digit-reads
 
 abbrev Inv-loop : tie.InvT-loop
 Inv-loop text from digits v₀ at₀ left₀ v at left = (at ≤ length text) × (hexFrom digits (drop from text) 0 ≡ hexFrom left (drop at text) v)

@@ -2,17 +2,9 @@
 use Rattle.dictionaries.specs.Utf8.{firstBits}
 use Rattle.dictionary_checks.specs.Steps.{spansIn}
 use borrow.Author.Needs.{needs}
-use Prim.Native.Nat.{ℕ, _+_, _-_, _*_, _/_, _≤_, _<_, zero-le}
-use mathlib.Core.Path.{_≡_, refl, sym, ap, _∙_}
-use mathlib.Core.List.{List}
-use mathlib.Core.Bool.{true, false}
-use native.Mathlib.Omega.{arith}
-use lib.ListN.{length, getD, take, drop}
+use mathlib.Core.Path.{sym, ap, _∙_}
 use Rattle.character_passes.proofs.sequences.first_bits.Statement.{statement}
 use Rattle.character_passes.proofs.sequences.first_bits.Tie as tie
-use Rattle.character_passes.proofs.sequences.first_bits.Reads as reads
-use Rattle.character_passes.proofs.sequences.first_bits.Lts as lts
-use Rattle.character_passes.proofs.sequences.left_of.Reads as left-of-reads
 
 enum-told : tie.Need-enum-told
 enum-told c = search needs

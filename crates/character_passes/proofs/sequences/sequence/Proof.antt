@@ -3,19 +3,12 @@ use Rattle.dictionary_checks.specs.Steps.{spansIn}
 use Rattle.characters.specs.Sequences.{sequenceFrom}
 use Rattle.character_passes.proofs.Continuing.{sequence-begins, sequence-begins-not}
 use borrow.Author.Needs.{needs}
-use Prim.Native.Nat.{ℕ, _+_, _-_, _*_, _/_, _≤_, _<_, zero-le}
-use mathlib.Core.Path.{_≡_, refl, sym, ap, _∙_}
-use mathlib.Core.List.{List}
-use mathlib.Core.Bool.{true, false}
+use Prim.Native.Nat.{_+_}
+use mathlib.Core.Path.{sym, ap, _∙_}
 use native.Mathlib.Omega.{arith}
-use lib.ListN.{length, getD, take, drop}
+use lib.ListN.{getD, drop}
 use Rattle.character_passes.proofs.sequences.sequence.Statement.{statement}
 use Rattle.character_passes.proofs.sequences.sequence.Tie as tie
-use Rattle.character_passes.proofs.sequences.sequence.Reads as reads
-use Rattle.character_passes.proofs.sequences.sequence.Lts as lts
-use Rattle.character_passes.proofs.sequences.first_bits.Reads as first-bits-reads
-use Rattle.character_passes.proofs.sequences.sequence_rest.Reads as sequence-rest-reads
-use Rattle.dictionary_checks.proofs.next.Reads as next-reads
 
 shared-slice-read-a : tie.Need-shared-slice-read-a
 shared-slice-read-a c = search needs

@@ -4,19 +4,12 @@ use Rattle.characters.specs.Sequences.{sequenceFrom}
 use Rattle.character_passes.proofs.Continuing.{bitsBelow, bits-first, bits-most, sequence-done, sequence-cut, sequence-wrong, sequence-more, room-more}
 use borrow.Author.Tests.{not-true, not-false}
 use borrow.Author.Needs.{needs}
-use Prim.Native.Nat.{ℕ, _+_, _-_, _*_, _/_, _≤_, _<_, zero-le}
-use mathlib.Core.Path.{_≡_, refl, sym, ap, _∙_}
-use mathlib.Core.List.{List}
-use mathlib.Core.Bool.{true, false}
+use Prim.Native.Nat.{_+_, _-_, _≤_, _<_}
+use mathlib.Core.Path.{_≡_, refl, sym, _∙_}
 use native.Mathlib.Omega.{arith}
-use lib.ListN.{length, getD, take, drop}
+use lib.ListN.{length, drop}
 use Rattle.character_passes.proofs.sequences.sequence_rest.Statement.{statement}
 use Rattle.character_passes.proofs.sequences.sequence_rest.Tie as tie
-use Rattle.character_passes.proofs.sequences.sequence_rest.Reads as reads
-use Rattle.character_passes.proofs.sequences.sequence_rest.Lts as lts
-use Rattle.character_passes.proofs.sequences.left_of.Reads as left-of-reads
-use Rattle.dictionary_checks.proofs.next.Reads as next-reads
-use Rattle.dictionary_checks.proofs.nothing_left.Reads as nothing-left-reads
 
 abbrev Inv-loop : tie.InvT-loop
 Inv-loop text from bits rest₀ point₀ at₀ rest point at =
