@@ -1,3 +1,4 @@
 pub mod Sequences
 pub mod Escapes
 pub mod Characters
+pub mod Computing

@@ -1,0 +1,28 @@
+// Tokens of a query's text, over its code points. The definitions, and what a token is.
+
+// What a token is. The last four are wrong ones, which the grammar takes nowhere.
+pub enum TokenKind {
+    End,
+    Word,
+    Variable,
+    Iri,
+    PrefixedName,
+    BlankLabel,
+    LanguageTag,
+    Integer,
+    Decimal,
+    Double,
+    QuotedText,
+    Sign,
+    BadByte,
+    NoToken,
+    Unended,
+    WrongEscape,
+}
+
+// A token: what it is, how many characters stand before it, and how many it has.
+pub struct Token {
+    pub kind: TokenKind,
+    pub start: usize,
+    pub size: usize,
+}
