@@ -2,9 +2,9 @@
 use Prim.Native.Nat.{ℕ, suc, _+_, _*_, _≤_, _<_}
 use native.Mathlib.Omega.{arith}
 use mathlib.Core.Path.{_≡_, refl, sym, _∙_, ap, ap₂}
-use mathlib.Core.Bool.{Bool, true, false, _&&_, _||_, not}
+use mathlib.Core.Bool.{Bool, true, false, _&&_, _||_}
 use mathlib.Core.Logic.{_↔_}
-use mathlib.Core.List.{List, [], _∷_}
+use mathlib.Core.List.{List, _∷_}
 use lib.Dec.{eqb, ltb, leb}
 use lib.ListN.{length}
 use borrow.Author.Tests.{lt-ltb, ne-eqb}
@@ -15,7 +15,7 @@ use Rattle.dictionaries.specs.declared.StringKind.{StringKind}
 use Rattle.dictionaries.specs.declared.StringKind.the-variants.{Names, Texts}
 use Rattle.dictionaries.specs.Strings.{stringBefore}
 use Rattle.dictionaries.specs.Utf8.{wellFormed, codePoints}
-use Rattle.dictionaries.specs.Dictionaries.{stringsOf, endsRight, mostStrings, RightDictionary}
+use Rattle.dictionaries.specs.Dictionaries.{stringsOf, endsRight, mostStrings}
 use Rattle.dictionaries.specs.Checking.{iriCharacter, isIri, stringRight, dictionaryRight, RightOf}
 use Rattle.dictionaries.proofs.Characters.{Utf8Text, end, one, two, three, four, text-of}
 

@@ -1,17 +1,15 @@
 -- The strings at their sorted places: sorted, and the same as those that were given.
-use Prim.Native.Nat.{ℕ, zero, suc, _≤_, _<_}
+use Prim.Native.Nat.{ℕ, zero, suc, _≤_}
 use native.Mathlib.Omega.{arith}
-use mathlib.Core.Path.{_≡_, refl, sym, _∙_, ap, ap₂}
-use mathlib.Core.Bool.{Bool, true, false, cond, _||_}
+use mathlib.Core.Path.{_≡_, refl, sym, _∙_, ap}
+use mathlib.Core.Bool.{Bool, true, false, _||_}
 use mathlib.Core.List.{List, [], _∷_, _++_, map, map-append}
-use lib.ListN.{length, getD, take, drop}
+use lib.ListN.{length, getD, take}
 use lib.Seq.{take-suc, take-all}
 use Rattle.words.specs.Sequences.{numbers}
 use Rattle.words.specs.Sorting.{insertBy, insertAllBy, sortBy}
 use Rattle.words.proofs.Booleans.{yes, no, decided}
-use Rattle.words.proofs.Each.{Each}
 use Rattle.words.proofs.EachMore.{each-mapped}
-use Rattle.words.proofs.Numbers.{numbers-next}
 use Rattle.words.proofs.Sorting.{Sorted, sorted-sort}
 use Rattle.dictionaries.specs.Strings.{stringBefore, sameString}
 use Rattle.dictionaries.specs.Dictionaries.{stringsOf, isAmong, placeBefore}

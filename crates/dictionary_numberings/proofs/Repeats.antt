@@ -1,24 +1,20 @@
 -- Sorted strings, of which each is taken once, are the strings of the dictionary.
-use Prim.Native.Nat.{ℕ, suc, _≤_, _<_}
-use native.Mathlib.Omega.{arith}
+use Prim.Native.Nat.{ℕ}
 use mathlib.Core.Path.{_≡_, refl, sym, _∙_, ap, ap₂}
-use mathlib.Core.Bool.{Bool, true, false, cond, _||_}
-use mathlib.Core.Logic.{_⊎_, inl, inr}
-use mathlib.Core.List.{List, [], _∷_, _++_, map}
-use lib.ListN.{length, getD}
-use Rattle.words.specs.Sequences.{numbers}
-use Rattle.words.specs.Sorting.{insertBy, insertAllBy, sortBy}
+use mathlib.Core.Bool.{Bool, true, false, _||_}
+use mathlib.Core.Logic.{inl}
+use mathlib.Core.List.{List, [], _∷_}
 use Rattle.words.proofs.Booleans.{absurd-true, Decided, yes, no, decided}
 use Rattle.words.proofs.Each.{Each}
-use Rattle.words.proofs.EachMore.{each-weaken, each-mapped}
+use Rattle.words.proofs.EachMore.{each-weaken}
 use Rattle.words.proofs.Ascending.{Ahead, Ascending}
-use Rattle.words.proofs.Sorting.{Sorted, sorted-sort}
+use Rattle.words.proofs.Sorting.{Sorted}
 use Rattle.dictionaries.specs.Strings.{stringBefore, sameString}
-use Rattle.dictionaries.specs.Dictionaries.{stringsOf, isAmong, placeBefore}
-use Rattle.dictionaries.proofs.Strings.{before-asym, before-equal, before-ordered, before-self, same-self, same-equal}
-use Rattle.dictionaries.proofs.Searching.{among-none, differs, place-ordered}
+use Rattle.dictionaries.specs.Dictionaries.{isAmong}
+use Rattle.dictionaries.proofs.Strings.{before-equal, before-ordered, same-self, same-equal}
+use Rattle.dictionaries.proofs.Searching.{among-none, differs}
 use Rattle.dictionary_numberings.specs.Numbering.{stringsOnce}
-use Rattle.dictionary_numberings.specs.Sorted.{lastOfEach, sortedPlaces, stringsAt}
+use Rattle.dictionary_numberings.specs.Sorted.{lastOfEach}
 use Rattle.dictionary_numberings.proofs.Once.{or-twice, once-ascends, once-among}
 
 -- ---- by cases

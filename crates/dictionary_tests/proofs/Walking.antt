@@ -4,13 +4,13 @@ use native.Mathlib.Omega.{arith}
 use native.Mathlib.Numerals.{add-one}
 use mathlib.Core.Path.{_≡_, refl, sym, _∙_, ap}
 use mathlib.Core.Bool.{Bool, true, false, _&&_, _||_}
-use mathlib.Core.List.{List, [], _∷_}
-use lib.Dec.{eqb, ltb, leb}
+use mathlib.Core.List.{List, _∷_}
+use lib.Dec.{eqb}
 use lib.ListN.{length, getD, drop, drop-of-length-le}
 use lib.Seq.{drop-cons}
 use borrow.Author.Tests.{le-ltb, le-leb, lt-leb, eqb-true, eqb-false}
 use Rattle.words.proofs.Booleans.{or-left, or-right, Decided, yes, no, decided}
-use Rattle.words.specs.Sequences.{all, neighbours, member}
+use Rattle.words.specs.Sequences.{all, neighbours}
 use Rattle.dictionaries.specs.Dictionaries.{endsRight}
 use Rattle.dictionaries.specs.Checking.{iriCharacter}
 use Rattle.dictionaries.proofs.Checking.{or-rest}

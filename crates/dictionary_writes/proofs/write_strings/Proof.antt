@@ -2,15 +2,13 @@
 use borrow.Author.Needs.{needs}
 use Prim.Native.Nat.{ℕ, _+_, _-_, _≤_, _<_}
 use native.Mathlib.Omega.{arith}
-use mathlib.Core.Path.{_≡_, refl, sym, ap, ap₂, subst, subst⁻¹, _∙_}
-use mathlib.Core.Bool.{Bool, true, false, _||_}
-use mathlib.Core.List.{List, [], _∷_, flatten, map}
+use mathlib.Core.Path.{_≡_, sym, ap, subst, subst⁻¹, _∙_}
+use mathlib.Core.Bool.{Bool, true, _||_}
+use mathlib.Core.List.{List, [], _∷_}
 use lib.Dec.{eqb}
 use lib.ListN.{length, getD, set, drop, length-map}
 use borrow.Author.Tests.{ltb-true}
 use Rattle.words.proofs.Elements.{all-at}
-use Rattle.words.proofs.Somewhere.{map-at}
-use Rattle.dictionaries.specs.Strings.{stringBefore}
 use Rattle.dictionaries.specs.Dictionaries.{stringsOf, hasString, placeBefore}
 use Rattle.dictionary_numberings.specs.Sorted.{lastOfEach, stringsAt}
 use Rattle.dictionary_writes.proofs.Writing.{one-taken, one-left, none-left, last-told, string-at}
