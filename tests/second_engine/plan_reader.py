@@ -2,7 +2,7 @@
 from collections import namedtuple
 from functools import lru_cache
 
-from words import (AND, AT_LEAST, BRANCH, COMPARISON, FALLING, GROUP, HEAD, NOT, OR, REGISTERS, RISING, ROWS, TOP, TRUE, YEAR, is_variable,
+from words import (AND, BRANCH, COMPARISON, FALLING, GROUP, HEAD, LAST_OPERATOR, NOT, OR, REGISTERS, RISING, ROWS, TOP, TRUE, YEAR, is_variable,
                    kind, low, term_value)
 
 MOST_PLAN_WORDS = 256
@@ -68,7 +68,7 @@ class Reader:
 
     def condition(self):
         word = self.next()
-        if kind(word) == COMPARISON and low(word) <= AT_LEAST:
+        if kind(word) == COMPARISON and low(word) <= LAST_OPERATOR:
             return Node(COMPARISON, low(word), self.terms(2))
         parts = {TRUE: 0, NOT: 1, AND: 2, OR: 2}.get(kind(word))
         if parts is None or low(word) != 0:

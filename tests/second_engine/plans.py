@@ -7,7 +7,7 @@ row, as a stand has that was clear-felled.
 from inputs import Tables, osp_key, pos_key, rows_of
 from plan_reader import MOST_DEPTH, MOST_NODES, MOST_PLAN_WORDS
 from running import TooLong
-from words import (AND, AT_LEAST, BRANCH, COMPARISON, EQUAL, FALLING, GROUP, HEAD, MOST_VALUE, MOST_YEAR, NOT, NUMBERS, OR, REGISTERS, RISING, ROWS, TOP,
+from words import (AND, BRANCH, COMPARISON, EQUAL, FALLING, GROUP, HEAD, LAST_OPERATOR, MOST_VALUE, MOST_YEAR, NOT, NUMBERS, OR, REGISTERS, RISING, ROWS, TOP,
                    TRUE, UNEQUAL, YEAR, is_variable, name, number, plan_word, term, term_kind, term_value, text, variable)
 
 
@@ -160,7 +160,7 @@ class Draft:
             if self.rng.random() < .6:
                 return self.some_constant()
             return self.rng.choice([number, text])(term_value(self.rng.choice(self.terms)))
-        return [plan_word(COMPARISON, self.rng.choice([EQUAL, UNEQUAL, *range(AT_LEAST + 1)])), side(), side()]
+        return [plan_word(COMPARISON, self.rng.choice([EQUAL, UNEQUAL, *range(LAST_OPERATOR + 1)])), side(), side()]
 
     def condition(self, variables, deep):
         if deep == 0 or self.rng.random() < .3:

@@ -12,6 +12,7 @@ HEAD, BRANCH, TRUE, AND, OR, NOT, COMPARISON, ROWS, TOP, RISING, FALLING, GROUP,
 SURVEY, STATE, PLACE = 13, 14, 15
 SURVEYS = 1 << 28            # the numbers that a survey may have are below
 EQUAL, UNEQUAL, LESS, AT_MOST, MORE, AT_LEAST = range(6)
+LAST_OPERATOR = AT_LEAST
 OPERATORS = ['=', '!=', '<', '<=', '>', '>=']
 
 

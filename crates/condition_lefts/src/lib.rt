@@ -42,7 +42,7 @@ fn left_words(p: &[u32]) -> usize
 }
 
 // The same from each place of a plan on, at the front of a list with room for it.
-pub fn find_lefts(plan: &[u32], lefts: &mut [u32])
+pub fn index_operands(plan: &[u32], lefts: &mut [u32])
     requires { ⌜ (length (now plan) ≤ mostPlanWords) × (length (now plan) ≤ length (now lefts)) ⌝ }
     ensures { λ _. ⌜ take (length (now (plan .entry))) (now (lefts .exit)) ≡ leftsOf (now (plan .entry)) ⌝ }
 {

@@ -8,7 +8,7 @@ use mathlib.Core.List.{List, [], _∷_}
 use lib.ListN.{length, getD, take, drop, length-drop}
 use lib.Seq.{drop-drop, getD-drop}
 use lib.Dec.{eqb, leb}
-use Rattle.words.specs.Words.{kind, low, trueKind, andKind, orKind, notKind, comparisonKind, atLeast}
+use Rattle.words.specs.Words.{kind, low, trueKind, andKind, orKind, notKind, comparisonKind, lastOperator}
 use Rattle.words.specs.Bindings.{Bindings}
 use Rattle.words.proofs.Booleans.{absurd-true}
 use Rattle.plans.specs.declared.Node.{Node}
@@ -74,7 +74,7 @@ node-by false l true false false false false n = refl
 node-lone : (w : ℕ) → (nodeOf w ≡ Wrong → ⊥) → lonely (nodeOf w) ≡ eqb (kind w) comparisonKind
 unfolding nodeOf
 node-lone w n =
-    node-by (eqb (kind w) comparisonKind) (leb (low w) atLeast) (eqb (low w) 0) (eqb (kind w) trueKind) (eqb (kind w) andKind)
+    node-by (eqb (kind w) comparisonKind) (leb (low w) lastOperator) (eqb (low w) 0) (eqb (kind w) trueKind) (eqb (kind w) andKind)
     (eqb (kind w) orKind) (eqb (kind w) notKind) n
 
 module _ (g : List ℕ → Read Condition) (w : ℕ) where

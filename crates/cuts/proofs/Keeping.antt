@@ -16,7 +16,7 @@ use Rattle.plans.proofs.Bounds.{EndingForm}
 use Rattle.steps.specs.Steps.{State, after}
 use Rattle.steps.specs.Saved.{savedWords, positionWords}
 use Rattle.lists.specs.Gathering.{gathered, takenInto}
-use Rattle.prunings.proofs.Sending.{KeepsNoBest, of-rows}
+use Rattle.step_prunings.proofs.Sending.{KeepsNoBest, of-rows}
 use Rattle.turns.specs.Surveys.{Survey}
 use Rattle.turns.specs.Turns.{isDone, isOver}
 use Rattle.cuts.specs.Histories.{ServedTurn, Phone, servedIn, stepsIn, doneIn, afterServed, afterTaking}

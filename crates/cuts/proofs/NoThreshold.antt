@@ -7,7 +7,7 @@ use mathlib.Core.List.{List, [], _∷_}
 use Rattle.words.proofs.Each.{Each}
 use Rattle.plans.specs.Endings.{Ending, rows, top, group, registers}
 use Rattle.lists.specs.Gathering.{thresholdRight}
-use Rattle.prunings.proofs.Sending.{KeepsNoBest, of-rows, of-groups, of-registers}
+use Rattle.step_prunings.proofs.Sending.{KeepsNoBest, of-rows, of-groups, of-registers}
 use Rattle.cuts.specs.Histories.{ServedTurn}
 use Rattle.cuts.specs.Unsent.{Unsent, BestUnsent}
 

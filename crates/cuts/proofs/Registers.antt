@@ -13,7 +13,7 @@ use Rattle.lists.specs.Rows.{boundValues}
 use Rattle.lists.proofs.Closing.{registers-at}
 use Rattle.lists.proofs.Gatherings.{ValidKept}
 use Rattle.lists.proofs.RegisterLists.{registers-in, registers-gathered, registers-none}
-use Rattle.prunings.proofs.Sending.{KeepsNoBest, of-registers}
+use Rattle.step_prunings.proofs.Sending.{KeepsNoBest, of-registers}
 use Rattle.turns.specs.Surveys.{Survey}
 use Rattle.turns.specs.Opening.{openOf, Opens}
 use Rattle.turns.specs.Turns.{isOver}

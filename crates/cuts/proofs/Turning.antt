@@ -24,7 +24,7 @@ use Rattle.lists.proofs.TopLists.{Fine}
 use Rattle.lists.proofs.Closing.{top-at, few-fit}
 use Rattle.lists.proofs.FullLists.{deliveredBy, sent-fine}
 use Rattle.lists.proofs.Gatherings.{some-width}
-use Rattle.prunings.proofs.Sending.{of-groups}
+use Rattle.step_prunings.proofs.Sending.{of-groups}
 use Rattle.turns.specs.Surveys.{Survey}
 use Rattle.turns.specs.declared.TurnEnding.{TurnEnding}
 use Rattle.turns.specs.declared.TurnEnding.the-variants.{Done, Spent, Full, Refused}

@@ -11,7 +11,7 @@ use lib.Seq.{drop-append-le, drop-at}
 use borrow.Author.Tests.{le-leb}
 use Rattle.words.specs.Words.{kind, low, word, topKind}
 use Rattle.words.proofs.Testing.{none-some, some-injective}
-use Rattle.plans.specs.declared.Last.the-variants.{Top}
+use Rattle.plans.specs.declared.EndingKind.the-variants.{Top}
 use Rattle.plans.specs.declared.Years.{Years}
 use Rattle.plans.specs.Conditions.{Read}
 use Rattle.plans.specs.Years.{yearsIn, yearWords, headOf, bodyOf}

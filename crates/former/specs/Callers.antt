@@ -7,8 +7,8 @@ use mathlib.Core.List.{List, [], _∷_, _++_}
 use lib.ListN.{drop, getD}
 use Rattle.words.specs.Words.{low, word, topKind}
 use Rattle.tables.specs.Tables.{Tables}
-use Rattle.plans.specs.declared.Last.{Last}
-use Rattle.plans.specs.declared.Last.the-variants.{Rows, Top, Group, Registers, Neither}
+use Rattle.plans.specs.declared.EndingKind.{EndingKind}
+use Rattle.plans.specs.declared.EndingKind.the-variants.{Rows, Top, Group, Registers, Invalid}
 use Rattle.plans.specs.Years.{headOf}
 use Rattle.plans.specs.Endings.{Ending, top, rowVariables, afterRows, lastOf, endingAs}
 use Rattle.plans.specs.Plans.{Plan, branchCount, planOf}
@@ -29,12 +29,12 @@ abbrev pub endingPlace : List ℕ → ℕ
 endingPlace ws = branchStart (branchCount (headOf ws)) ws
 
 -- an ending as it was read: only the k of a best-of ending was read otherwise
-abbrev pub formerEndingAs : Last → List ℕ → Ending
+abbrev pub formerEndingAs : EndingKind → List ℕ → Ending
 formerEndingAs Rows ws = endingAs Rows ws
 formerEndingAs Top ws = top (formerCount (low (getD ws 0 0))) (rowVariables (drop 1 ws)) (afterRows (drop 1 ws))
 formerEndingAs Group ws = endingAs Group ws
 formerEndingAs Registers ws = endingAs Registers ws
-formerEndingAs Neither ws = endingAs Neither ws
+formerEndingAs Invalid ws = endingAs Invalid ws
 
 abbrev pub formerEndingAt : List ℕ → Ending
 formerEndingAt ws = formerEndingAs (lastOf (getD ws 0 0)) ws

@@ -4,7 +4,7 @@ use native.Mathlib.Omega.{arith}
 use mathlib.Core.Path.{_≡_, sym, _∙_, ap, subst, subst⁻¹}
 use mathlib.Core.List.{List}
 use lib.ListN.{length, take}
-use Rattle.plans.specs.declared.Last.the-variants.{Rows, Top, Group, Registers}
+use Rattle.plans.specs.declared.EndingKind.the-variants.{Rows, Top, Group, Registers}
 use Rattle.plans.specs.Endings.{Ending, group}
 use Rattle.plans.specs.Reading.{lastIn, variablesIn, keysIn, bestIn, measuredIn}
 use Rattle.plans.proofs.EndingRead.{is-rows, is-top, is-group, is-registers}

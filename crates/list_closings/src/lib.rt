@@ -2,7 +2,7 @@
 use list_group_totals::TOTALS;
 use list_group_totals::Totals;
 use list_group_totals::write_totals;
-use plans::Last;
+use plans::EndingKind;
 use words::Term;
 ghost use mathlib.Core.Path.{_≡_};
 ghost use mathlib.Core.Bool.{true};
@@ -52,10 +52,10 @@ pub fn close(ending: &[u32], out: &mut [u32], used: usize) -> usize
 {
     let vars = plan_ending_parts::variables(ending);
     match plan_ending_kinds::ending_kind(ending) {
-        Last::Rows => used,
-        Last::Top => used,
-        Last::Group => close_groups(vars, out, used),
-        Last::Registers => used,
-        Last::Neither => used,
+        EndingKind::Rows => used,
+        EndingKind::Top => used,
+        EndingKind::Group => close_groups(vars, out, used),
+        EndingKind::Registers => used,
+        EndingKind::Invalid => used,
     }
 }

@@ -6,8 +6,8 @@ use mathlib.Core.List.{List, []}
 use lib.ListN.{length}
 use Rattle.words.specs.Sequences.{over}
 use Rattle.words.proofs.Keeping.{keep-nil}
-use Rattle.plans.specs.declared.Last.{Last}
-use Rattle.plans.specs.declared.Last.the-variants.{Registers}
+use Rattle.plans.specs.declared.EndingKind.{EndingKind}
+use Rattle.plans.specs.declared.EndingKind.the-variants.{Registers}
 use Rattle.plans.specs.Endings.{Ending}
 use Rattle.plans.specs.Reading.{lastIn, measuredIn}
 use Rattle.plans.proofs.EndingRead.{is-registers}
@@ -20,7 +20,7 @@ use Rattle.lists.proofs.RegisterLists.{registers-gathered}
 
 module _ (e : Ending) (out : List ℕ) where
   -- any ending but registers writes nothing
-  pub none-listed : {l : Last} → lastIn e ≡ l → (l ≡ Registers → ⊥) → (threshold : List ℕ) → Listed (gathered e threshold []) out out 0
+  pub none-listed : {l : EndingKind} → lastIn e ≡ l → (l ≡ Registers → ⊥) → (threshold : List ℕ) → Listed (gathered e threshold []) out out 0
   none-listed k n threshold =
       subst⁻¹ (λ ws. Listed ws out out 0) (gathered-nil e (λ v h. n (sym k ∙ ap lastIn h)) threshold) (refl, refl)
 

@@ -5,7 +5,7 @@ use mathlib.Core.Path.{_≡_, refl, subst}
 use mathlib.Core.List.{List, []}
 use lib.ListN.{length, take}
 use Rattle.words.specs.Bindings.{Bindings}
-use Rattle.plans.specs.declared.Last.the-variants.{Rows, Top, Group, Registers}
+use Rattle.plans.specs.declared.EndingKind.the-variants.{Rows, Top, Group, Registers}
 use Rattle.plans.specs.Endings.{Ending, rows, top, group, registers, mostGroupVariables}
 use Rattle.plans.specs.Reading.{lastIn, variablesIn, keysIn, bestIn, measuredIn}
 use Rattle.plans.proofs.EndingRead.{is-rows, is-top, is-group, is-registers}

@@ -1,5 +1,5 @@
 // The list of no rows, by the ending of a plan.
-use plans::Last;
+use plans::EndingKind;
 ghost use mathlib.Core.Path.{_≡_};
 ghost use mathlib.Core.Bool.{true};
 ghost use mathlib.Core.List.{List, []};
@@ -17,10 +17,10 @@ pub fn begin(ending: &[u32], out: &mut [u32]) -> usize
         → Listed (gathered (endingAt (now (ending .entry))) threshold []) (now (out .entry)) (now (out .exit)) r) ⌝ }
 {
     match plan_ending_kinds::ending_kind(ending) {
-        Last::Rows => 0,
-        Last::Top => 0,
-        Last::Group => 0,
-        Last::Registers => list_registers::no_values(out),
-        Last::Neither => 0,
+        EndingKind::Rows => 0,
+        EndingKind::Top => 0,
+        EndingKind::Group => 0,
+        EndingKind::Registers => list_registers::no_values(out),
+        EndingKind::Invalid => 0,
     }
 }

@@ -1,7 +1,7 @@
 // Two lists of groups merged over the kept list.
-mod weave;
+mod merge_backwards;
 
-pub use weave::merge_groups;
+pub use merge_backwards::merge_groups;
 
 // Two lists of groups together: the number of their records, or that a total would leave its range.
 pub enum Union {

@@ -11,8 +11,8 @@ use borrow.Author.Tests.{leb-true}
 use Rattle.words.specs.declared.Written.the-variants.{Words, Refused}
 use Rattle.words.specs.Words.{lowNumbers, kind, low, rowsKind}
 use Rattle.words.specs.Tests.{firstFailing, numberOf}
-use Rattle.plans.specs.declared.Last.{Last}
-use Rattle.plans.specs.declared.Last.the-variants.{Rows, Top, Group, Registers, Neither}
+use Rattle.plans.specs.declared.EndingKind.{EndingKind}
+use Rattle.plans.specs.declared.EndingKind.the-variants.{Rows, Top, Group, Registers, Invalid}
 use Rattle.plans.specs.Endings.{Ending, mostRowVariables, defaultBest, bestCount, rowWidth, lastOf, endingAs, endingAt}
 use Rattle.plans.specs.Plans.{planOf, planTests}
 use Rattle.plans.specs.Reading.{lastIn, variablesIn, bestIn}
@@ -53,7 +53,7 @@ best-few w = go (eqb (low w) 0)
     go true = omega arith
     go false = omega arith
 
-top-small : (l : Last) (ws : List ℕ) → lastIn (endingAs l ws) ≡ Top
+top-small : (l : EndingKind) (ws : List ℕ) → lastIn (endingAs l ws) ≡ Top
     → (bestIn (endingAs l ws) ≤ lowNumbers) × (length (variablesIn (endingAs l ws)) ≤ mostRowVariables)
 unfolding endingAs
 top-small Rows ws h = absurd (let z : _≡_ {A = ℕ} 0 1 = cc in omega arith)
@@ -62,7 +62,7 @@ top-small Top ws h =
     (best-few (getD ws 0 0), omega (arith, row-few (getD (drop 1 ws) 0 0)))
 top-small Group ws h = absurd (let z : _≡_ {A = ℕ} 0 1 = cc in omega arith)
 top-small Registers ws h = absurd (let z : _≡_ {A = ℕ} 0 1 = cc in omega arith)
-top-small Neither ws h = absurd (let z : _≡_ {A = ℕ} 0 1 = cc in omega arith)
+top-small Invalid ws h = absurd (let z : _≡_ {A = ℕ} 0 1 = cc in omega arith)
 
 pub top-fits : (ws vs : List ℕ) (k : ℕ) → vs ≡ variablesIn (endingAt ws) → k ≡ bestIn (endingAt ws) → lastIn (endingAt ws) ≡ Top
     → k * length vs ≤ lowNumbers * mostRowVariables

@@ -1,5 +1,5 @@
 // The words that test 7 asks of a turn's output: of an ending, and of a plan.
-use plans::Last;
+use plans::EndingKind;
 use words::Written;
 ghost use mathlib.Core.Path.{_≡_};
 ghost use mathlib.Core.Bool.{true};
@@ -17,11 +17,11 @@ pub fn least_output(ending: &[u32]) -> usize
 {
     let width = plan_ending_parts::variables(ending).len();
     match plan_ending_kinds::ending_kind(ending) {
-        Last::Rows => width,
-        Last::Top => plan_ending_kinds::best_count(ending) * width,
-        Last::Group => width + list_group_totals::TOTALS,
-        Last::Registers => list_registers::REGISTERS,
-        Last::Neither => 0,
+        EndingKind::Rows => width,
+        EndingKind::Top => plan_ending_kinds::best_count(ending) * width,
+        EndingKind::Group => width + list_group_totals::TOTALS,
+        EndingKind::Registers => list_registers::REGISTERS,
+        EndingKind::Invalid => 0,
     }
 }
 

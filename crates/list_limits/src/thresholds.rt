@@ -1,5 +1,5 @@
 // A threshold, by the ending of a plan.
-use plans::Last;
+use plans::EndingKind;
 ghost use mathlib.Core.Path.{_≡_};
 ghost use mathlib.Core.Bool.{true};
 ghost use Rattle.plans.specs.Endings.{endingForm, endingAt};
@@ -11,13 +11,13 @@ pub fn threshold_right(ending: &[u32], threshold: &[u32]) -> bool
     ensures { λ r. ⌜ r ≡ thresholdRight (endingAt (now (ending .entry))) (now (threshold .entry)) ⌝ }
 {
     match plan_ending_kinds::ending_kind(ending) {
-        Last::Top => list_best_tests::best_threshold(
+        EndingKind::Top => list_best_tests::best_threshold(
             plan_ending_parts::variables(ending),
             threshold,
         ),
-        Last::Rows => list_rows::no_threshold(threshold),
-        Last::Group => list_rows::no_threshold(threshold),
-        Last::Registers => list_rows::no_threshold(threshold),
-        Last::Neither => false,
+        EndingKind::Rows => list_rows::no_threshold(threshold),
+        EndingKind::Group => list_rows::no_threshold(threshold),
+        EndingKind::Registers => list_rows::no_threshold(threshold),
+        EndingKind::Invalid => false,
     }
 }

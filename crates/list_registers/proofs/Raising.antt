@@ -15,7 +15,7 @@ use Rattle.words.specs.Sequences.{numbers, over}
 use Rattle.words.proofs.Orders.{Three, less, same, more, three}
 use Rattle.words.proofs.Numbers.{numbers-none, numbers-next}
 use Rattle.words.proofs.Buffers.{over-next}
-use Rattle.hashes.specs.Hashes.{hashOf, pickedBy, rankIn}
+use Rattle.register_hashes.specs.Hashes.{hashOf, pickedBy, rankIn}
 use Rattle.registers.specs.Registers.{registerCount, givenTo, registerOf, registersOf, greaterOf}
 use Rattle.registers.proofs.Merging.{map-same}
 

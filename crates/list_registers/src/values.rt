@@ -40,9 +40,9 @@ fn raise(value: u32, out: &mut [u32])
     requires { ⌜ registerCount ≤ length (now out) ⌝ }
     ensures { λ _. ⌜ now (out .exit) ≡ over (greaterOf (take registerCount (now (out .entry))) (registersOf (value ∷ []))) (now (out .entry)) ⌝ }
 {
-    let hash = hashes::hash_of(value);
-    let at = hashes::picked_by(hash);
-    let g = greater(out[at], hashes::rank_in(hash));
+    let hash = register_hashes::hash_of(value);
+    let at = register_hashes::picked_by(hash);
+    let g = greater(out[at], register_hashes::rank_in(hash));
     out[at] = g;
 }
 

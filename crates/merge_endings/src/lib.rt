@@ -5,7 +5,7 @@ use merge_lists::are_registers;
 use merge_lists::written;
 use merges::LISTS;
 use merges::ROOM;
-use plans::Last;
+use plans::EndingKind;
 use words::Written;
 ghost use mathlib.Core.Path.{_≡_};
 ghost use mathlib.Core.Bool.{true};
@@ -72,8 +72,8 @@ pub fn merge_ending(e: &[u32], kept: &mut [u32], given: usize, list: &[u32]) -> 
         (record { answer = r; kept = now (kept .exit) }) ⌝ }
 {
     match plan_ending_kinds::ending_kind(e) {
-        Last::Rows => Written::Refused(LISTS),
-        Last::Top => {
+        EndingKind::Rows => Written::Refused(LISTS),
+        EndingKind::Top => {
             let vars = plan_ending_parts::variables(e);
             let keys = plan_ending_parts::keys(e);
             merge_top(
@@ -85,8 +85,8 @@ pub fn merge_ending(e: &[u32], kept: &mut [u32], given: usize, list: &[u32]) -> 
                 list,
             )
         }
-        Last::Group => merge_groups(plan_ending_parts::variables(e).len(), kept, given, list),
-        Last::Registers => merge_registers(kept, given, list),
-        Last::Neither => Written::Refused(LISTS),
+        EndingKind::Group => merge_groups(plan_ending_parts::variables(e).len(), kept, given, list),
+        EndingKind::Registers => merge_registers(kept, given, list),
+        EndingKind::Invalid => Written::Refused(LISTS),
     }
 }

@@ -3,7 +3,7 @@ use crate::Wanted;
 use crate::searches::all_wanted;
 use plan_ending_kinds::last_of;
 use plan_ending_kinds::row_width;
-use plans::Last;
+use plans::EndingKind;
 use plans::first;
 use words::PlanWord;
 ghost use mathlib.Core.Path.{_≡_};
@@ -47,13 +47,13 @@ pub fn ending_form(p: &[u32]) -> bool
     ensures { λ r. ⌜ r ≡ endingForm (now (p .entry)) ⌝ }
 {
     match last_of(first(p)) {
-        Last::Rows => {
+        EndingKind::Rows => {
             if rows_form(p) {
                 return p.len() == 1 + row_width(p);
             }
             false
         }
-        Last::Top => {
+        EndingKind::Top => {
             let rest = &p[1..];
             if rows_form(rest) {
                 let at = 1 + row_width(rest);
@@ -61,18 +61,18 @@ pub fn ending_form(p: &[u32]) -> bool
             }
             false
         }
-        Last::Group => {
+        EndingKind::Group => {
             if p.len() == 2 + words::wide(PlanWord(first(p)).low()) {
                 return all_wanted(&p[1..], Wanted::Variable);
             }
             false
         }
-        Last::Registers => {
+        EndingKind::Registers => {
             if p.len() == REGISTERS_WORDS {
                 return all_wanted(&p[1..], Wanted::Variable);
             }
             false
         }
-        Last::Neither => false,
+        EndingKind::Invalid => false,
     }
 }

@@ -1,5 +1,5 @@
 // Endings: the kind of one, and the numbers in its first words.
-use plans::Last;
+use plans::EndingKind;
 use plans::count_in;
 use plans::first;
 use words::PlanWord;
@@ -9,7 +9,7 @@ ghost use Prim.Native.Nat.{_≤_};
 ghost use lib.ListN.{getD};
 ghost use Rattle.plans.specs.Endings.{mostRowVariables, rowWidth, lastOf, endingForm, endingAt};
 ghost use Rattle.plans.specs.Reading.{lastIn, bestIn};
-ghost use Rattle.plans.specs.declared.Last.{Last};
+ghost use Rattle.plans.specs.declared.EndingKind.{EndingKind};
 
 pub const MOST_ROW_VARIABLES: u32 = 16;
 
@@ -20,33 +20,33 @@ pub const DEFAULT_BEST: u32 = 10;
 
 pub const MOST_GROUP_VARIABLES: u32 = 4;
 
-pub fn last_of(word: u32) -> Last
+pub fn last_of(word: u32) -> EndingKind
     ensures { λ r. ⌜ r ≡ lastOf word ⌝ }
 {
     let w = PlanWord(word);
     let kind = w.kind();
     let low = w.low();
     match kind {
-        PlanWord::ROWS => Last::Rows,
+        PlanWord::ROWS => EndingKind::Rows,
         PlanWord::TOP => {
             if low <= MOST_BEST {
-                return Last::Top;
+                return EndingKind::Top;
             }
-            Last::Neither
+            EndingKind::Invalid
         }
         PlanWord::GROUP => {
             if low <= MOST_GROUP_VARIABLES {
-                return Last::Group;
+                return EndingKind::Group;
             }
-            Last::Neither
+            EndingKind::Invalid
         }
         PlanWord::REGISTERS => {
             if low == 0 {
-                return Last::Registers;
+                return EndingKind::Registers;
             }
-            Last::Neither
+            EndingKind::Invalid
         }
-        _ => Last::Neither,
+        _ => EndingKind::Invalid,
     }
 }
 
@@ -58,7 +58,7 @@ pub fn row_width(p: &[u32]) -> usize
 }
 
 // The kind of an ending.
-pub fn ending_kind(e: &[u32]) -> Last
+pub fn ending_kind(e: &[u32]) -> EndingKind
     requires { ⌜ endingForm (now e) ≡ true ⌝ }
     ensures { λ r. ⌜ r ≡ lastIn (endingAt (now (e .entry))) ⌝ }
 {
@@ -67,7 +67,7 @@ pub fn ending_kind(e: &[u32]) -> Last
 
 // How many rows a best-of ending keeps.
 pub fn best_count(e: &[u32]) -> usize
-    requires { ⌜ (endingForm (now e) ≡ true) × (lastIn (endingAt (now e)) ≡ Last.Top) ⌝ }
+    requires { ⌜ (endingForm (now e) ≡ true) × (lastIn (endingAt (now e)) ≡ EndingKind.Top) ⌝ }
     ensures { λ r. ⌜ r ≡ bestIn (endingAt (now (e .entry))) ⌝ }
 {
     let k = PlanWord(first(e)).low();

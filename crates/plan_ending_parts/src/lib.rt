@@ -1,14 +1,14 @@
 // Endings: what stands in one that has the form.
 use plan_ending_kinds::last_of;
 use plan_ending_kinds::row_width;
-use plans::Last;
+use plans::EndingKind;
 use plans::first;
 use words::PlanWord;
 ghost use mathlib.Core.Path.{_≡_};
 ghost use mathlib.Core.Bool.{true};
 ghost use Rattle.plans.specs.Endings.{rowVariables, afterRows, rowsForm, endingForm, endingAt};
 ghost use Rattle.plans.specs.Reading.{lastIn, variablesIn, keysIn, measuredIn};
-ghost use Rattle.plans.specs.declared.Last.{Last};
+ghost use Rattle.plans.specs.declared.EndingKind.{EndingKind};
 
 // The variables of the kind 8 part that p starts with.
 fn row_variables(p: &[u32]) -> &[u32]
@@ -34,14 +34,14 @@ pub fn variables(e: &[u32]) -> &[u32]
     ensures { λ r. ⌜ now r ≡ variablesIn (endingAt (now (e .entry))) ⌝ }
 {
     match last_of(first(e)) {
-        Last::Rows => row_variables(e),
-        Last::Top => row_variables(&e[1..]),
-        Last::Group => {
+        EndingKind::Rows => row_variables(e),
+        EndingKind::Top => row_variables(&e[1..]),
+        EndingKind::Group => {
             let end = 1 + words::wide(PlanWord(first(e)).low());
             &e[1..end]
         }
-        Last::Registers => &e[1..],
-        Last::Neither => e,
+        EndingKind::Registers => &e[1..],
+        EndingKind::Invalid => e,
     }
 }
 
@@ -51,17 +51,17 @@ pub fn keys(e: &[u32]) -> &[u32]
     ensures { λ r. ⌜ now r ≡ keysIn (endingAt (now (e .entry))) ⌝ }
 {
     match last_of(first(e)) {
-        Last::Top => after_rows(&e[1..]),
-        Last::Rows => &e[..0],
-        Last::Group => &e[..0],
-        Last::Registers => &e[..0],
-        Last::Neither => &e[..0],
+        EndingKind::Top => after_rows(&e[1..]),
+        EndingKind::Rows => &e[..0],
+        EndingKind::Group => &e[..0],
+        EndingKind::Registers => &e[..0],
+        EndingKind::Invalid => &e[..0],
     }
 }
 
 // The variable that a group ending measures.
 pub fn measured(e: &[u32]) -> u32
-    requires { ⌜ (endingForm (now e) ≡ true) × (lastIn (endingAt (now e)) ≡ Last.Group) ⌝ }
+    requires { ⌜ (endingForm (now e) ≡ true) × (lastIn (endingAt (now e)) ≡ EndingKind.Group) ⌝ }
     ensures { λ r. ⌜ r ≡ measuredIn (endingAt (now (e .entry))) ⌝ }
 {
     let at = 1 + words::wide(PlanWord(first(e)).low());
@@ -70,7 +70,7 @@ pub fn measured(e: &[u32]) -> u32
 
 // The variable that registers count.
 pub fn counted(e: &[u32]) -> u32
-    requires { ⌜ (endingForm (now e) ≡ true) × (lastIn (endingAt (now e)) ≡ Last.Registers) ⌝ }
+    requires { ⌜ (endingForm (now e) ≡ true) × (lastIn (endingAt (now e)) ≡ EndingKind.Registers) ⌝ }
     ensures { λ r. ⌜ r ≡ measuredIn (endingAt (now (e .entry))) ⌝ }
 {
     e[1]

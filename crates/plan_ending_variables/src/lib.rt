@@ -6,7 +6,7 @@ use plan_ending_parts::keys;
 use plan_ending_parts::measured;
 use plan_ending_parts::variables;
 use plan_parts::branch_words;
-use plans::Last;
+use plans::EndingKind;
 use plans::among;
 use plans::terms;
 use words::PlanWord;
@@ -96,10 +96,10 @@ pub fn ending_right(p: &[u32], count: u32, e: &[u32]) -> bool
         return false;
     }
     match ending_kind(e) {
-        Last::Rows => true,
-        Last::Top => keys_among(keys(e), list),
-        Last::Group => some_binds(p, count, measured(e)),
-        Last::Registers => true,
-        Last::Neither => false,
+        EndingKind::Rows => true,
+        EndingKind::Top => keys_among(keys(e), list),
+        EndingKind::Group => some_binds(p, count, measured(e)),
+        EndingKind::Registers => true,
+        EndingKind::Invalid => false,
     }
 }

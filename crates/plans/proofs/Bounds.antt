@@ -13,8 +13,8 @@ use Rattle.words.specs.Words.{kind, low, isVariable, headKind, branchKind, rows
 use Rattle.words.proofs.Booleans.{and-left, and-right, absurd-true}
 use Rattle.words.proofs.Testing.{none-some, some-injective}
 use Rattle.words.proofs.Elements.{all-take, all-at}
-use Rattle.plans.specs.declared.Last.{Last}
-use Rattle.plans.specs.declared.Last.the-variants.{Rows, Top, Group, Registers, Neither}
+use Rattle.plans.specs.declared.EndingKind.{EndingKind}
+use Rattle.plans.specs.declared.EndingKind.the-variants.{Rows, Top, Group, Registers, Invalid}
 use Rattle.plans.specs.declared.Years.{Years}
 use Rattle.plans.specs.Years.{yearsIn, headOf, bodyOf}
 use Rattle.plans.specs.Conditions.{Condition, Read, next, readCondition, nodes, mostDepth, mostNodes}
@@ -102,8 +102,8 @@ row-form ws e =
     record { least = omega arith; most = omega arith; variables = and-right (leb (1 + n) (length ws)) _ f }
 
 -- the k of a best-of ending, and the group variables' count, are at most their bounds
-last-bound : (a b c d e f g : Bool) (l : Last)
-    → cond a Rows (cond b (cond c Top Neither) (cond d (cond e Group Neither) (cond f (cond g Registers Neither) Neither))) ≡ l
+last-bound : (a b c d e f g : Bool) (l : EndingKind)
+    → cond a Rows (cond b (cond c Top Invalid) (cond d (cond e Group Invalid) (cond f (cond g Registers Invalid) Invalid))) ≡ l
     → (l ≡ Top → c ≡ true) × (l ≡ Group → e ≡ true)
 last-bound true b c d e f g l p = (λ q. cc, λ q. cc)
 last-bound false true true d e f g l p = (λ q. refl, λ q. cc)
@@ -121,7 +121,7 @@ best-count k h = go (eqb k 0) refl
     go true e = (omega arith, omega arith)
     go false e = (omega (arith, eqb-false k 0 e), h)
 
-form-as : (l : Last) (ws : List ℕ) → (l ≡ Top → low (getD ws 0 0) ≤ mostBest)
+form-as : (l : EndingKind) (ws : List ℕ) → (l ≡ Top → low (getD ws 0 0) ≤ mostBest)
     → (l ≡ Group → low (getD ws 0 0) ≤ mostGroupVariables) → formAs l ws ≡ true → EndingForm (endingAs l ws)
 unfolding formAs endingAs keysForm
 form-as Rows ws t g e = row-form ws (and-left (rowsForm ws) _ e)
@@ -155,7 +155,7 @@ form-as Registers ws t g e =
     let v = and-right (eqb (length ws) 2) _ e in
     let d = length-drop 1 ws in
     subst (λ w. isVariable w ≡ true) (getD-drop 1 ws 0 0) (all-at isVariable (drop 1 ws) 0 0 v (omega arith))
-form-as Neither ws t g e = absurd-true refl (sym e)
+form-as Invalid ws t g e = absurd-true refl (sym e)
 
 pub ending-form : (ws : List ℕ) → endingForm ws ≡ true → EndingForm (endingAt ws)
 unfolding lastOf

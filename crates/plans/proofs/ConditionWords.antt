@@ -9,7 +9,7 @@ use lib.Dec.{eqb, leb}
 use lib.ListN.{length, drop, length-append}
 use lib.Seq.{drop-append-seam}
 use borrow.Author.Tests.{leb-true, le-leb, eqb-true, eq-eqb}
-use Rattle.words.specs.Words.{kind, low, word, trueKind, andKind, orKind, notKind, comparisonKind, atLeast}
+use Rattle.words.specs.Words.{kind, low, word, trueKind, andKind, orKind, notKind, comparisonKind, lastOperator}
 use Rattle.words.proofs.Testing.{none-some, some-injective}
 use Rattle.plans.specs.declared.Node.{Node}
 use Rattle.plans.specs.declared.Node.the-variants.{Always, Pair, Negated, Compared, Wrong}
@@ -43,20 +43,20 @@ data FirstWord (w : ℕ) : Node → Type 0 where
   is-and : w ≡ word andKind 0 → FirstWord w Pair
   is-or : w ≡ word orKind 0 → FirstWord w Pair
   is-not : w ≡ word notKind 0 → FirstWord w Negated
-  is-comparison : low w ≤ atLeast → w ≡ word comparisonKind (low w) → FirstWord w Compared
+  is-comparison : low w ≤ lastOperator → w ≡ word comparisonKind (low w) → FirstWord w Compared
   is-none : FirstWord w Wrong
 
 first-word : (w : ℕ) → FirstWord w (nodeOf w)
 unfolding nodeOf
 first-word w =
-    go (eqb (kind w) comparisonKind) refl (leb (low w) atLeast) refl (eqb (low w) 0) refl (eqb (kind w) trueKind) refl (eqb (kind w) andKind) refl
+    go (eqb (kind w) comparisonKind) refl (leb (low w) lastOperator) refl (eqb (low w) 0) refl (eqb (kind w) trueKind) refl (eqb (kind w) andKind) refl
     (eqb (kind w) orKind) refl (eqb (kind w) notKind) refl
   where
-    go : (a : Bool) → eqb (kind w) comparisonKind ≡ a → (b : Bool) → leb (low w) atLeast ≡ b → (c : Bool) → eqb (low w) 0 ≡ c
+    go : (a : Bool) → eqb (kind w) comparisonKind ≡ a → (b : Bool) → leb (low w) lastOperator ≡ b → (c : Bool) → eqb (low w) 0 ≡ c
         → (x : Bool) → eqb (kind w) trueKind ≡ x → (y : Bool) → eqb (kind w) andKind ≡ y → (z : Bool) → eqb (kind w) orKind ≡ z
         → (v : Bool) → eqb (kind w) notKind ≡ v
         → FirstWord w (cond a (cond b Compared Wrong) (cond c (cond x Always (cond y Pair (cond z Pair (cond v Negated Wrong)))) Wrong))
-    go true p true q c r x s y t z u v m = is-comparison (leb-true (low w) atLeast q) (omega (arith, eqb-true (kind w) comparisonKind p))
+    go true p true q c r x s y t z u v m = is-comparison (leb-true (low w) lastOperator q) (omega (arith, eqb-true (kind w) comparisonKind p))
     go true p false q c r x s y t z u v m = is-none
     go false p b q false r x s y t z u v m = is-none
     go false p b q true r true s y t z u v m = is-true (omega (arith, eqb-true (low w) 0 r, eqb-true (kind w) trueKind s))
@@ -120,13 +120,13 @@ read-condition (suc depth) (w ∷ ws) x e =
     node-written depth (readCondition depth) (read-condition depth) w ws (nodeOf w) (first-word w) x e
 
 -- ---- what is written so is read
-comparison-node : (o : ℕ) → o ≤ atLeast → (nodeOf (word comparisonKind o) ≡ Compared) × (low (word comparisonKind o) ≡ o)
+comparison-node : (o : ℕ) → o ≤ lastOperator → (nodeOf (word comparisonKind o) ≡ Compared) × (low (word comparisonKind o) ≡ o)
 unfolding nodeOf
 comparison-node o h =
     let w = word comparisonKind o in
     let k : kind w ≡ comparisonKind = omega arith in
     let l : low w ≡ o = omega arith in
-    (rw (eq-eqb (kind w) comparisonKind k, le-leb (low w) atLeast (omega arith)), l)
+    (rw (eq-eqb (kind w) comparisonKind k, le-leb (low w) lastOperator (omega arith)), l)
 
 pair-back : (inner : List ℕ → Read Condition) (w : ℕ) (a b : Condition) (us vs rest : List ℕ) → inner (us ++ (vs ++ rest)) ≡ some (a, length us)
     → inner (vs ++ rest) ≡ some (b, length vs) → readNode Pair inner w ((us ++ vs) ++ rest) ≡ some (pairOf w a b, suc (length (us ++ vs)))

@@ -11,8 +11,8 @@ use Rattle.words.specs.Words.{low, isVariable}
 use Rattle.words.specs.Sequences.{all}
 use Rattle.words.proofs.Booleans.{absurd-true, and-left, and-right}
 use Rattle.words.proofs.Walking.{rest-of, first-none}
-use Rattle.plans.specs.declared.Last.{Last}
-use Rattle.plans.specs.declared.Last.the-variants.{Rows, Top, Group, Registers, Neither}
+use Rattle.plans.specs.declared.EndingKind.{EndingKind}
+use Rattle.plans.specs.declared.EndingKind.the-variants.{Rows, Top, Group, Registers, Invalid}
 use Rattle.plans.specs.Endings.{mostKeys, rowWidth, rowVariables, afterRows, rowsForm, isKey, keysForm, lastOf, formAs, endingForm}
 
 and-false : (a : Bool) → (a && false) ≡ false
@@ -60,18 +60,18 @@ unfolding keysForm
 keys-long ws h = rw (lt-leb (length ws) mostKeys h) (and-false (not (eqb (length ws) 0)))
 
 -- ---- an ending, by what its first word begins
-begins : (l : Last) → lastOf 0 ≡ l → l ≡ Neither
+begins : (l : EndingKind) → lastOf 0 ≡ l → l ≡ Invalid
 unfolding lastOf
 begins l e = sym e
 
-module _ (ws : List ℕ) (t : Last) (et : t ≡ lastOf (getD ws 0 0)) where
+module _ (ws : List ℕ) (t : EndingKind) (et : t ≡ lastOf (getD ws 0 0)) where
   -- no words begin nothing
-  pub some-word : (t ≡ Neither → ⊥) → length ws ≡ 0 → ⊥
+  pub some-word : (t ≡ Invalid → ⊥) → length ws ≡ 0 → ⊥
   some-word h e = h (begins t (sym (et ∙ ap lastOf (first-none ws e))))
 
-  pub form-neither : t ≡ Neither → endingForm ws ≡ false
+  pub form-invalid : t ≡ Invalid → endingForm ws ≡ false
   unfolding formAs
-  form-neither e = rw (← et, e)
+  form-invalid e = rw (← et, e)
 
   pub form-rows : t ≡ Rows → endingForm ws ≡ (rowsForm ws && eqb (length ws) (1 + rowWidth (getD ws 0 0)))
   unfolding formAs
@@ -107,5 +107,5 @@ module _ (ws : List ℕ) (t : Last) (et : t ≡ lastOf (getD ws 0 0)) where
     registers-room e =
         eqb-true (length ws) 2 (and-left (eqb (length ws) 2) (all isVariable (take (length ws - 1) (drop 1 ws))) (sym (form-registers e) ∙ h))
 
-    pub not-neither : t ≡ Neither → ⊥
-    not-neither e = absurd-true h (form-neither e)
+    pub not-invalid : t ≡ Invalid → ⊥
+    not-invalid e = absurd-true h (form-invalid e)

@@ -8,13 +8,13 @@ use lib.ListN.{length, getD, take, drop}
 use Rattle.words.specs.Words.{low}
 use Rattle.words.proofs.Booleans.{absurd-true}
 use Rattle.words.proofs.Walking.{rest-of}
-use Rattle.plans.specs.declared.Last.{Last}
-use Rattle.plans.specs.declared.Last.the-variants.{Rows, Top, Group, Registers, Neither}
+use Rattle.plans.specs.declared.EndingKind.{EndingKind}
+use Rattle.plans.specs.declared.EndingKind.the-variants.{Rows, Top, Group, Registers, Invalid}
 use Rattle.plans.specs.Endings.{Ending, rows, top, group, registers, bestCount, rowVariables, afterRows, lastOf, formAs}
 use Rattle.plans.specs.Endings.{endingForm, endingAs, endingAt}
 use Rattle.plans.specs.Reading.{lastIn, variablesIn, keysIn, bestIn, measuredIn}
 
-module _ (ws : List ℕ) (t : Last) (et : t ≡ lastOf (getD ws 0 0)) where
+module _ (ws : List ℕ) (t : EndingKind) (et : t ≡ lastOf (getD ws 0 0)) where
   pub ending-rows : t ≡ Rows → endingAt ws ≡ rows (rowVariables ws)
   unfolding endingAs
   ending-rows e = rw (← et, e)
@@ -43,19 +43,19 @@ counted-lent (x ∷ y ∷ []) h = refl
 counted-lent (x ∷ y ∷ z ∷ ws) h = absurd (omega arith)
 
 -- ---- the kind of an ending
-pub some-kind : (e : Ending) → lastIn e ≡ Neither → ⊥
+pub some-kind : (e : Ending) → lastIn e ≡ Invalid → ⊥
 some-kind (rows vs) h = let z : _≡_ {A = ℕ} 0 1 = cc in omega arith
 some-kind (top k vs keys) h = let z : _≡_ {A = ℕ} 0 1 = cc in omega arith
 some-kind (group vs m) h = let z : _≡_ {A = ℕ} 0 1 = cc in omega arith
 some-kind (registers v) h = let z : _≡_ {A = ℕ} 0 1 = cc in omega arith
 
-last-as : (t : Last) (ws : List ℕ) → formAs t ws ≡ true → lastIn (endingAs t ws) ≡ t
+last-as : (t : EndingKind) (ws : List ℕ) → formAs t ws ≡ true → lastIn (endingAs t ws) ≡ t
 unfolding formAs endingAs
 last-as Rows ws h = refl
 last-as Top ws h = refl
 last-as Group ws h = refl
 last-as Registers ws h = refl
-last-as Neither ws h = absurd-true h refl
+last-as Invalid ws h = absurd-true h refl
 
 pub last-in : (ws : List ℕ) → endingForm ws ≡ true → lastIn (endingAt ws) ≡ lastOf (getD ws 0 0)
 last-in ws h = last-as (lastOf (getD ws 0 0)) ws h

@@ -12,8 +12,8 @@ use Rattle.words.specs.Words.{kind, low, word, isVariable, rowsKind, topKind, g
 use Rattle.words.specs.Sequences.{all}
 use Rattle.words.proofs.Booleans.{absurd-true, and-left, and-right, and-both}
 use Rattle.words.proofs.Elements.{all-append}
-use Rattle.plans.specs.declared.Last.{Last}
-use Rattle.plans.specs.declared.Last.the-variants.{Rows, Top, Group, Registers, Neither}
+use Rattle.plans.specs.declared.EndingKind.{EndingKind}
+use Rattle.plans.specs.declared.EndingKind.the-variants.{Rows, Top, Group, Registers, Invalid}
 use Rattle.plans.specs.Endings.{Ending, rows, top, group, registers, mostRowVariables, mostBest, mostKeys, mostGroupVariables, bestCount}
 use Rattle.plans.specs.Endings.{rowWidth, rowVariables, afterRows, rowsForm, isKey, keysForm, lastOf, formAs, endingForm, endingAs, endingAt}
 use Rattle.plans.specs.Forms.{RowForm, TopForm, GroupForm, EndingForm}
@@ -22,12 +22,12 @@ use Rattle.plans.proofs.Bounds.{ending-form}
 use Rattle.plans.proofs.BranchWords.{count-word, word-count}
 
 -- ---- the first word of an ending
-data EndingBegins (w : ℕ) : Last → Type 0 where
+data EndingBegins (w : ℕ) : EndingKind → Type 0 where
   with-rows : EndingBegins w Rows
   with-top : low w ≤ mostBest → w ≡ word topKind (low w) → EndingBegins w Top
   with-group : w ≡ word groupKind (low w) → EndingBegins w Group
   with-registers : w ≡ word registersKind 0 → EndingBegins w Registers
-  with-none : EndingBegins w Neither
+  with-none : EndingBegins w Invalid
 
 ending-begins : (w : ℕ) → EndingBegins w (lastOf w)
 unfolding lastOf
@@ -38,7 +38,7 @@ ending-begins w =
     go : (a b : Bool) → eqb (kind w) topKind ≡ b → (c : Bool) → leb (low w) mostBest ≡ c → (d : Bool) → eqb (kind w) groupKind ≡ d
         → (e f : Bool)
         → eqb (kind w) registersKind ≡ f → (g : Bool) → eqb (low w) 0 ≡ g
-        → EndingBegins w (cond a Rows (cond b (cond c Top Neither) (cond d (cond e Group Neither) (cond f (cond g Registers Neither) Neither))))
+        → EndingBegins w (cond a Rows (cond b (cond c Top Invalid) (cond d (cond e Group Invalid) (cond f (cond g Registers Invalid) Invalid))))
     go true b p c q d r e f s g t = with-rows
     go false true p true q d r e f s g t = with-top (leb-true (low w) mostBest q) (omega (arith, eqb-true (kind w) topKind p))
     go false true p false q d r e f s g t = with-none
@@ -101,7 +101,7 @@ registers-words (w ∷ []) is l = absurd (omega arith)
 registers-words (w ∷ v ∷ []) is l = ap (λ x. x ∷ v ∷ []) is
 registers-words (w ∷ v ∷ u ∷ us) is l = absurd (omega arith)
 
-written-as : (ws : List ℕ) (l : Last) → EndingBegins (getD ws 0 0) l → formAs l ws ≡ true → EndingForm (endingAs l ws)
+written-as : (ws : List ℕ) (l : EndingKind) → EndingBegins (getD ws 0 0) l → formAs l ws ≡ true → EndingForm (endingAs l ws)
     → EndingWords (endingAs l ws) ws
 unfolding formAs endingAs
 written-as ws l with-rows e f = (f, rows-words ws e)
@@ -145,8 +145,8 @@ abbrev ReadAs : Ending → List ℕ → Type 0
 ReadAs e ws = (endingForm ws ≡ true) × (endingAt ws ≡ e)
 
 -- by what its first word begins
-read-as : (ws : List ℕ) (l : Last) → lastOf (getD ws 0 0) ≡ l → (e : Ending) → formAs l ws ≡ true → endingAs l ws ≡ e → ReadAs e ws
-read-as ws l p e f g = (ap (λ (x : Last). formAs x ws) p ∙ f, ap (λ (x : Last). endingAs x ws) p ∙ g)
+read-as : (ws : List ℕ) (l : EndingKind) → lastOf (getD ws 0 0) ≡ l → (e : Ending) → formAs l ws ≡ true → endingAs l ws ≡ e → ReadAs e ws
+read-as ws l p e f g = (ap (λ (x : EndingKind). formAs x ws) p ∙ f, ap (λ (x : EndingKind). endingAs x ws) p ∙ g)
 
 last-rows : (n : ℕ) → n ≤ mostRowVariables → lastOf (word rowsKind n) ≡ Rows
 unfolding lastOf

@@ -5,7 +5,7 @@ use mathlib.Core.Path.{_≡_, refl, ap, _∙_}
 use mathlib.Core.List.{List, _∷_}
 use borrow.Author.Tests.{ne-eqb}
 use Rattle.words.specs.Words.{low}
-use Rattle.plans.specs.declared.Last.the-variants.{Top}
+use Rattle.plans.specs.declared.EndingKind.the-variants.{Top}
 use Rattle.plans.specs.Endings.{top, bestCount, rowVariables, afterRows, endingAs}
 use Rattle.plans.specs.Former.{formerCount, written}
 

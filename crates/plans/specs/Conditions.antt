@@ -5,7 +5,7 @@ use mathlib.Core.Option.{Option, none, some}
 use mathlib.Core.List.{List, [], _∷_}
 use lib.Dec.{eqb, leb}
 use lib.ListN.{drop}
-use Rattle.words.specs.Words.{kind, low, isVariable, trueKind, andKind, orKind, notKind, comparisonKind, atLeast}
+use Rattle.words.specs.Words.{kind, low, isVariable, trueKind, andKind, orKind, notKind, comparisonKind, lastOperator}
 use Rattle.words.specs.Sequences.{member}
 use Rattle.plans.specs.declared.Node.{Node}
 use Rattle.plans.specs.declared.Node.the-variants.{Always, Pair, Negated, Compared, Wrong}
@@ -36,7 +36,7 @@ plainNode k =
 unfoldable pub nodeOf : ℕ → Node
 nodeOf w =
     cond (eqb (kind w) comparisonKind)
-    (cond (leb (low w) atLeast) Compared Wrong)
+    (cond (leb (low w) lastOperator) Compared Wrong)
     (cond (eqb (low w) 0) (plainNode (kind w)) Wrong)
 
 -- two conditions under a word of kind 4, or of kind 5

@@ -6,8 +6,8 @@ use lib.Dec.{eqb, leb}
 use lib.ListN.{length, take, drop, getD}
 use Rattle.words.specs.Words.{kind, low, isVariable, variable, rowsKind, topKind, risingKind, fallingKind, groupKind, registersKind}
 use Rattle.words.specs.Sequences.{all, member, distinct}
-use Rattle.plans.specs.declared.Last.{Last}
-use Rattle.plans.specs.declared.Last.the-variants.{Rows, Top, Group, Registers, Neither}
+use Rattle.plans.specs.declared.EndingKind.{EndingKind}
+use Rattle.plans.specs.declared.EndingKind.the-variants.{Rows, Top, Group, Registers, Invalid}
 
 -- rows: their variables. top: how many, the rows' variables, the keys. group: the group variables, the measured one. registers: the variable whose
 -- distinct values are counted, roughly
@@ -62,31 +62,31 @@ unfoldable pub keysForm : List ℕ → Bool
 keysForm ws = not (eqb (length ws) 0) && (leb (length ws) mostKeys && all isKey ws)
 
 -- what an ending's first word begins
-unfoldable pub lastOf : ℕ → Last
+unfoldable pub lastOf : ℕ → EndingKind
 lastOf w =
     cond (eqb (kind w) rowsKind) Rows
-    (cond (eqb (kind w) topKind) (cond (leb (low w) mostBest) Top Neither)
-    (cond (eqb (kind w) groupKind) (cond (leb (low w) mostGroupVariables) Group Neither)
-    (cond (eqb (kind w) registersKind) (cond (eqb (low w) 0) Registers Neither) Neither)))
+    (cond (eqb (kind w) topKind) (cond (leb (low w) mostBest) Top Invalid)
+    (cond (eqb (kind w) groupKind) (cond (leb (low w) mostGroupVariables) Group Invalid)
+    (cond (eqb (kind w) registersKind) (cond (eqb (low w) 0) Registers Invalid) Invalid)))
 
 -- the words are one ending and nothing more
-unfoldable pub formAs : Last → List ℕ → Bool
+unfoldable pub formAs : EndingKind → List ℕ → Bool
 formAs Rows ws = rowsForm ws && eqb (length ws) (1 + rowWidth (getD ws 0 0))
 formAs Top ws = rowsForm (drop 1 ws) && keysForm (afterRows (drop 1 ws))
 formAs Group ws = eqb (length ws) (2 + low (getD ws 0 0)) && all isVariable (drop 1 ws)
 formAs Registers ws = eqb (length ws) 2 && all isVariable (drop 1 ws)
-formAs Neither ws = false
+formAs Invalid ws = false
 
 abbrev pub endingForm : List ℕ → Bool
 endingForm ws = formAs (lastOf (getD ws 0 0)) ws
 
 -- the ending of words that have the form
-unfoldable pub endingAs : Last → List ℕ → Ending
+unfoldable pub endingAs : EndingKind → List ℕ → Ending
 endingAs Rows ws = rows (rowVariables ws)
 endingAs Top ws = top (bestCount (low (getD ws 0 0))) (rowVariables (drop 1 ws)) (afterRows (drop 1 ws))
 endingAs Group ws = group (take (low (getD ws 0 0)) (drop 1 ws)) (getD ws (1 + low (getD ws 0 0)) 0)
 endingAs Registers ws = registers (getD ws 1 0)
-endingAs Neither ws = rows []
+endingAs Invalid ws = rows []
 
 abbrev pub endingAt : List ℕ → Ending
 endingAt ws = endingAs (lastOf (getD ws 0 0)) ws

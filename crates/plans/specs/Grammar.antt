@@ -6,7 +6,7 @@ use mathlib.Core.Bool.{true}
 use mathlib.Core.List.{List, [], _∷_, _++_, map, flatten}
 use lib.ListN.{length, getD}
 use Rattle.words.specs.Words.{lowNumbers, low, word, isVariable, termValue, variable, mostYear, yearWord, headKind, branchKind, trueKind, andKind, orKind}
-use Rattle.words.specs.Words.{notKind, comparisonKind, atLeast, rowsKind, topKind, groupKind, registersKind}
+use Rattle.words.specs.Words.{notKind, comparisonKind, lastOperator, rowsKind, topKind, groupKind, registersKind}
 use Rattle.words.specs.Bindings.{variableCount}
 use Rattle.words.specs.Sequences.{member}
 use Rattle.plans.specs.declared.Years.{Years}
@@ -34,7 +34,7 @@ ConditionForm (suc depth) always = Unit {0}
 ConditionForm (suc depth) (both a b) = ConditionForm depth a × ConditionForm depth b
 ConditionForm (suc depth) (either a b) = ConditionForm depth a × ConditionForm depth b
 ConditionForm (suc depth) (negated a) = ConditionForm depth a
-ConditionForm (suc depth) (compared o l r) = o ≤ atLeast
+ConditionForm (suc depth) (compared o l r) = o ≤ lastOperator
 
 -- the terms of its comparisons
 unfoldable pub conditionTerms : Condition → List ℕ

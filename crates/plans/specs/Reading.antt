@@ -11,8 +11,8 @@ use Rattle.plans.specs.Conditions.{Condition, Read, comparisonWords, nod
 use Rattle.plans.specs.Branches.{Branch, noBranch, readBranch, readBranches}
 use Rattle.plans.specs.Endings.{Ending, rows, top, group, registers}
 use Rattle.plans.specs.Years.{yearWords, bodyOf}
-use Rattle.plans.specs.declared.Last.{Last}
-use Rattle.plans.specs.declared.Last.the-variants.{Rows, Top, Group, Registers}
+use Rattle.plans.specs.declared.EndingKind.{EndingKind}
+use Rattle.plans.specs.declared.EndingKind.the-variants.{Rows, Top, Group, Registers}
 use Rattle.plans.specs.declared.Tree.{Tree}
 use Rattle.plans.specs.declared.Tree.the-variants.{Reads, Bad}
 
@@ -79,7 +79,7 @@ abbrev pub branchStart : ℕ → List ℕ → ℕ
 branchStart i ws = yearWords ws + (1 + wordsRead (readBranches i (bodyOf ws)))
 
 -- ---- the pieces of an ending
-abbrev pub lastIn : Ending → Last
+abbrev pub lastIn : Ending → EndingKind
 lastIn (rows vs) = Rows
 lastIn (top k vs keys) = Top
 lastIn (group vs m) = Group

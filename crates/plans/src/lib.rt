@@ -56,12 +56,12 @@ pub enum Years {
 }
 
 // What the first word of an ending begins.
-pub enum Last {
+pub enum EndingKind {
     Rows,
     Top,
     Group,
     Registers,
-    Neither,
+    Invalid,
 }
 
 // The node that a word begins.
@@ -72,7 +72,7 @@ pub fn node_of(word: u32) -> Node
     let kind = w.kind();
     let low = w.low();
     if kind == PlanWord::COMPARISON {
-        if low <= PlanWord::AT_LEAST {
+        if low <= PlanWord::LAST_OPERATOR {
             return Node::Compared;
         }
         return Node::Wrong;

@@ -9,7 +9,7 @@ use lib.ListN.{length, drop}
 use Rattle.words.specs.Bindings.{Bindings}
 use Rattle.words.proofs.Booleans.{absurd-true}
 use Rattle.tables.specs.Tables.{Tables}
-use Rattle.plans.specs.declared.Last.the-variants.{Rows}
+use Rattle.plans.specs.declared.EndingKind.the-variants.{Rows}
 use Rattle.plans.specs.Endings.{Ending, rows, top, group, registers}
 use Rattle.plans.specs.Plans.{planOf}
 use Rattle.plans.specs.Reading.{lastIn}

@@ -1,6 +1,6 @@
 // What is printed of a file's query: each turn with its rows, and at its end the merged list, or the number that stopped it. All of it is the
 // uncut run's.
-use plans::Last;
+use plans::EndingKind;
 use print_writing::Listing;
 use print_writing::print_list;
 use print_writing::print_refused;
@@ -11,7 +11,7 @@ ghost use mathlib.Core.Path.{_≡_};
 ghost use mathlib.Core.Bool.{true};
 ghost use Prim.Native.Nat.{_%_};
 ghost use lib.ListN.{length};
-ghost use Rattle.plans.specs.declared.Last.the-variants.{Rows};
+ghost use Rattle.plans.specs.declared.EndingKind.the-variants.{Rows};
 ghost use Rattle.queries.specs.Stepping.{isServed};
 ghost use Rattle.print_writing.specs.Listings.{ListsOf, HasWidth};
 ghost use Rattle.print_writing.specs.FileQueries.{fileSurvey, filePlan};
@@ -24,11 +24,11 @@ fn print_delivered(lists: Listing, list: &[u32])
 {
     let kind = lists.kind;
     match kind {
-        Last::Rows => print_list(lists, list),
-        Last::Top => {}
-        Last::Group => {}
-        Last::Registers => {}
-        Last::Neither => {}
+        EndingKind::Rows => print_list(lists, list),
+        EndingKind::Top => {}
+        EndingKind::Group => {}
+        EndingKind::Registers => {}
+        EndingKind::Invalid => {}
     }
 }
 

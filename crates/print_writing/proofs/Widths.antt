@@ -8,8 +8,8 @@ use mathlib.Core.List.{List}
 use lib.Dec.{leb}
 use lib.ListN.{length}
 use borrow.Author.Tests.{leb-true, leb-false}
-use Rattle.plans.specs.declared.Last.{Last}
-use Rattle.plans.specs.declared.Last.the-variants.{Rows, Top, Group, Registers, Neither}
+use Rattle.plans.specs.declared.EndingKind.{EndingKind}
+use Rattle.plans.specs.declared.EndingKind.the-variants.{Rows, Top, Group, Registers, Invalid}
 use Rattle.plans.specs.Endings.{Ending, rows, top, group, registers, mostRowVariables}
 use Rattle.plans.specs.Plans.{readPlan, hasForm, planOf}
 use Rattle.plans.specs.Reading.{lastIn, variablesIn}
@@ -45,12 +45,12 @@ lists-width plan lists h =
     subst⁻¹ (λ (l : Listing). HasWidth (l .kind) (l .width)) (h .1) (has-width (planOf plan .ending) (ending-form plan (h .0)))
 
 -- a row or record has some words, at most 16
-pub some-words : (k : Last) (n : ℕ) → HasWidth k n → (1 ≤ n) × (n ≤ mostRowVariables)
+pub some-words : (k : EndingKind) (n : ℕ) → HasWidth k n → (1 ≤ n) × (n ≤ mostRowVariables)
 some-words Rows n h = h
 some-words Top n h = h
 some-words Group n h = (omega (arith, h .0), omega (arith, h .1))
 some-words Registers n h = (omega (arith, h), omega (arith, h))
-some-words Neither n h = absurd h
+some-words Invalid n h = absurd h
 
 -- what is left of whole rows or records has one more
 pub one-more : (w n : ℕ) → n % w ≡ 0 → 0 < n → w ≤ n

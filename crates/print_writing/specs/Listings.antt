@@ -4,8 +4,8 @@ use Prim.Native.Nat.{ℕ, _+_, _≤_}
 use mathlib.Core.Path.{_≡_}
 use mathlib.Core.Bool.{true}
 use mathlib.Core.List.{List}
-use Rattle.plans.specs.declared.Last.{Last}
-use Rattle.plans.specs.declared.Last.the-variants.{Rows, Top, Group, Registers, Neither}
+use Rattle.plans.specs.declared.EndingKind.{EndingKind}
+use Rattle.plans.specs.declared.EndingKind.the-variants.{Rows, Top, Group, Registers, Invalid}
 use Rattle.plans.specs.Endings.{Ending, mostRowVariables, mostGroupVariables}
 use Rattle.plans.specs.Plans.{readPlan, hasForm, planOf}
 use Rattle.plans.specs.Reading.{lastIn}
@@ -23,12 +23,12 @@ abbrev pub ListsOf : List ℕ → Listing → Type 0
 ListsOf plan lists = (hasForm (readPlan plan) ≡ true) × (lists ≡ listingOf (planOf plan .ending))
 
 -- the words of a row or record with so many variables, or of all registers
-abbrev pub widthOf : Last → ℕ → ℕ
+abbrev pub widthOf : EndingKind → ℕ → ℕ
 widthOf Rows n = n
 widthOf Top n = n
 widthOf Group n = n + totalsWidth
 widthOf Registers n = registerCount
-widthOf Neither n = 0
+widthOf Invalid n = 0
 
 -- ---- how wide a row or record is
 -- a row of 1 to 16 terms
@@ -40,9 +40,9 @@ abbrev pub IsRecord : ℕ → Type 0
 IsRecord n = (totalsWidth ≤ n) × (n ≤ mostGroupVariables + totalsWidth)
 
 -- by what a list holds; no list holds neither
-abbrev pub HasWidth : Last → ℕ → Type 0
+abbrev pub HasWidth : EndingKind → ℕ → Type 0
 HasWidth Rows n = IsRow n
 HasWidth Top n = IsRow n
 HasWidth Group n = IsRecord n
 HasWidth Registers n = n ≡ registerCount
-HasWidth Neither n = ⊥
+HasWidth Invalid n = ⊥

@@ -7,10 +7,10 @@ pub use lines::print_list;
 pub use lines::print_refused;
 pub use lines::print_turn;
 pub use plan_lists::lists_of;
-use plans::Last;
+use plans::EndingKind;
 
 // What the lists of a plan hold, and the words of each row or record, or of all registers.
 pub struct Listing {
-    pub kind: Last,
+    pub kind: EndingKind,
     pub width: usize,
 }

@@ -5,7 +5,7 @@ use crate::writing::write_list;
 use crate::writing::write_refused;
 use crate::writing::write_row;
 use crate::writing::write_turn;
-use plans::Last;
+use plans::EndingKind;
 use turns::Turned;
 ghost use mathlib.Core.Path.{_≡_};
 ghost use Prim.Native.Nat.{_≤_, _%_};
@@ -67,16 +67,16 @@ fn print_registers(list: &[u32])
     write_list(list, &line, n);
 }
 
-// A row or a record, or all registers. No list holds neither.
-fn print_record(kind: Last, words: &[u32])
+// A row or a record, or all registers. An invalid ending has none.
+fn print_record(kind: EndingKind, words: &[u32])
     requires { ⌜ HasWidth kind (length (now words)) ⌝ }
 {
     match kind {
-        Last::Rows => print_row(words),
-        Last::Top => print_row(words),
-        Last::Group => print_group(words),
-        Last::Registers => print_registers(words),
-        Last::Neither => {}
+        EndingKind::Rows => print_row(words),
+        EndingKind::Top => print_row(words),
+        EndingKind::Group => print_group(words),
+        EndingKind::Registers => print_registers(words),
+        EndingKind::Invalid => {}
     }
 }
 

@@ -2,7 +2,7 @@
 use crate::Listing;
 use crate::lines::REGISTERS;
 use crate::lines::TOTALS_WIDTH;
-use plans::Last;
+use plans::EndingKind;
 ghost use mathlib.Core.Path.{_≡_};
 ghost use mathlib.Core.Bool.{true};
 ghost use Prim.Native.Nat.{_≤_};
@@ -11,16 +11,16 @@ ghost use Rattle.plans.specs.Plans.{readPlan, hasForm, planOf};
 ghost use Rattle.print_writing.specs.Listings.{listingOf, widthOf};
 
 // The words of a row or record whose plan names so many variables, or of all registers.
-fn record_width(kind: Last, variables: usize) -> usize
+fn record_width(kind: EndingKind, variables: usize) -> usize
     requires { ⌜ variables ≤ mostRowVariables ⌝ }
     ensures { λ r. ⌜ r ≡ widthOf kind variables ⌝ }
 {
     match kind {
-        Last::Rows => variables,
-        Last::Top => variables,
-        Last::Group => variables + TOTALS_WIDTH,
-        Last::Registers => REGISTERS,
-        Last::Neither => 0,
+        EndingKind::Rows => variables,
+        EndingKind::Top => variables,
+        EndingKind::Group => variables + TOTALS_WIDTH,
+        EndingKind::Registers => REGISTERS,
+        EndingKind::Invalid => 0,
     }
 }
 

@@ -10,8 +10,8 @@ use lib.Seq.{paste, take-length, length-take-le}
 use borrow.Author.Tests.{le-leb, lt-leb}
 use Rattle.words.specs.declared.Written.the-variants as written
 use Rattle.words.proofs.Booleans.{absurd-true}
-use Rattle.plans.specs.declared.Last.{Last}
-use Rattle.plans.specs.declared.Last.the-variants as last
+use Rattle.plans.specs.declared.EndingKind.{EndingKind}
+use Rattle.plans.specs.declared.EndingKind.the-variants as last
 use Rattle.plans.specs.Endings.{Ending, rows, top, group, registers, endingAt}
 use Rattle.plans.specs.Plans.{readPlan, hasForm}
 use Rattle.plans.specs.Reading.{lastIn}
@@ -30,12 +30,12 @@ use Rattle.lists.specs.Gathering.{isRows}
 use Rattle.queries.specs.Stepping.{isServed, joinOf, leftAsIs, listTaken, Stepped, steppedAs, outputList, takeTurnOf}
 
 -- ---- the kind of an ending
-abbrev pub rowsKind : Last → Bool
+abbrev pub rowsKind : EndingKind → Bool
 rowsKind last.Rows = true
 rowsKind last.Top = false
 rowsKind last.Group = false
 rowsKind last.Registers = false
-rowsKind last.Neither = false
+rowsKind last.Invalid = false
 
 pub by-kind : (e : Ending) → rowsKind (lastIn e) ≡ isRows e
 by-kind (rows vs) = refl
@@ -44,7 +44,7 @@ by-kind (group vs m) = refl
 by-kind (registers v) = refl
 
 -- ending words of some kind, which end a plan
-pub rows-by-kind : (ws : List ℕ) (e : Ending) → endingAt ws ≡ e → (k k₁ : Last) → k ≡ lastIn (endingAt ws) → k ≡ k₁
+pub rows-by-kind : (ws : List ℕ) (e : Ending) → endingAt ws ≡ e → (k k₁ : EndingKind) → k ≡ lastIn (endingAt ws) → k ≡ k₁
     → rowsKind k₁ ≡ isRows e
 rows-by-kind ws e f k k₁ g h = ap rowsKind (sym h ∙ g) ∙ by-kind (endingAt ws) ∙ ap isRows f
 

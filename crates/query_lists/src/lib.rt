@@ -1,5 +1,5 @@
 // The list of a served turn, taken: merged into the kept one, joined behind it, or left.
-use plans::Last;
+use plans::EndingKind;
 use queries::Keeping;
 use words::Written;
 ghost use mathlib.Core.Path.{_≡_};
@@ -17,11 +17,11 @@ fn is_rows(plan: &[u32]) -> bool
     ensures { λ r. ⌜ r ≡ isRows (planOf (now (plan .entry)) .ending) ⌝ }
 {
     match plan_ending_kinds::ending_kind(plan_parts::ending_part(plan)) {
-        Last::Rows => true,
-        Last::Top => false,
-        Last::Group => false,
-        Last::Registers => false,
-        Last::Neither => false,
+        EndingKind::Rows => true,
+        EndingKind::Top => false,
+        EndingKind::Group => false,
+        EndingKind::Registers => false,
+        EndingKind::Invalid => false,
     }
 }
 

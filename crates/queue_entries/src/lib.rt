@@ -59,7 +59,7 @@ pub fn steps_right(allowance: u64, waiting: bool) -> bool
 }
 
 // One entry is right: its steps are, and neither search found its owner again.
-pub fn stands(
+pub fn entry_valid(
     allowance: u64,
     waiting: bool,
     again: usize,
@@ -88,7 +88,7 @@ pub fn list_right(list: &[Entry], count: usize, others: &[Entry], few: usize, wa
         let e = list[i];
         let again = find_owner(list, i + 1, count, e.owner);
         let elsewhere = find_owner(others, 0, few, e.owner);
-        if !stands(e.allowance, waiting, again, count, elsewhere, few) {
+        if !entry_valid(e.allowance, waiting, again, count, elsewhere, few) {
             return false;
         }
         i += 1;
@@ -142,7 +142,7 @@ pub fn look(line: &[Entry], given: usize, aside: &[Entry], kept: usize, owner: u
 }
 
 // The entries behind a place move up by one, up to the one at the last place; and there an entry is written, if it is to be.
-pub fn settle(list: &mut [Entry], gap: usize, last: usize, adds: bool, e: Entry)
+pub fn remove_then_append(list: &mut [Entry], gap: usize, last: usize, adds: bool, e: Entry)
     requires { ⌜ (gap < last → last < length (now list)) × (adds ≡ true → last < length (now list)) ⌝ }
     ensures { λ _. ⌜ now (list .exit) ≡ settled (now (list .entry)) gap last adds e ⌝ }
 {

@@ -37,7 +37,7 @@ use Rattle.queue_changes.specs.declared.Change.{Change}
 use Rattle.queue_changes.specs.Changes.{ChangeFits}
 use Rattle.queue_entries.proofs.look as looks
 use Rattle.queue_entries.proofs.entry_at as reads
-use Rattle.queue_entries.proofs.settle as puts
+use Rattle.queue_entries.proofs.remove_then_append as puts
 
 -- a list under another name
 abbrev pub at-name : ℕ → ℕ → List Entry → GName → RefT (List Entry)
@@ -57,8 +57,8 @@ module _ {M : Type 1} (𝓤 : URA M) (H : Heap 𝓤) (A : Atoms 𝓤) (mem : Mem
   abbrev pub Read : Contract 𝓤
   Read = tripleOf 𝓤 H A reads.signature (reads.spec 𝓤 H A mem run)
 
-  abbrev pub Settle : Contract 𝓤
-  Settle = tripleOf 𝓤 H A puts.signature (puts.spec 𝓤 H A mem run)
+  abbrev pub Append : Contract 𝓤
+  Append = tripleOf 𝓤 H A puts.signature (puts.spec 𝓤 H A mem run)
 
   abbrev pub to-look : Lft → Lft → RefT (List Entry) → RefT (List Entry) → ℕ → ℕ → ℕ → Look .Ghost
   to-look κ κ′ x x′ given kept owner = (
@@ -78,8 +78,8 @@ module _ {M : Type 1} (𝓤 : URA M) (H : Heap 𝓤) (A : Atoms 𝓤) (mem : Mem
   abbrev pub to-read : Lft → RefT (List Entry) → ℕ → Read .Ghost
   to-read κ x i = (((κ, tt), (fullShare, tt), tt, (x, (i, tt)), (sliceVal (x .ptr) (length (x .now)) ∷ [], (vint w64 i ∷ [], tt))), tt)
 
-  abbrev pub to-settle : Lft → Share → RefT (List Entry) → Change → Entry → Settle .Ghost
-  to-settle κ q x h e = (
+  abbrev pub to-append : Lft → Share → RefT (List Entry) → Change → Entry → Append .Ghost
+  to-append κ q x h e = (
     (
       (κ, tt),
       (q, tt),
@@ -127,12 +127,12 @@ module _ {M : Type 1} (𝓤 : URA M) (H : Heap 𝓤) (A : Atoms 𝓤) (mem : Mem
         move ! (2 ∷ 0 ∷ []) $ fjoin ! $
         move ! (1 ∷ 0 ∷ []) $ join ! $ frame ! $ done !
 
-    pub goes-settle : (κ : Lft) (q : Share) (x : RefT (List Entry)) (h : Change) (e : Entry) → h .gap < 2 ^ 64 → h .last < 2 ^ 64
+    pub goes-append : (κ : Lft) (q : Share) (x : RefT (List Entry)) (h : Change) (e : Entry) → h .gap < 2 ^ 64 → h .last < 2 ^ 64
         → Is T.the-row e (entry-vals e)
         → ChangeFits h (x .now)
         → ent 𝓤 (sep 𝓤 (A .lft κ q) (sem 𝓤 H A (MutSlice (named 0) κ T.the-row .own x (sliceVal (x .ptr) (length (x .now)) ∷ []))))
-        (Settle .pre (to-settle κ q x h e))
-    goes-settle κ q x h e gg gl ge within =
+        (Append .pre (to-append κ q x h e))
+    goes-append κ q x h e gg gl ge within =
         qed W (‵ (flft κ q) ∷ ‵ (MutSlice (named 0) κ T.the-row .own x (sliceVal (x .ptr) (length (x .now)) ∷ [])) ∷ []) ∵ says ! within $
         nothing ! $ move ! (1 ∷ 0 ∷ []) $ join ! $ frame ! $
         nothing ! $ owned ! T.the-row (Is T.the-row) ((LL.makes T.the-type T′.the-plain) 𝓤 H A) e _ ge $ fjoin ! $

@@ -1,7 +1,7 @@
 // Joining and topping up: each looks over both lists, decides on numbers and an entry by value, and settles both lists.
 use queue_entries::entry_at;
 use queue_entries::look;
-use queue_entries::settle;
+use queue_entries::remove_then_append;
 use queues::Entry;
 use queues::Queued;
 ghost use mathlib.Core.Path.{_≡_};
@@ -44,8 +44,8 @@ pub fn join(
         plan,
         state,
     );
-    settle(line, d.line.gap, d.line.last, d.line.adds, d.entry);
-    settle(aside, d.aside.gap, d.aside.last, d.aside.adds, d.entry);
+    remove_then_append(line, d.line.gap, d.line.last, d.line.adds, d.entry);
+    remove_then_append(aside, d.aside.gap, d.aside.last, d.aside.adds, d.entry);
     d.answer
 }
 
@@ -64,7 +64,7 @@ pub fn top_up(
     let seen = look(line, given, aside, kept, owner);
     let e = entry_at(aside, seen.found);
     let d = queue_tests::top_up(seen, given, kept, owner, amount, e);
-    settle(line, d.line.gap, d.line.last, d.line.adds, d.entry);
-    settle(aside, d.aside.gap, d.aside.last, d.aside.adds, d.entry);
+    remove_then_append(line, d.line.gap, d.line.last, d.line.adds, d.entry);
+    remove_then_append(aside, d.aside.gap, d.aside.last, d.aside.adds, d.entry);
     d.answer
 }

@@ -8,9 +8,9 @@ use Rattle.queues.proofs.Service as Y
 use Rattle.queues.proofs.Service.Laws as Y′
 use Rattle.queue_changes.proofs.Change as H₁
 use Rattle.queue_changes.proofs.Change.Laws as H₁′
-use Rattle.queue_goings.specs.declared.ServeChanges.{ServeChanges}
-use Rattle.queue_goings.proofs.ServeChanges as D
-use Rattle.queue_goings.proofs.ServeChanges.Laws as D′
+use Rattle.queue_outcomes.specs.declared.ServeChanges.{ServeChanges}
+use Rattle.queue_outcomes.proofs.ServeChanges as D
+use Rattle.queue_outcomes.proofs.ServeChanges.Laws as D′
 use Rattle.queue_joins.proofs.Lending.{entry-vals}
 
 abbrev pub served-vals : ServeChanges → List Val

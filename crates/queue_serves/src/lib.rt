@@ -1,7 +1,7 @@
 // Serving: looks over both lists, makes a turn of the front entry by value, and settles both lists.
 use queue_entries::entry_at;
 use queue_entries::look;
-use queue_entries::settle;
+use queue_entries::remove_then_append;
 use queues::Entry;
 use queues::Service;
 ghost use mathlib.Core.Path.{_≡_};
@@ -43,7 +43,7 @@ pub fn serve(
         threshold,
         output,
     );
-    settle(line, d.line.gap, d.line.last, d.line.adds, d.entry);
-    settle(aside, d.aside.gap, d.aside.last, d.aside.adds, d.entry);
+    remove_then_append(line, d.line.gap, d.line.last, d.line.adds, d.entry);
+    remove_then_append(aside, d.aside.gap, d.aside.last, d.aside.adds, d.entry);
     d.answer
 }

@@ -1,5 +1,5 @@
 pub mod Numbering
 pub mod Plans
 pub mod Bounds
-pub mod Goings
+pub mod Outcomes
 pub mod Serves

@@ -9,7 +9,7 @@ use lib.ListN.{length, take}
 use borrow.Author.Tests.{leb-true}
 use Rattle.queues.specs.declared.Entry.{Entry}
 use Rattle.queues.specs.Lists.{entryPlanRoom, entryPlan}
-use Rattle.queue_goings.specs.Services.{plannedIn}
+use Rattle.queue_outcomes.specs.Services.{plannedIn}
 
 module _ (e : Entry) (whole : length (e .plan) ≡ entryPlanRoom) where
   pub planned-within : (r : ℕ) → r ≡ plannedIn e → r ≤ length (e .plan)

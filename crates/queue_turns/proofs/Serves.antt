@@ -28,9 +28,9 @@ use Rattle.queue_entries.specs.Seeing.{SeenOf}
 use Rattle.queue_changes.specs.Changes.{roomBy, firstNumber}
 use Rattle.queue_changes.proofs.Following.{numbers-follow}
 use Rattle.queue_changes.proofs.Seeing.{seen-entries, seen-room, Roomy, roomy}
-use Rattle.queue_goings.specs.declared.Ended.{Ended}
-use Rattle.queue_goings.specs.Services.{EndedBy, servingRefused, goesBy, frontBy, Settles}
-use Rattle.queue_turns.proofs.Goings.{goes-so}
+use Rattle.queue_outcomes.specs.declared.Ended.{Ended}
+use Rattle.queue_outcomes.specs.Services.{EndedBy, servingRefused, goesBy, frontBy, Settles}
+use Rattle.queue_turns.proofs.Outcomes.{goes-so}
 
 -- ---- the front entry
 front-none : (n : ℕ) (es : List Entry) → min n (length es) ≡ 0 → take n es ≡ []

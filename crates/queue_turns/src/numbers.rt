@@ -13,7 +13,7 @@ ghost use Rattle.turns.specs.Surveys.{surveyOf};
 ghost use Rattle.turns.specs.Turns.{turnTests};
 ghost use Rattle.queues.specs.Serving.{entryTurn, frontTests, quantumTests, numberTests, queueTestsBy};
 ghost use Rattle.queues.specs.Lists.{entryPlanRoom, entryStateRoom};
-ghost use Rattle.queue_goings.specs.Services.{plannedIn};
+ghost use Rattle.queue_outcomes.specs.Services.{plannedIn};
 
 // The tests that serving makes besides those of a turn, by their numbers.
 pub const ENTRIES: u32 = 17;

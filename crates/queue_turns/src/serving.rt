@@ -7,9 +7,9 @@ use crate::turning::turn_entry;
 use queue_changes::first_of;
 use queue_changes::room_right;
 use queue_entries::Seen;
-use queue_goings::ServeChanges;
-use queue_goings::goes;
-use queue_goings::refused;
+use queue_outcomes::ServeChanges;
+use queue_outcomes::goes;
+use queue_outcomes::refused;
 use queues::Entry;
 ghost use mathlib.Core.Path.{_≡_};
 ghost use mathlib.Core.Bool.{_&&_};
@@ -24,7 +24,7 @@ ghost use Rattle.queues.specs.Serving.{serveOf};
 ghost use Rattle.queue_entries.specs.Entries.{nobody};
 ghost use Rattle.queue_entries.specs.Seeing.{SeenOf};
 ghost use Rattle.queue_changes.specs.Changes.{firstNumber};
-ghost use Rattle.queue_goings.specs.Services.{frontBy, Settles};
+ghost use Rattle.queue_outcomes.specs.Services.{frontBy, Settles};
 
 // Test 17 of both lists.
 fn lists_right(seen: Seen) -> bool

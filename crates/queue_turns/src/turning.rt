@@ -1,13 +1,13 @@
 // One turn of an entry: what it answers, and the entry after it.
 use crate::numbers::planned;
-use queue_goings::Ended;
-use queue_goings::entry_with;
+use queue_outcomes::Ended;
+use queue_outcomes::entry_with;
 use queues::Entry;
 ghost use Prim.Native.Nat.{_≤_};
 ghost use Rattle.turns.specs.Surveys.{surveyOf};
 ghost use Rattle.turns.specs.Turns.{turnOf};
 ghost use Rattle.queues.specs.Serving.{entryTurn};
-ghost use Rattle.queue_goings.specs.Services.{EndedBy};
+ghost use Rattle.queue_outcomes.specs.Services.{EndedBy};
 
 // A turn of an entry, for at most so many steps.
 pub fn turn_entry(

@@ -12,7 +12,7 @@ use borrow.Author.Tests.{leb-true, le-leb, eq-eqb, eqb-true}
 use Rattle.words.specs.Sequences.{all, numbers}
 use Rattle.words.proofs.Booleans.{and-left, and-right, and-both}
 use Rattle.words.proofs.Numbers.{numbers-length}
-use Rattle.hashes.specs.Hashes.{hashOf, pickedBy, rankIn}
+use Rattle.register_hashes.specs.Hashes.{hashOf, pickedBy, rankIn}
 use Rattle.registers.specs.Registers.{registerCount, mostRank, givenTo, registerOf, registersOf, registersIn, greaterOf, isRank, areRegisters}
 
 -- ---- of some values

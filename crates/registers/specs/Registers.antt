@@ -5,7 +5,7 @@ use mathlib.Core.List.{List, [], _∷_, map}
 use lib.Dec.{eqb, leb}
 use lib.ListN.{length, replicate}
 use Rattle.words.specs.Sequences.{all, numbers}
-use Rattle.hashes.specs.Hashes.{hashOf, pickedBy, rankIn}
+use Rattle.register_hashes.specs.Hashes.{hashOf, pickedBy, rankIn}
 
 abbrev pub registerCount : ℕ
 registerCount = 16

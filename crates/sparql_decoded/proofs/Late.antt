@@ -11,8 +11,8 @@ use Rattle.cuts.specs.Histories.{Phone, servedIn, doneIn}
 use Rattle.cuts.specs.Premises.{listsIn}
 use Rattle.cuts.specs.Uncut.{runFits}
 use Rattle.cuts.specs.Accepting.{Accepted}
-use Rattle.late.specs.Ways.{Way, given}
-use Rattle.late_turns.specs.LateTurns.{GivesUncut, LateAsUncut}
+use Rattle.merge_orders.specs.Ways.{Way, given}
+use Rattle.merge_orders.specs.LateTurns.{GivesUncut, LateAsUncut}
 use Rattle.sparql_finished.specs.Finished.{SparqlAnswer, SparqlAnswerOver}
 use Rattle.sparql_finished.proofs.Finished.{run-answers}
 use Rattle.sparql_strings.specs.Decoding.{readDecoded}

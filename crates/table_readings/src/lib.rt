@@ -1,4 +1,11 @@
 // What an order of lent tables has at a place: whether it names a row, and what the walk compares of that row.
+use table_walk_keys::KEYS;
+use table_walk_keys::Reading;
+use table_walk_keys::first_of;
+use table_walk_keys::long;
+use table_walk_keys::own_keys;
+use table_walk_keys::pair_at;
+use table_walk_keys::second_of;
 use tables::COLUMNS;
 use tables::OBJECT;
 use tables::Order;
@@ -8,20 +15,13 @@ use tables::RowNumber;
 use tables::YEAR;
 use tables::field;
 use tables::number_at;
-use walks::KEYS;
-use walks::Reading;
-use walks::first_of;
-use walks::long;
-use walks::own_keys;
-use walks::pair_at;
-use walks::second_of;
 ghost use mathlib.Core.Path.{_≡_};
 ghost use Prim.Native.Nat.{_+_, _*_, _≤_, _<_};
 ghost use lib.ListN.{length};
 ghost use Rattle.tables.specs.declared.Order.the-variants.{Pos, Osp};
 ghost use Rattle.tables.specs.Tables.{tablesOf, columnCount, rowCount};
 ghost use Rattle.tables.specs.Right.{Sized};
-ghost use Rattle.walks.specs.Walk.{yearRead, keysOf, readingAt};
+ghost use Rattle.table_walk_keys.specs.Walk.{yearRead, keysOf, readingAt};
 
 // A row's year, where it is compared: where all are alike it is not read.
 fn year_read(rows: &[u32], row: RowNumber, alike: bool) -> u32

@@ -19,7 +19,7 @@ use Rattle.tables.specs.Tables.{fieldRight, rowRight, yearRight, kindsRight, ye
 use Rattle.tables.specs.Tables.{yearColumn, subjectColumn, predicateColumn, objectColumn}
 use Rattle.tables.proofs.Columns.{fields-length}
 use Rattle.tables.proofs.Sorted as sorted
-use Rattle.walks.specs.Walk.{OneYear}
+use Rattle.table_walk_keys.specs.Walk.{OneYear}
 use Rattle.table_tests.specs.Ends.{rowOfLast, endsFine}
 use Rattle.table_tests.proofs.Covering.{each-covered}
 

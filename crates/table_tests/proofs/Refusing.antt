@@ -18,9 +18,9 @@ use Rattle.tables.specs.declared.Order.the-variants.{Spo, Pos, Osp}
 use Rattle.tables.specs.Tables.{Tables, mostRows, rowCount, rowAt, fieldsAt, lengthsRight, kindsRight, yearsRight, ascends, namesRows, tableTests}
 use Rattle.tables.specs.Right.{Sized}
 use Rattle.tables.proofs.RightTables.{sized-lengths}
-use Rattle.walks.specs.Walk.{orderCount, keysAt, Words, rightUpto, orderRight, OneYear, rightOrders}
-use Rattle.walks.proofs.Keys.{all-agree, keys-say, order-rows}
-use Rattle.walks.proofs.Walking.{upto-none, upto-named, orders-none, orders-fault}
+use Rattle.table_walk_keys.specs.Walk.{orderCount, keysAt, Words, rightUpto, orderRight, OneYear, rightOrders}
+use Rattle.table_walk_keys.proofs.Keys.{all-agree, keys-say, order-rows}
+use Rattle.table_walk_keys.proofs.Walking.{upto-none, upto-named, orders-none, orders-fault}
 use Rattle.table_tests.specs.Refusals.{rowsRefusal, refusalAfter, refusalWith}
 
 pub no-refusal : (n : ℕ) → (n ≡ 0 → ⊥) → (n ≡ 1 → ⊥) → (n ≡ 2 → ⊥) → 0 ≡ refusalAfter n

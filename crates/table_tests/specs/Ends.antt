@@ -7,7 +7,7 @@ use Rattle.words.specs.Words.{number, variable, mostYear}
 use Rattle.tables.specs.declared.Order.{Order}
 use Rattle.tables.specs.declared.Order.the-variants.{Spo, Pos, Osp}
 use Rattle.tables.specs.Tables.{Tables, rowCount, rowAt, fieldOf, yearColumn, subjectColumn, predicateColumn, objectColumn}
-use Rattle.walks.specs.Walk.{orderCount}
+use Rattle.table_walk_keys.specs.Walk.{orderCount}
 
 -- the words of a year, a subject, a predicate and an object are right
 abbrev pub boundsFine : ℕ → ℕ → ℕ → ℕ → Bool

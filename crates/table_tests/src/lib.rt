@@ -26,7 +26,7 @@ ghost use lib.ListN.{length};
 ghost use Rattle.words.specs.Tests.{firstFailing, numberOf};
 ghost use Rattle.tables.specs.Tables.{tablesOf, columnCount, rowCount, fieldOf, yearColumn, lengthsRight, tableTests};
 ghost use Rattle.tables.specs.Right.{Sized};
-ghost use Rattle.walks.specs.Walk.{orderCount};
+ghost use Rattle.table_walk_keys.specs.Walk.{orderCount};
 ghost use Rattle.table_tests.specs.Refusals.{rowsRefusal, refusalAfter, refusalWith};
 ghost use Rattle.table_tests.specs.Ends.{boundsFine, endsFine, LastNamed, Passing};
 

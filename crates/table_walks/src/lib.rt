@@ -1,15 +1,15 @@
 // The walk over the three orders of lent tables, for tests 3 and 4.
 use table_readings::read;
+use table_walk_keys::key_at;
 use tables::Order;
 use tables::Place;
-use walks::key_at;
 ghost use mathlib.Core.Path.{_≡_};
 ghost use mathlib.Core.Bool.{cond};
 ghost use Prim.Native.Nat.{_<_};
 ghost use lib.Dec.{leb, ltb};
 ghost use Rattle.tables.specs.Tables.{tablesOf, rowCount};
 ghost use Rattle.tables.specs.Right.{Sized};
-ghost use Rattle.walks.specs.Walk.{orderAt, rightOrders};
+ghost use Rattle.table_walk_keys.specs.Walk.{orderAt, rightOrders};
 
 // How many orders there are.
 const ORDERS: u32 = 3;

@@ -10,7 +10,7 @@ use Rattle.words.specs.Bindings.{Bindings}
 use Rattle.words.proofs.Testing.{none-some, some-injective}
 use Rattle.steps.specs.Steps.{State, Run}
 use Rattle.steps.specs.Saved.{positionWords, savedWords, stateIn}
-use Rattle.prunings.specs.Pruning.{prunedStep}
+use Rattle.step_prunings.specs.Pruning.{prunedStep}
 use Rattle.lists.specs.Gathering.{gathered}
 use Rattle.lists.proofs.Room.{no-space-longer, longer-no-space}
 use Rattle.turns.specs.declared.TurnEnding.{TurnEnding}

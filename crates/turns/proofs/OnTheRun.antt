@@ -28,8 +28,8 @@ use Rattle.steps.proofs.RightStates.{RightState, RightOrDone, right-from}
 use Rattle.steps.proofs.YearRuns.{reached}
 use Rattle.steps.proofs.SavedWords.{shape-of, words-under}
 use Rattle.steps.proofs.AcceptedStates.{words-most}
-use Rattle.prunings.proofs.OnTheRun as pruned
-use Rattle.prunings.proofs.OnTheRun.{KeysAmong}
+use Rattle.step_prunings.proofs.OnTheRun as pruned
+use Rattle.step_prunings.proofs.OnTheRun.{KeysAmong}
 use Rattle.turns.specs.Turns.{TurnInput, givenState, givenPlan, isOver, ownTests, turnOf}
 use Rattle.turns.specs.Refusals.{Served}
 use Rattle.turns.specs.Follows.{turnRun, listOf}

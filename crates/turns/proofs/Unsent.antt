@@ -4,8 +4,8 @@ use mathlib.Core.Path.{_≡_, _∙_, ap}
 use mathlib.Core.List.{[]}
 use Rattle.steps.specs.Steps.{State, step, runFrom}
 use Rattle.steps.specs.Saved.{stateIn}
-use Rattle.prunings.specs.Pruning.{prunedStep, prunedFrom}
-use Rattle.prunings.proofs.Sending.{step-unsent, run-unsent}
+use Rattle.step_prunings.specs.Pruning.{prunedStep, prunedFrom}
+use Rattle.step_prunings.proofs.Sending.{step-unsent, run-unsent}
 use Rattle.turns.specs.Turns.{TurnInput, givenState, givenPlan}
 use Rattle.turns.specs.Follows.{givenRun}
 

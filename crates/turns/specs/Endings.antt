@@ -6,7 +6,7 @@ use mathlib.Core.Option.{none, some}
 use lib.ListN.{length}
 use Rattle.words.specs.Bindings.{Bindings}
 use Rattle.steps.specs.Steps.{State, delivers}
-use Rattle.prunings.specs.Pruning.{prunedStep}
+use Rattle.step_prunings.specs.Pruning.{prunedStep}
 use Rattle.lists.specs.Space.{NoSpaceFor}
 use Rattle.turns.specs.declared.TurnEnding.the-variants.{Done, Spent, Full}
 use Rattle.turns.specs.Turns.{TurnInput, givenPlan, turnOf}

@@ -8,7 +8,7 @@ use Rattle.words.specs.Buffers.{Overwritten}
 use Rattle.plans.specs.Plans.{planOf}
 use Rattle.steps.specs.Steps.{Run, after}
 use Rattle.steps.specs.Saved.{savedWords, stateIn}
-use Rattle.prunings.specs.Pruning.{prunedFrom}
+use Rattle.step_prunings.specs.Pruning.{prunedFrom}
 use Rattle.lists.specs.Closing.{listAt}
 use Rattle.turns.specs.Surveys.{Survey}
 use Rattle.turns.specs.Opening.{openOf}

@@ -13,7 +13,7 @@ use Rattle.plans.specs.Endings.{Ending}
 use Rattle.plans.specs.Plans.{Plan, planOf, planTests}
 use Rattle.steps.specs.Steps.{State}
 use Rattle.steps.specs.Saved.{stateIn, savedWords, leastStateWords, shapeRight, surveyRight, placesRight}
-use Rattle.prunings.specs.Pruning.{prunedStep}
+use Rattle.step_prunings.specs.Pruning.{prunedStep}
 use Rattle.lists.specs.Gathering.{gathered, leastOutput, thresholdRight}
 use Rattle.lists.specs.Closing.{listAt}
 use Rattle.turns.specs.declared.TurnEnding.{TurnEnding}

@@ -166,6 +166,10 @@ greaterThan = 4
 abbrev pub atLeast : ℕ
 atLeast = 5
 
+-- the last of them
+abbrev pub lastOperator : ℕ
+lastOperator = atLeast
+
 -- ---- years: the last that a row may have or a plan may name, and the word of one in a plan or a state
 abbrev pub mostYear : ℕ
 mostYear = 9999

@@ -178,6 +178,9 @@ impl PlanWord {
 
     pub const AT_LEAST: u32 = 5;
 
+    // The last of them.
+    pub const LAST_OPERATOR: u32 = 5;
+
     // A year, or 0 for every year there is.
     pub fn year(number: u32) -> Self
         ensures { λ r. ⌜ r .0 ≡ yearWord (number % lowNumbers) ⌝ }

@@ -6,10 +6,10 @@ use Rattle.tables.specs.Computing as tables
 use Rattle.plans.specs.Computing as plans
 use Rattle.conditions.specs.Computing as conditions
 use Rattle.steps.specs.Computing as steps
-use Rattle.hashes.specs.Computing as hashes
+use Rattle.register_hashes.specs.Computing as register-hashes
 use Rattle.registers.specs.Computing as registers
 use Rattle.lists.specs.Computing as lists
-use Rattle.prunings.specs.Computing as prunings
+use Rattle.step_prunings.specs.Computing as step-prunings
 use Rattle.turns.specs.Computing as turns
 use Rattle.merges.specs.Computing as merges
 use Rattle.uploads.specs.Computing as uploads
@@ -22,8 +22,8 @@ use Rattle.worked_cases.specs.Misreadings.{Told, readings, same}
 
 -- one name for all that the calls' definitions are made of
 unfoldable pub computing : Unit {0}
-unfolding words.computing tables.computing plans.computing conditions.computing steps.computing hashes.computing registers.computing
-    lists.computing prunings.computing turns.computing merges.computing uploads.computing queues.computing views.computing flatten
+unfolding words.computing tables.computing plans.computing conditions.computing steps.computing register-hashes.computing registers.computing
+    lists.computing step-prunings.computing turns.computing merges.computing uploads.computing queues.computing views.computing flatten
 computing = tt
 
 -- the starred cases of the rules (docs/RULES.md, 11), those of k = 0, of the record of no rows and of numbers below zero

@@ -6,7 +6,7 @@ use lib.ListN.{getD}
 use Rattle.words.specs.Words.{low}
 use Rattle.plans.specs.Endings.{lastOf}
 use Rattle.plans.specs.Reading.{keysIn}
-use Rattle.plans.proofs.EndingForms.{rows-next, not-neither, some-word}
+use Rattle.plans.proofs.EndingForms.{rows-next, not-invalid, some-word}
 use Rattle.plans.proofs.EndingRead.{ending-rows, ending-top, ending-group, ending-registers}
 use Rattle.plan_ending_parts.proofs.keys.Statement.{statement}
 use Rattle.plan_ending_parts.proofs.keys.Tie as tie
@@ -29,7 +29,7 @@ sub-after-rows c =
     omega (
       arith,
       some-word e (t .result) (t .ensures ∙ ap lastOf (first .ensures))
-          (not-neither e (t .result) (t .ensures ∙ ap lastOf (first .ensures)) pre),
+          (not-invalid e (t .result) (t .ensures ∙ ap lastOf (first .ensures)) pre),
     )
 
 part-after-rows-start : tie.Need-part-after-rows-start
@@ -41,7 +41,7 @@ part-after-rows-start c =
     omega (
       arith,
       some-word e (t .result) (t .ensures ∙ ap lastOf (first .ensures))
-          (not-neither e (t .result) (t .ensures ∙ ap lastOf (first .ensures)) pre),
+          (not-invalid e (t .result) (t .ensures ∙ ap lastOf (first .ensures)) pre),
     )
 
 part-after-rows-end : tie.Need-part-after-rows-end
@@ -114,7 +114,7 @@ returns-5 c =
     let t = c .before .before .before .last-of in
     let first = c .before .before .before .before .first in
     let pre = c .before .before .before .before .before .before .pre in
-    absurd (not-neither e (t .result) (t .ensures ∙ ap lastOf (first .ensures)) pre (c .before .enum-told5 .given .1))
+    absurd (not-invalid e (t .result) (t .ensures ∙ ap lastOf (first .ensures)) pre (c .before .enum-told5 .given .1))
 
 pub keys-spec : {M : Type 1} → statement M
 keys-spec =

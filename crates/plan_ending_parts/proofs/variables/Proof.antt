@@ -5,7 +5,7 @@ use native.Mathlib.Omega.{arith}
 use Rattle.words.specs.Words.{low}
 use Rattle.plans.specs.Endings.{lastOf}
 use Rattle.plans.specs.Reading.{variablesIn}
-use Rattle.plans.proofs.EndingForms.{rows-here, rows-next, group-room, registers-room, not-neither, some-word}
+use Rattle.plans.proofs.EndingForms.{rows-here, rows-next, group-room, registers-room, not-invalid, some-word}
 use Rattle.plans.proofs.EndingRead.{ending-rows, ending-top, ending-group, ending-registers, counted-lent}
 use Rattle.plan_ending_parts.proofs.variables.Statement.{statement}
 use Rattle.plan_ending_parts.proofs.variables.Tie as tie
@@ -39,7 +39,7 @@ sub-row-variables c =
     omega (
       arith,
       some-word e (t .result) (t .ensures ∙ ap lastOf (first .ensures))
-          (not-neither e (t .result) (t .ensures ∙ ap lastOf (first .ensures)) pre),
+          (not-invalid e (t .result) (t .ensures ∙ ap lastOf (first .ensures)) pre),
     )
 
 part-row-variables-start : tie.Need-part-row-variables-start
@@ -51,7 +51,7 @@ part-row-variables-start c =
     omega (
       arith,
       some-word e (t .result) (t .ensures ∙ ap lastOf (first .ensures))
-          (not-neither e (t .result) (t .ensures ∙ ap lastOf (first .ensures)) pre),
+          (not-invalid e (t .result) (t .ensures ∙ ap lastOf (first .ensures)) pre),
     )
 
 part-row-variables-end : tie.Need-part-row-variables-end
@@ -169,7 +169,7 @@ returns-5 c =
     let t = c .before .before .last-of in
     let first = c .before .before .before .first in
     let pre = c .before .before .before .before .before .pre in
-    absurd (not-neither e (t .result) (t .ensures ∙ ap lastOf (first .ensures)) pre (c .enum-told5 .given .1))
+    absurd (not-invalid e (t .result) (t .ensures ∙ ap lastOf (first .ensures)) pre (c .enum-told5 .given .1))
 
 pub variables-spec : {M : Type 1} → statement M
 variables-spec =

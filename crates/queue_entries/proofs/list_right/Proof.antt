@@ -59,10 +59,10 @@ use Rattle.queue_entries.proofs.find_owner as find
 use Rattle.queue_entries.proofs.find_owner.Symbol as find-def
 use Rattle.queue_entries.proofs.find_owner.Symbol.{name as #find}
 use Rattle.queue_entries.proofs.find_owner.Met as find-thm
-use Rattle.queue_entries.proofs.stands as one
-use Rattle.queue_entries.proofs.stands.Symbol as one-def
-use Rattle.queue_entries.proofs.stands.Symbol.{name as #one}
-use Rattle.queue_entries.proofs.stands.Met as one-thm
+use Rattle.queue_entries.proofs.entry_valid as one
+use Rattle.queue_entries.proofs.entry_valid.Symbol as one-def
+use Rattle.queue_entries.proofs.entry_valid.Symbol.{name as #one}
+use Rattle.queue_entries.proofs.entry_valid.Met as one-thm
 use Rattle.queue_entries.proofs.list_right.Key.{name as #queue_entries·list-right}
 use Rattle.queue_entries.proofs.list_right as f
 use Rattle.queue_entries.proofs.list_right.Statement as stated
@@ -517,5 +517,5 @@ list-right-spec 𝓤 H 𝓜 𝓖 𝓡 =
     (list-right-meets 𝓤 H (𝓖 .A) (givenOf 𝓤 H 𝓜 𝓖) (𝓜 .mem) (𝓡 .run) (tablesOf 𝓤 H 𝓜 (tables 𝓤 H 𝓜 𝓡 code.env))
     (cited 𝓤 H (Find 𝓤 H (𝓖 .A) (𝓜 .mem) (𝓡 .run)) 𝓜 𝓡 code.env #find find-def.routine code.calls-queue-entries·find-owner
     (find-thm.met 𝓤 H 𝓜 𝓖 𝓡))
-    (cited 𝓤 H (One 𝓤 H (𝓖 .A) (𝓜 .mem) (𝓡 .run)) 𝓜 𝓡 code.env #one one-def.routine code.calls-queue-entries·stands
+    (cited 𝓤 H (One 𝓤 H (𝓖 .A) (𝓜 .mem) (𝓡 .run)) 𝓜 𝓡 code.env #one one-def.routine code.calls-queue-entries·entry-valid
     (one-thm.met 𝓤 H 𝓜 𝓖 𝓡)))

@@ -1,5 +1,5 @@
 -- `queue_joins::join` meets its contract: a walk of its MIR, by hand. Both lists are lent as `&` to `look`, for a lifetime of the call; what
--- `queue_tests::join` decides is made by `settle`, to which each list goes for good. Assumes nothing.
+-- `queue_tests::join` decides is made by `remove_then_append`, to which each list goes for good. Assumes nothing.
 use mathlib.Core.Path.{_≡_, refl, _∙_, ap, subst}
 use Prim.Native.Nat.{ℕ, _<_, _^_}
 use mathlib.Core.List.{[], _∷_, List}
@@ -59,16 +59,16 @@ use Rattle.queue_changes.specs.Changes.{Decides}
 use Rattle.queue_changes.proofs.Queueing as D
 use Rattle.queue_changes.proofs.Queueing.Laws as D′
 use Rattle.queue_joins.proofs.Shared.{LentShared, lends-shared, back-shared}
-use Rattle.queue_joins.proofs.Lending.{renamed, Look, to-look, look-of, goes-look, Settle, to-settle, goes-settle}
+use Rattle.queue_joins.proofs.Lending.{renamed, Look, to-look, look-of, goes-look, Append, to-append, goes-append}
 use Rattle.queue_joins.proofs.Decided.{decided-vals, answer-in, change-line, change-aside, entry-in, gap-fits, last-fits}
 use Rattle.queue_entries.proofs.look as looks
 use Rattle.queue_entries.proofs.look.Symbol as looks-def
 use Rattle.queue_entries.proofs.look.Symbol.{name as #looks}
 use Rattle.queue_entries.proofs.look.Met as looks-thm
-use Rattle.queue_entries.proofs.settle as puts
-use Rattle.queue_entries.proofs.settle.Symbol as puts-def
-use Rattle.queue_entries.proofs.settle.Symbol.{name as #puts}
-use Rattle.queue_entries.proofs.settle.Met as puts-thm
+use Rattle.queue_entries.proofs.remove_then_append as puts
+use Rattle.queue_entries.proofs.remove_then_append.Symbol as puts-def
+use Rattle.queue_entries.proofs.remove_then_append.Symbol.{name as #puts}
+use Rattle.queue_entries.proofs.remove_then_append.Met as puts-thm
 use Rattle.queue_tests.proofs.join as joins
 use Rattle.queue_tests.proofs.join.Symbol as joins-def
 use Rattle.queue_tests.proofs.join.Symbol.{name as #joins}
@@ -313,7 +313,7 @@ module _ {M : Type 1} (𝓤 : URA M) (H : Heap 𝓤) (A : Atoms 𝓤) (W : Given
       owned ! Q.the-row (Is Q.the-row) (EL.makes Q.the-type Q′.the-plain 𝓤 H A) (d .answer) _ (answer-in d g) $ done !
 
   module _ (C : Calls 𝓤 H) (Λ : Loops 𝓤 H) (fm : FmC 𝓤 H (W .laws) C) (known-looks : Triple 𝓤 (C #looks) (Look 𝓤 H A mem run))
-      (known-puts : Triple 𝓤 (C #puts) (Settle 𝓤 H A mem run))
+      (known-puts : Triple 𝓤 (C #puts) (Append 𝓤 H A mem run))
       (known-joins : Triple 𝓤 (C #joins) (Joins 𝓤 H A mem run)) where
     walk : length (rows .now) < 2 ^ 64 → length (pos .now) < 2 ^ 64 → length (osp .now) < 2 ^ 64 → length (plan .now) < 2 ^ 64
         → length (state .now) < 2 ^ 64
@@ -551,10 +551,10 @@ module _ {M : Type 1} (𝓤 : URA M) (H : Heap 𝓤) (A : Atoms 𝓤) (W : Given
         (and-then ! (load ! (from ! (fld ! refl (stop !))) (look-in ! 50 (sub ! 1 refl (whole !)))) (no-more !)))) (from ! (stop !))
         (init ! 18 refl (tt, (tt, (record { fits = room .0 }, tt)))) $
         move ! (13 ∷ 12 ∷ []) $
-        use2 W (raw (Settle 𝓤 H A mem run .pre (to-settle 𝓤 H A mem run κ₃ q₃ x (d .line) (d .entry))))
-        (goes-settle 𝓤 H A mem run W κ₃ q₃ x (d .line) (d .entry) (gap-fits (d .line) (change-line d (told-d d g₃)))
+        use2 W (raw (Append 𝓤 H A mem run .pre (to-append 𝓤 H A mem run κ₃ q₃ x (d .line) (d .entry))))
+        (goes-append 𝓤 H A mem run W κ₃ q₃ x (d .line) (d .entry) (gap-fits (d .line) (change-line d (told-d d g₃)))
         (last-fits (d .line) (change-line d (told-d d g₃))) (entry-in d (told-d d g₃)) (told (x .now) (x′ .now) is .line)) $
-        calls-at ! fm (Settle 𝓤 H A mem run) known-puts (to-settle 𝓤 H A mem run κ₃ q₃ x (d .line) (d .entry))
+        calls-at ! fm (Append 𝓤 H A mem run) known-puts (to-append 𝓤 H A mem run κ₃ q₃ x (d .line) (d .entry))
         (and-then ! (load ! (from ! (stop !)) (look ! 17 refl))
         (and-then ! (load ! (from ! (fld ! refl (fld ! refl (stop !)))) (look-in ! 31 (sub ! 0 refl (sub ! 1 refl (whole !)))))
         (and-then ! (load ! (from ! (fld ! refl (fld ! refl (stop !)))) (look-in ! 31 (sub ! 1 refl (sub ! 1 refl (whole !)))))
@@ -586,10 +586,10 @@ module _ {M : Type 1} (𝓤 : URA M) (H : Heap 𝓤) (A : Atoms 𝓤) (W : Given
         (and-then ! (load ! (from ! (fld ! refl (stop !))) (look-in ! 46 (sub ! 1 refl (whole !)))) (no-more !)))) (from ! (stop !))
         (init ! 14 refl (tt, (tt, (record { fits = room′ .0 }, tt)))) $
         move ! (13 ∷ 12 ∷ []) $
-        use2 W (raw (Settle 𝓤 H A mem run .pre (to-settle 𝓤 H A mem run κ₄ q₄ x′ (d .aside) (d .entry))))
-        (goes-settle 𝓤 H A mem run W κ₄ q₄ x′ (d .aside) (d .entry) (gap-fits (d .aside) (change-aside d (told-d d g₃)))
+        use2 W (raw (Append 𝓤 H A mem run .pre (to-append 𝓤 H A mem run κ₄ q₄ x′ (d .aside) (d .entry))))
+        (goes-append 𝓤 H A mem run W κ₄ q₄ x′ (d .aside) (d .entry) (gap-fits (d .aside) (change-aside d (told-d d g₃)))
         (last-fits (d .aside) (change-aside d (told-d d g₃))) (entry-in d (told-d d g₃)) (told (x .now) (x′ .now) is .aside)) $
-        calls-at ! fm (Settle 𝓤 H A mem run) known-puts (to-settle 𝓤 H A mem run κ₄ q₄ x′ (d .aside) (d .entry))
+        calls-at ! fm (Append 𝓤 H A mem run) known-puts (to-append 𝓤 H A mem run κ₄ q₄ x′ (d .aside) (d .entry))
         (and-then ! (load ! (from ! (stop !)) (look ! 13 refl))
         (and-then ! (load ! (from ! (fld ! refl (fld ! refl (stop !)))) (look-in ! 31 (sub ! 0 refl (sub ! 2 refl (whole !)))))
         (and-then ! (load ! (from ! (fld ! refl (fld ! refl (stop !)))) (look-in ! 31 (sub ! 1 refl (sub ! 2 refl (whole !)))))
@@ -643,7 +643,7 @@ module _ {M : Type 1} (𝓤 : URA M) (H : Heap 𝓤) (A : Atoms 𝓤) (W : Given
 
 module _ {M : Type 1} (𝓤 : URA M) (H : Heap 𝓤) (A : Atoms 𝓤) (W : Given 𝓤 H A) (mem : Memory → SProp 𝓤) (run : Routine → Fun 𝓤) where
   join-walks : (C : Calls 𝓤 H) (Λ : Loops 𝓤 H) → FmC 𝓤 H (W .laws) C → Triple 𝓤 (C #looks) (Look 𝓤 H A mem run)
-      → Triple 𝓤 (C #puts) (Settle 𝓤 H A mem run) → Triple 𝓤 (C #joins) (Joins 𝓤 H A mem run)
+      → Triple 𝓤 (C #puts) (Append 𝓤 H A mem run) → Triple 𝓤 (C #joins) (Joins 𝓤 H A mem run)
       → Walks 𝓤 H A f.ended stayed (WpFn 𝓤 H C Λ code.function) (f.clauses 𝓤 H A mem run)
   join-walks C Λ fm known-looks known-puts known-joins =
       walked 𝓤 H A f.ended stayed (f.clauses 𝓤 H A mem run) (WpFn 𝓤 H C Λ code.function)
@@ -702,7 +702,7 @@ module _ {M : Type 1} (𝓤 : URA M) (H : Heap 𝓤) (A : Atoms 𝓤) (W : Given
 
 join-meets : {M : Type 1} (𝓤 : URA M) (H : Heap 𝓤) (A : Atoms 𝓤) → Given 𝓤 H A
     → (mem : Memory → SProp 𝓤) (run : Routine → Fun 𝓤) (𝓣 : Tables 𝓤 H)
-    → Triple 𝓤 (𝓣 .C #looks) (Look 𝓤 H A mem run) → Triple 𝓤 (𝓣 .C #puts) (Settle 𝓤 H A mem run)
+    → Triple 𝓤 (𝓣 .C #looks) (Look 𝓤 H A mem run) → Triple 𝓤 (𝓣 .C #puts) (Append 𝓤 H A mem run)
     → Triple 𝓤 (𝓣 .C #joins) (Joins 𝓤 H A mem run)
     → Meets 𝓤 H A f.signature (WpFn 𝓤 H (𝓣 .C) (𝓣 .Λ) code.function) (f.spec 𝓤 H A mem run)
 join-meets 𝓤 H A W mem run 𝓣 known-looks known-puts known-joins =
@@ -751,7 +751,7 @@ join-spec 𝓤 H 𝓜 𝓖 𝓡 =
     (join-meets 𝓤 H (𝓖 .A) (givenOf 𝓤 H 𝓜 𝓖) (𝓜 .mem) (𝓡 .run) (tablesOf 𝓤 H 𝓜 (tables 𝓤 H 𝓜 𝓡 code.env))
     (cited 𝓤 H (Look 𝓤 H (𝓖 .A) (𝓜 .mem) (𝓡 .run)) 𝓜 𝓡 code.env #looks looks-def.routine code.calls-queue-entries·look
     (looks-thm.met 𝓤 H 𝓜 𝓖 𝓡))
-    (cited 𝓤 H (Settle 𝓤 H (𝓖 .A) (𝓜 .mem) (𝓡 .run)) 𝓜 𝓡 code.env #puts puts-def.routine code.calls-queue-entries·settle
+    (cited 𝓤 H (Append 𝓤 H (𝓖 .A) (𝓜 .mem) (𝓡 .run)) 𝓜 𝓡 code.env #puts puts-def.routine code.calls-queue-entries·remove-then-append
     (puts-thm.met 𝓤 H 𝓜 𝓖 𝓡))
     (cited 𝓤 H (Joins 𝓤 H (𝓖 .A) (𝓜 .mem) (𝓡 .run)) 𝓜 𝓡 code.env #joins joins-def.routine code.calls-queue-tests·join
     (joins-thm.met 𝓤 H 𝓜 𝓖 𝓡)))

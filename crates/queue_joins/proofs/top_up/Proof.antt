@@ -1,5 +1,5 @@
 -- `queue_joins::top_up` meets its contract: a walk of its MIR, by hand. Both lists are lent as `&` to `look`, and the list set aside to `entry_at`, each for a
--- lifetime of the call; what `queue_tests::top_up` decides is made by `settle`, to which each list goes for good. Assumes nothing.
+-- lifetime of the call; what `queue_tests::top_up` decides is made by `remove_then_append`, to which each list goes for good. Assumes nothing.
 use mathlib.Core.Path.{_≡_, refl, _∙_, ap, subst}
 use Prim.Native.Nat.{ℕ, _<_, _≤_, _^_}
 use native.Mathlib.Nat.{min-le-left}
@@ -60,8 +60,8 @@ use Rattle.queue_changes.specs.Changes.{Decides}
 use Rattle.queue_changes.proofs.Queueing as D
 use Rattle.queue_changes.proofs.Queueing.Laws as D′
 use Rattle.queue_joins.proofs.Shared.{LentShared, lends-shared, back-shared}
-use Rattle.queue_joins.proofs.Lending.{at-name, entry-vals, Look, to-look, look-of, goes-look, Read, to-read, read-of, goes-read, Settle, to-settle}
-use Rattle.queue_joins.proofs.Lending.{goes-settle}
+use Rattle.queue_joins.proofs.Lending.{at-name, entry-vals, Look, to-look, look-of, goes-look, Read, to-read, read-of, goes-read, Append, to-append}
+use Rattle.queue_joins.proofs.Lending.{goes-append}
 use Rattle.queue_joins.proofs.Decided.{decided-vals, answer-in, change-line, change-aside, entry-in, gap-fits, last-fits, found-fits}
 use Rattle.queue_entries.proofs.look as looks
 use Rattle.queue_entries.proofs.look.Symbol as looks-def
@@ -71,10 +71,10 @@ use Rattle.queue_entries.proofs.entry_at as reads
 use Rattle.queue_entries.proofs.entry_at.Symbol as reads-def
 use Rattle.queue_entries.proofs.entry_at.Symbol.{name as #reads}
 use Rattle.queue_entries.proofs.entry_at.Met as reads-thm
-use Rattle.queue_entries.proofs.settle as puts
-use Rattle.queue_entries.proofs.settle.Symbol as puts-def
-use Rattle.queue_entries.proofs.settle.Symbol.{name as #puts}
-use Rattle.queue_entries.proofs.settle.Met as puts-thm
+use Rattle.queue_entries.proofs.remove_then_append as puts
+use Rattle.queue_entries.proofs.remove_then_append.Symbol as puts-def
+use Rattle.queue_entries.proofs.remove_then_append.Symbol.{name as #puts}
+use Rattle.queue_entries.proofs.remove_then_append.Met as puts-thm
 use Rattle.queue_tests.proofs.top_up as top
 use Rattle.queue_tests.proofs.top_up.Symbol as top-def
 use Rattle.queue_tests.proofs.top_up.Symbol.{name as #top}
@@ -185,7 +185,7 @@ module _ {M : Type 1} (𝓤 : URA M) (H : Heap 𝓤) (A : Atoms 𝓤) (W : Given
 
   module _ (C : Calls 𝓤 H) (Λ : Loops 𝓤 H) (fm : FmC 𝓤 H (W .laws) C) (known-looks : Triple 𝓤 (C #looks) (Look 𝓤 H A mem run))
       (known-reads : Triple 𝓤 (C #reads) (Read 𝓤 H A mem run))
-      (known-puts : Triple 𝓤 (C #puts) (Settle 𝓤 H A mem run)) (known-top : Triple 𝓤 (C #top) (Top 𝓤 H A mem run)) where
+      (known-puts : Triple 𝓤 (C #puts) (Append 𝓤 H A mem run)) (known-top : Triple 𝓤 (C #top) (Top 𝓤 H A mem run)) where
     walk : ent 𝓤 (onEntry 𝓤 H A f.signature (κ, (κ′, tt)) (q, (q′, tt)) a at)
         (WpFn 𝓤 H C Λ code.function
         ((sliceVal (b, o) (length ys)) ∷ vint w64 given ∷ (sliceVal (b′, o′) (length zs)) ∷ vint w64 kept ∷ vint w32 owner ∷ vint w64
@@ -336,10 +336,10 @@ module _ {M : Type 1} (𝓤 : URA M) (H : Heap 𝓤) (A : Atoms 𝓤) (W : Given
         (and-then ! (load ! (from ! (fld ! refl (stop !))) (look-in ! 42 (sub ! 1 refl (whole !)))) (no-more !)))) (from ! (stop !))
         (init ! 8 refl (tt, (tt, (record { fits = room .0 }, tt)))) $
         move ! (1 ∷ 0 ∷ []) $
-        use2 W (raw (Settle 𝓤 H A mem run .pre (to-settle 𝓤 H A mem run κ q (at-name b o ys γ) (d .line) (d .entry))))
-        (goes-settle 𝓤 H A mem run W κ q (at-name b o ys γ) (d .line) (d .entry) (gap-fits (d .line) (change-line d (told-d d g₃)))
+        use2 W (raw (Append 𝓤 H A mem run .pre (to-append 𝓤 H A mem run κ q (at-name b o ys γ) (d .line) (d .entry))))
+        (goes-append 𝓤 H A mem run W κ q (at-name b o ys γ) (d .line) (d .entry) (gap-fits (d .line) (change-line d (told-d d g₃)))
         (last-fits (d .line) (change-line d (told-d d g₃))) (entry-in d (told-d d g₃)) (told ys zs is its .line)) $
-        calls-at ! fm (Settle 𝓤 H A mem run) known-puts (to-settle 𝓤 H A mem run κ q (at-name b o ys γ) (d .line) (d .entry))
+        calls-at ! fm (Append 𝓤 H A mem run) known-puts (to-append 𝓤 H A mem run κ q (at-name b o ys γ) (d .line) (d .entry))
         (and-then ! (load ! (from ! (stop !)) (look ! 7 refl))
         (and-then ! (load ! (from ! (fld ! refl (fld ! refl (stop !)))) (look-in ! 25 (sub ! 0 refl (sub ! 1 refl (whole !)))))
         (and-then ! (load ! (from ! (fld ! refl (fld ! refl (stop !)))) (look-in ! 25 (sub ! 1 refl (sub ! 1 refl (whole !)))))
@@ -368,10 +368,10 @@ module _ {M : Type 1} (𝓤 : URA M) (H : Heap 𝓤) (A : Atoms 𝓤) (W : Given
         (and-then ! (load ! (from ! (fld ! refl (stop !))) (look-in ! 38 (sub ! 1 refl (whole !)))) (no-more !)))) (from ! (stop !))
         (init ! 4 refl (tt, (tt, (record { fits = room′ .0 }, tt)))) $
         move ! (3 ∷ 2 ∷ []) $
-        use2 W (raw (Settle 𝓤 H A mem run .pre (to-settle 𝓤 H A mem run κ′ q′ (at-name b′ o′ zs γ′) (d .aside) (d .entry))))
-        (goes-settle 𝓤 H A mem run W κ′ q′ (at-name b′ o′ zs γ′) (d .aside) (d .entry) (gap-fits (d .aside) (change-aside d (told-d d g₃)))
+        use2 W (raw (Append 𝓤 H A mem run .pre (to-append 𝓤 H A mem run κ′ q′ (at-name b′ o′ zs γ′) (d .aside) (d .entry))))
+        (goes-append 𝓤 H A mem run W κ′ q′ (at-name b′ o′ zs γ′) (d .aside) (d .entry) (gap-fits (d .aside) (change-aside d (told-d d g₃)))
         (last-fits (d .aside) (change-aside d (told-d d g₃))) (entry-in d (told-d d g₃)) (told ys zs is its .aside)) $
-        calls-at ! fm (Settle 𝓤 H A mem run) known-puts (to-settle 𝓤 H A mem run κ′ q′ (at-name b′ o′ zs γ′) (d .aside) (d .entry))
+        calls-at ! fm (Append 𝓤 H A mem run) known-puts (to-append 𝓤 H A mem run κ′ q′ (at-name b′ o′ zs γ′) (d .aside) (d .entry))
         (and-then ! (load ! (from ! (stop !)) (look ! 3 refl))
         (and-then ! (load ! (from ! (fld ! refl (fld ! refl (stop !)))) (look-in ! 25 (sub ! 0 refl (sub ! 2 refl (whole !)))))
         (and-then ! (load ! (from ! (fld ! refl (fld ! refl (stop !)))) (look-in ! 25 (sub ! 1 refl (sub ! 2 refl (whole !)))))
@@ -426,7 +426,7 @@ module _ {M : Type 1} (𝓤 : URA M) (H : Heap 𝓤) (A : Atoms 𝓤) (W : Given
 
 module _ {M : Type 1} (𝓤 : URA M) (H : Heap 𝓤) (A : Atoms 𝓤) (W : Given 𝓤 H A) (mem : Memory → SProp 𝓤) (run : Routine → Fun 𝓤) where
   top-up-walks : (C : Calls 𝓤 H) (Λ : Loops 𝓤 H) → FmC 𝓤 H (W .laws) C → Triple 𝓤 (C #looks) (Look 𝓤 H A mem run)
-      → Triple 𝓤 (C #reads) (Read 𝓤 H A mem run) → Triple 𝓤 (C #puts) (Settle 𝓤 H A mem run) → Triple 𝓤 (C #top) (Top 𝓤 H A mem run)
+      → Triple 𝓤 (C #reads) (Read 𝓤 H A mem run) → Triple 𝓤 (C #puts) (Append 𝓤 H A mem run) → Triple 𝓤 (C #top) (Top 𝓤 H A mem run)
       → Walks 𝓤 H A f.ended stayed (WpFn 𝓤 H C Λ code.function) (f.clauses 𝓤 H A mem run)
   top-up-walks C Λ fm known-looks known-reads known-puts known-top =
       walked 𝓤 H A f.ended stayed (f.clauses 𝓤 H A mem run) (WpFn 𝓤 H C Λ code.function)
@@ -444,7 +444,7 @@ module _ {M : Type 1} (𝓤 : URA M) (H : Heap 𝓤) (A : Atoms 𝓤) (W : Given
 top-up-meets : {M : Type 1} (𝓤 : URA M) (H : Heap 𝓤) (A : Atoms 𝓤) → Given 𝓤 H A
     → (mem : Memory → SProp 𝓤) (run : Routine → Fun 𝓤) (𝓣 : Tables 𝓤 H)
     → Triple 𝓤 (𝓣 .C #looks) (Look 𝓤 H A mem run) → Triple 𝓤 (𝓣 .C #reads) (Read 𝓤 H A mem run)
-    → Triple 𝓤 (𝓣 .C #puts) (Settle 𝓤 H A mem run) → Triple 𝓤 (𝓣 .C #top) (Top 𝓤 H A mem run)
+    → Triple 𝓤 (𝓣 .C #puts) (Append 𝓤 H A mem run) → Triple 𝓤 (𝓣 .C #top) (Top 𝓤 H A mem run)
     → Meets 𝓤 H A f.signature (WpFn 𝓤 H (𝓣 .C) (𝓣 .Λ) code.function) (f.spec 𝓤 H A mem run)
 top-up-meets 𝓤 H A W mem run 𝓣 known-looks known-reads known-puts known-top =
     walk-meets 𝓤 H A f.ended stayed W (
@@ -473,7 +473,7 @@ top-up-spec 𝓤 H 𝓜 𝓖 𝓡 =
     (looks-thm.met 𝓤 H 𝓜 𝓖 𝓡))
     (cited 𝓤 H (Read 𝓤 H (𝓖 .A) (𝓜 .mem) (𝓡 .run)) 𝓜 𝓡 code.env #reads reads-def.routine code.calls-queue-entries·entry-at
     (reads-thm.met 𝓤 H 𝓜 𝓖 𝓡))
-    (cited 𝓤 H (Settle 𝓤 H (𝓖 .A) (𝓜 .mem) (𝓡 .run)) 𝓜 𝓡 code.env #puts puts-def.routine code.calls-queue-entries·settle
+    (cited 𝓤 H (Append 𝓤 H (𝓖 .A) (𝓜 .mem) (𝓡 .run)) 𝓜 𝓡 code.env #puts puts-def.routine code.calls-queue-entries·remove-then-append
     (puts-thm.met 𝓤 H 𝓜 𝓖 𝓡))
     (cited 𝓤 H (Top 𝓤 H (𝓖 .A) (𝓜 .mem) (𝓡 .run)) 𝓜 𝓡 code.env #top top-def.routine code.calls-queue-tests·top-up
     (top-thm.met 𝓤 H 𝓜 𝓖 𝓡)))

@@ -1,5 +1,5 @@
 -- `queue_serves::serve` meets its contract: a walk of its MIR, by hand. Both lists are lent as `&` to `look`, and the line to `entry_at`, each for a
--- lifetime of the call; what `queue_turns::serve` decides is made by `settle`, to which each list goes for good, as the output does to it. Assumes
+-- lifetime of the call; what `queue_turns::serve` decides is made by `remove_then_append`, to which each list goes for good, as the output does to it. Assumes
 -- nothing.
 use mathlib.Core.Path.{_≡_, refl, _∙_, ap, subst}
 use Prim.Native.Nat.{ℕ, _<_, _≤_, _^_}
@@ -57,13 +57,13 @@ use Rattle.queue_entries.specs.Entries.{nobody, settled}
 use Rattle.queue_entries.specs.Seeing.{SeenOf}
 use Rattle.queue_entries.proofs.Seen as S
 use Rattle.queue_entries.proofs.Seen.Laws as S′
-use Rattle.queue_goings.specs.declared.ServeChanges.{ServeChanges}
-use Rattle.queue_goings.specs.Services.{Settles}
-use Rattle.queue_goings.proofs.ServeChanges as D
-use Rattle.queue_goings.proofs.ServeChanges.Laws as D′
+use Rattle.queue_outcomes.specs.declared.ServeChanges.{ServeChanges}
+use Rattle.queue_outcomes.specs.Services.{Settles}
+use Rattle.queue_outcomes.proofs.ServeChanges as D
+use Rattle.queue_outcomes.proofs.ServeChanges.Laws as D′
 use Rattle.queue_joins.proofs.Shared.{LentShared, lends-shared, back-shared}
-use Rattle.queue_joins.proofs.Lending.{renamed, entry-vals, Look, to-look, look-of, goes-look, Read, to-read, read-of, goes-read, Settle, to-settle}
-use Rattle.queue_joins.proofs.Lending.{goes-settle}
+use Rattle.queue_joins.proofs.Lending.{renamed, entry-vals, Look, to-look, look-of, goes-look, Read, to-read, read-of, goes-read, Append, to-append}
+use Rattle.queue_joins.proofs.Lending.{goes-append}
 use Rattle.queue_joins.proofs.Decided.{gap-fits, last-fits}
 use Rattle.queue_serves.proofs.ServeChanges.{served-vals, served-answer, served-line, served-aside, served-entry}
 use Rattle.queue_entries.proofs.look as looks
@@ -74,10 +74,10 @@ use Rattle.queue_entries.proofs.entry_at as reads
 use Rattle.queue_entries.proofs.entry_at.Symbol as reads-def
 use Rattle.queue_entries.proofs.entry_at.Symbol.{name as #reads}
 use Rattle.queue_entries.proofs.entry_at.Met as reads-thm
-use Rattle.queue_entries.proofs.settle as puts
-use Rattle.queue_entries.proofs.settle.Symbol as puts-def
-use Rattle.queue_entries.proofs.settle.Symbol.{name as #puts}
-use Rattle.queue_entries.proofs.settle.Met as puts-thm
+use Rattle.queue_entries.proofs.remove_then_append as puts
+use Rattle.queue_entries.proofs.remove_then_append.Symbol as puts-def
+use Rattle.queue_entries.proofs.remove_then_append.Symbol.{name as #puts}
+use Rattle.queue_entries.proofs.remove_then_append.Met as puts-thm
 use Rattle.queue_turns.proofs.serve as serves
 use Rattle.queue_turns.proofs.serve.Symbol as serves-def
 use Rattle.queue_turns.proofs.serve.Symbol.{name as #serves}
@@ -302,7 +302,7 @@ module _ {M : Type 1} (𝓤 : URA M) (H : Heap 𝓤) (A : Atoms 𝓤) (W : Given
       owned ! Y.the-row (Is Y.the-row) (LL.makes Y.the-type Y′.the-plain 𝓤 H A) (d .answer) _ (served-answer d g) $ done !
 
   module _ (C : Calls 𝓤 H) (Λ : Loops 𝓤 H) (fm : FmC 𝓤 H (W .laws) C) (known-looks : Triple 𝓤 (C #looks) (Look 𝓤 H A mem run))
-      (known-reads : Triple 𝓤 (C #reads) (Read 𝓤 H A mem run)) (known-puts : Triple 𝓤 (C #puts) (Settle 𝓤 H A mem run))
+      (known-reads : Triple 𝓤 (C #reads) (Read 𝓤 H A mem run)) (known-puts : Triple 𝓤 (C #puts) (Append 𝓤 H A mem run))
       (known-serves : Triple 𝓤 (C #serves) (Serve 𝓤 H A mem run)) where
     walk : length (rows .now) < 2 ^ 64 → length (pos .now) < 2 ^ 64 → length (osp .now) < 2 ^ 64 → length (threshold .now) < 2 ^ 64
         → ent 𝓤 (onEntry 𝓤 H A f.signature (κ₀, (κ₁, (κ₂, (κ₃, (κ₄, (κ₅, (κ₆, tt)))))))
@@ -592,10 +592,10 @@ module _ {M : Type 1} (𝓤 : URA M) (H : Heap 𝓤) (A : Atoms 𝓤) (W : Given
         (and-then ! (load ! (from ! (fld ! refl (stop !))) (look-in ! 58 (sub ! 1 refl (whole !)))) (no-more !)))) (from ! (stop !))
         (init ! 18 refl (tt, (tt, (record { fits = room .0 }, tt)))) $
         move ! (11 ∷ 10 ∷ []) $
-        use2 W (raw (Settle 𝓤 H A mem run .pre (to-settle 𝓤 H A mem run κ₃ q₃ x (d .line) (d .entry))))
-        (goes-settle 𝓤 H A mem run W κ₃ q₃ x (d .line) (d .entry) (gap-fits (d .line) (served-line d (told-d d g₃)))
+        use2 W (raw (Append 𝓤 H A mem run .pre (to-append 𝓤 H A mem run κ₃ q₃ x (d .line) (d .entry))))
+        (goes-append 𝓤 H A mem run W κ₃ q₃ x (d .line) (d .entry) (gap-fits (d .line) (served-line d (told-d d g₃)))
         (last-fits (d .line) (served-line d (told-d d g₃))) (served-entry d (told-d d g₃)) (told (x .now) (x′ .now) is its .line)) $
-        calls-at ! fm (Settle 𝓤 H A mem run) known-puts (to-settle 𝓤 H A mem run κ₃ q₃ x (d .line) (d .entry))
+        calls-at ! fm (Append 𝓤 H A mem run) known-puts (to-append 𝓤 H A mem run κ₃ q₃ x (d .line) (d .entry))
         (and-then ! (load ! (from ! (stop !)) (look ! 17 refl))
         (and-then ! (load ! (from ! (fld ! refl (fld ! refl (stop !)))) (look-in ! 39 (sub ! 0 refl (sub ! 1 refl (whole !)))))
         (and-then ! (load ! (from ! (fld ! refl (fld ! refl (stop !)))) (look-in ! 39 (sub ! 1 refl (sub ! 1 refl (whole !)))))
@@ -627,10 +627,10 @@ module _ {M : Type 1} (𝓤 : URA M) (H : Heap 𝓤) (A : Atoms 𝓤) (W : Given
         (and-then ! (load ! (from ! (fld ! refl (stop !))) (look-in ! 54 (sub ! 1 refl (whole !)))) (no-more !)))) (from ! (stop !))
         (init ! 14 refl (tt, (tt, (record { fits = room′ .0 }, tt)))) $
         move ! (13 ∷ 12 ∷ []) $
-        use2 W (raw (Settle 𝓤 H A mem run .pre (to-settle 𝓤 H A mem run κ₄ q₄ x′ (d .aside) (d .entry))))
-        (goes-settle 𝓤 H A mem run W κ₄ q₄ x′ (d .aside) (d .entry) (gap-fits (d .aside) (served-aside d (told-d d g₃)))
+        use2 W (raw (Append 𝓤 H A mem run .pre (to-append 𝓤 H A mem run κ₄ q₄ x′ (d .aside) (d .entry))))
+        (goes-append 𝓤 H A mem run W κ₄ q₄ x′ (d .aside) (d .entry) (gap-fits (d .aside) (served-aside d (told-d d g₃)))
         (last-fits (d .aside) (served-aside d (told-d d g₃))) (served-entry d (told-d d g₃)) (told (x .now) (x′ .now) is its .aside)) $
-        calls-at ! fm (Settle 𝓤 H A mem run) known-puts (to-settle 𝓤 H A mem run κ₄ q₄ x′ (d .aside) (d .entry))
+        calls-at ! fm (Append 𝓤 H A mem run) known-puts (to-append 𝓤 H A mem run κ₄ q₄ x′ (d .aside) (d .entry))
         (and-then ! (load ! (from ! (stop !)) (look ! 13 refl))
         (and-then ! (load ! (from ! (fld ! refl (fld ! refl (stop !)))) (look-in ! 39 (sub ! 0 refl (sub ! 2 refl (whole !)))))
         (and-then ! (load ! (from ! (fld ! refl (fld ! refl (stop !)))) (look-in ! 39 (sub ! 1 refl (sub ! 2 refl (whole !)))))
@@ -692,7 +692,7 @@ module _ {M : Type 1} (𝓤 : URA M) (H : Heap 𝓤) (A : Atoms 𝓤) (W : Given
 
 module _ {M : Type 1} (𝓤 : URA M) (H : Heap 𝓤) (A : Atoms 𝓤) (W : Given 𝓤 H A) (mem : Memory → SProp 𝓤) (run : Routine → Fun 𝓤) where
   serve-walks : (C : Calls 𝓤 H) (Λ : Loops 𝓤 H) → FmC 𝓤 H (W .laws) C → Triple 𝓤 (C #looks) (Look 𝓤 H A mem run)
-      → Triple 𝓤 (C #reads) (Read 𝓤 H A mem run) → Triple 𝓤 (C #puts) (Settle 𝓤 H A mem run)
+      → Triple 𝓤 (C #reads) (Read 𝓤 H A mem run) → Triple 𝓤 (C #puts) (Append 𝓤 H A mem run)
       → Triple 𝓤 (C #serves) (Serve 𝓤 H A mem run) → Walks 𝓤 H A f.ended stayed (WpFn 𝓤 H C Λ code.function) (f.clauses 𝓤 H A mem run)
   serve-walks C Λ fm known-looks known-reads known-puts known-serves =
       walked 𝓤 H A f.ended stayed (f.clauses 𝓤 H A mem run) (WpFn 𝓤 H C Λ code.function)
@@ -740,7 +740,7 @@ module _ {M : Type 1} (𝓤 : URA M) (H : Heap 𝓤) (A : Atoms 𝓤) (W : Given
 serve-meets : {M : Type 1} (𝓤 : URA M) (H : Heap 𝓤) (A : Atoms 𝓤) → Given 𝓤 H A
     → (mem : Memory → SProp 𝓤) (run : Routine → Fun 𝓤) (𝓣 : Tables 𝓤 H)
     → Triple 𝓤 (𝓣 .C #looks) (Look 𝓤 H A mem run) → Triple 𝓤 (𝓣 .C #reads) (Read 𝓤 H A mem run)
-    → Triple 𝓤 (𝓣 .C #puts) (Settle 𝓤 H A mem run) → Triple 𝓤 (𝓣 .C #serves) (Serve 𝓤 H A mem run)
+    → Triple 𝓤 (𝓣 .C #puts) (Append 𝓤 H A mem run) → Triple 𝓤 (𝓣 .C #serves) (Serve 𝓤 H A mem run)
     → Meets 𝓤 H A f.signature (WpFn 𝓤 H (𝓣 .C) (𝓣 .Λ) code.function) (f.spec 𝓤 H A mem run)
 serve-meets 𝓤 H A W mem run 𝓣 known-looks known-reads known-puts known-serves =
     walk-meets 𝓤 H A f.ended stayed W (
@@ -784,7 +784,7 @@ serve-spec 𝓤 H 𝓜 𝓖 𝓡 =
     (looks-thm.met 𝓤 H 𝓜 𝓖 𝓡))
     (cited 𝓤 H (Read 𝓤 H (𝓖 .A) (𝓜 .mem) (𝓡 .run)) 𝓜 𝓡 code.env #reads reads-def.routine code.calls-queue-entries·entry-at
     (reads-thm.met 𝓤 H 𝓜 𝓖 𝓡))
-    (cited 𝓤 H (Settle 𝓤 H (𝓖 .A) (𝓜 .mem) (𝓡 .run)) 𝓜 𝓡 code.env #puts puts-def.routine code.calls-queue-entries·settle
+    (cited 𝓤 H (Append 𝓤 H (𝓖 .A) (𝓜 .mem) (𝓡 .run)) 𝓜 𝓡 code.env #puts puts-def.routine code.calls-queue-entries·remove-then-append
     (puts-thm.met 𝓤 H 𝓜 𝓖 𝓡))
     (cited 𝓤 H (Serve 𝓤 H (𝓖 .A) (𝓜 .mem) (𝓡 .run)) 𝓜 𝓡 code.env #serves serves-def.routine code.calls-queue-turns·serve
     (serves-thm.met 𝓤 H 𝓜 𝓖 𝓡)))

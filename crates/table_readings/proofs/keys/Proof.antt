@@ -1,6 +1,6 @@
 -- `table_readings::keys` meets its contract: by the order, its keys.
 use borrow.Author.Needs.{needs}
-use Rattle.walks.specs.Walk.{keysOf}
+use Rattle.table_walk_keys.specs.Walk.{keysOf}
 use Rattle.table_readings.proofs.keys.Statement.{statement}
 use Rattle.table_readings.proofs.keys.Tie as tie
 

@@ -2,7 +2,7 @@
 use mathlib.Core.Path.{_∙_, ap, ap₂}
 use mathlib.Core.List.{[], _∷_}
 use borrow.Author.Needs.{needs}
-use Rattle.walks.specs.Walk.{longOf, keysOf}
+use Rattle.table_walk_keys.specs.Walk.{longOf, keysOf}
 use Rattle.table_readings.proofs.osp_keys.Statement.{statement}
 use Rattle.table_readings.proofs.osp_keys.Tie as tie
 

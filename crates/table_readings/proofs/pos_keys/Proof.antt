@@ -6,8 +6,8 @@ use native.Mathlib.Omega.{arith}
 use lib.ListN.{getD}
 use borrow.Author.Needs.{needs}
 use Rattle.tables.specs.Tables.{columnCount, predicateColumn, objectColumn}
-use Rattle.walks.specs.Walk.{longOf, keysOf, Words}
-use Rattle.walks.proofs.Keys.{second-of-pair, first-of-pair}
+use Rattle.table_walk_keys.specs.Walk.{longOf, keysOf, Words}
+use Rattle.table_walk_keys.proofs.Keys.{second-of-pair, first-of-pair}
 use Rattle.table_readings.proofs.pos_keys.Statement.{statement}
 use Rattle.table_readings.proofs.pos_keys.Tie as tie
 

@@ -11,8 +11,8 @@ use Rattle.tables.specs.declared.Order.the-variants.{Spo}
 use Rattle.tables.specs.Tables.{Tables, tablesOf, rowCount, lengthsRight, kindsRight, yearsRight, ascends, tableTests}
 use Rattle.tables.specs.Right.{Sized}
 use Rattle.tables.proofs.RightTables.{lengths-sized}
-use Rattle.walks.specs.Walk.{Words, OneYear}
-use Rattle.walks.proofs.Keys.{one-year}
+use Rattle.table_walk_keys.specs.Walk.{Words, OneYear}
+use Rattle.table_walk_keys.proofs.Keys.{one-year}
 use Rattle.table_tests.specs.Refusals.{refusalAfter, refusalWith}
 use Rattle.table_tests.proofs.RowKinds.{rows-alone}
 use Rattle.table_tests.proofs.Refusing.{lengths-first, orders-say, all-named, own-up, all-up, no-rows, refusal-with}

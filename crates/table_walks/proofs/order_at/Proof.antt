@@ -1,6 +1,6 @@
 -- `table_walks::order_at` meets its contract: by the number, one of the three.
 use borrow.Author.Needs.{needs}
-use Rattle.walks.proofs.Walking.{third-order}
+use Rattle.table_walk_keys.proofs.Walking.{third-order}
 use Rattle.table_walks.proofs.order_at.Statement.{statement}
 use Rattle.table_walks.proofs.order_at.Tie as tie
 

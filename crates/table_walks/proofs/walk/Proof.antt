@@ -12,10 +12,10 @@ use Rattle.words.specs.Sequences.{lexBefore}
 use Rattle.tables.specs.declared.Order.{Order}
 use Rattle.tables.specs.Tables.{Tables, tablesOf, rowCount, rowAt}
 use Rattle.tables.proofs.Sides.{from-end}
-use Rattle.walks.specs.Walk.{orderCount, keyCount, keysAt, orderRight, rightUpto, rightOrders}
-use Rattle.walks.proofs.Keys.{keys-length}
-use Rattle.walks.proofs.Walking.{read-row, read-keys, read-none, upto-first, upto-next, unnamed-fault, descent-fault}
-use Rattle.walks.proofs.Walking.{RightBefore, orders-none, orders-next, orders-fault, orders-all}
+use Rattle.table_walk_keys.specs.Walk.{orderCount, keyCount, keysAt, orderRight, rightUpto, rightOrders}
+use Rattle.table_walk_keys.proofs.Keys.{keys-length}
+use Rattle.table_walk_keys.proofs.Walking.{read-row, read-keys, read-none, upto-first, upto-next, unnamed-fault, descent-fault}
+use Rattle.table_walk_keys.proofs.Walking.{RightBefore, orders-none, orders-next, orders-fault, orders-all}
 use Rattle.table_walks.proofs.Columns.{column-says}
 use Rattle.table_walks.proofs.walk.Statement.{statement}
 use Rattle.table_walks.proofs.walk.Tie as tie

@@ -4,7 +4,7 @@ use native.Mathlib.Omega.{arith}
 use mathlib.Core.Path.{_≡_, _∙_, ap, ap₂}
 use Prim.Native.Nat.{_<_, max}
 use lib.ListN.{getD, set}
-use Rattle.hashes.specs.Hashes.{hashOf, pickedBy, rankIn}
+use Rattle.register_hashes.specs.Hashes.{hashOf, pickedBy, rankIn}
 use Rattle.registers.specs.Registers.{registerCount}
 use Rattle.list_registers.proofs.Raising.{raised}
 use Rattle.list_registers.proofs.values.raise.Statement.{statement}

@@ -6,7 +6,7 @@ use native.Mathlib.Omega.{arith}
 use lib.ListN.{length, take, drop}
 use borrow.Author.Tests.{eq-eqb, ne-eqb}
 use Rattle.plans.specs.Endings.{lastOf}
-use Rattle.plans.proofs.EndingForms.{form-neither, form-rows, form-top, form-group, form-registers, rows-room, rows-after, some-word}
+use Rattle.plans.proofs.EndingForms.{form-invalid, form-rows, form-top, form-group, form-registers, rows-room, rows-after, some-word}
 use Rattle.plan_ending_forms.proofs.endings.ending_form.Statement.{statement}
 use Rattle.plan_ending_forms.proofs.endings.ending_form.Tie as tie
 
@@ -240,7 +240,7 @@ returns-9 c =
     let t = c .before .before .last-of in
     let args = c .before .before .before .before .before .args in
     let first = c .before .before .before .first in
-    sym (form-neither (args .p .now) (t .result) (t .ensures ∙ ap lastOf (first .ensures)) (c .enum-told5 .given .1))
+    sym (form-invalid (args .p .now) (t .result) (t .ensures ∙ ap lastOf (first .ensures)) (c .enum-told5 .given .1))
 
 pub ending-form-spec : {M : Type 1} → statement M
 ending-form-spec =

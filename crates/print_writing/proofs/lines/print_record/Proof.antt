@@ -2,7 +2,7 @@
 use borrow.Author.Needs.{needs}
 use mathlib.Core.Path.{subst}
 use lib.ListN.{length}
-use Rattle.plans.specs.declared.Last.{Last}
+use Rattle.plans.specs.declared.EndingKind.{EndingKind}
 use Rattle.print_writing.specs.Listings.{HasWidth}
 use Rattle.print_writing.proofs.lines.print_record.Statement.{statement}
 use Rattle.print_writing.proofs.lines.print_record.Tie as tie
@@ -13,7 +13,7 @@ enum-told c = search needs
 print-row-requires : tie.Need-print-row-requires
 print-row-requires c κs =
     let s = c .before .before .before in
-    subst (λ (k : Last). HasWidth k (length (s .args .words .now))) (c .enum-told .given .1) (s .pre) .1
+    subst (λ (k : EndingKind). HasWidth k (length (s .args .words .now))) (c .enum-told .given .1) (s .pre) .1
 
 enum-told-2 : tie.Need-enum-told-2
 enum-told-2 c = search needs
@@ -21,7 +21,7 @@ enum-told-2 c = search needs
 print-row-requires-2 : tie.Need-print-row-requires-2
 print-row-requires-2 c κs =
     let s = c .before .before .before in
-    subst (λ (k : Last). HasWidth k (length (s .args .words .now))) (c .enum-told2 .given .1) (s .pre) .1
+    subst (λ (k : EndingKind). HasWidth k (length (s .args .words .now))) (c .enum-told2 .given .1) (s .pre) .1
 
 enum-told-3 : tie.Need-enum-told-3
 enum-told-3 c = search needs
@@ -29,7 +29,7 @@ enum-told-3 c = search needs
 print-group-requires : tie.Need-print-group-requires
 print-group-requires c κs =
     let s = c .before .before .before in
-    subst (λ (k : Last). HasWidth k (length (s .args .words .now))) (c .enum-told3 .given .1) (s .pre)
+    subst (λ (k : EndingKind). HasWidth k (length (s .args .words .now))) (c .enum-told3 .given .1) (s .pre)
 
 enum-told-4 : tie.Need-enum-told-4
 enum-told-4 c = search needs
@@ -37,7 +37,7 @@ enum-told-4 c = search needs
 print-registers-requires : tie.Need-print-registers-requires
 print-registers-requires c κs =
     let s = c .before .before .before in
-    subst (λ (k : Last). HasWidth k (length (s .args .words .now))) (c .enum-told4 .given .1) (s .pre)
+    subst (λ (k : EndingKind). HasWidth k (length (s .args .words .now))) (c .enum-told4 .given .1) (s .pre)
 
 enum-told-5 : tie.Need-enum-told-5
 enum-told-5 c = search needs

@@ -10,8 +10,8 @@ use Rattle.queues.specs.Lists.{lentAs}
 use Rattle.queues.specs.Serving.{Serving, queueTestsBy, serveOf}
 use Rattle.queue_changes.specs.Changes.{roomBy}
 use Rattle.queue_changes.proofs.Seeing.{roomy}
-use Rattle.queue_goings.specs.declared.ServeChanges.{ServeChanges}
-use Rattle.queue_goings.specs.Services.{Settles}
+use Rattle.queue_outcomes.specs.declared.ServeChanges.{ServeChanges}
+use Rattle.queue_outcomes.specs.Services.{Settles}
 use Rattle.queue_turns.proofs.Serves.{serve-number, not-served, passed, serve-refuses, serve-accepts}
 use Rattle.queue_turns.proofs.serving.serve.Statement.{statement}
 use Rattle.queue_turns.proofs.serving.serve.Tie as tie

@@ -7,7 +7,7 @@ use mathlib.Core.List.{List}
 use lib.ListN.{take}
 use lib.Seq.{length-take-le}
 use Rattle.turns.specs.Turns.{TurnResult, turnOf, turnInput}
-use Rattle.queue_goings.specs.Services.{entryWith}
+use Rattle.queue_outcomes.specs.Services.{entryWith}
 use Rattle.queue_turns.proofs.Plans.{planned-within, plan-read}
 use Rattle.queue_turns.proofs.Bounds.{bounded}
 use Rattle.queue_turns.proofs.turning.turn_entry.Statement.{statement}

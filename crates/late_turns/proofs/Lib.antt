@@ -1,2 +1,0 @@
-pub mod LateTurns
-pub mod OwnWay
