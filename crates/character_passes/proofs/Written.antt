@@ -6,7 +6,7 @@ use mathlib.Core.Path.{_≡_, sym, _∙_, ap}
 use mathlib.Core.List.{List, [], _∷_, _++_, append-assoc}
 use lib.ListN.{length, take, drop, set, take-append-drop}
 use lib.Seq.{take-suc-set, drop-set-lt, drop-drop, length-take-le}
-use Rattle.words.specs.Buffers.{Overwritten}
+use Rattle.sequences.specs.Buffers.{Overwritten}
 
 module _ (buffer : List ℕ) (n x : ℕ) (h : n < length buffer) where
   pub written-next : (whole rest : List ℕ) → whole ≡ take n buffer ++ (x ∷ rest) → whole ≡ take (n + 1) (set buffer n x) ++ rest

@@ -10,7 +10,7 @@ use mathlib.Core.List.{List, [], _∷_}
 use lib.Dec.{eqb, ltb}
 use lib.ListN.{length, getD, drop, drop-of-length-le, length-drop}
 use lib.Seq.{drop-cons, drop-drop}
-use Rattle.words.proofs.Booleans.{yes, no, decided}
+use Rattle.sequences.proofs.Booleans.{yes, no, decided}
 use Rattle.dictionaries.specs.Utf8.{Span, isIn, afterFirst, firstBits, sixMore}
 use Rattle.characters.specs.declared.Character.{Character}
 use Rattle.characters.specs.Sequences.{noPoint, sequenceFrom, sequenceBy, sequenceOf}

@@ -5,7 +5,7 @@ use mathlib.Core.Bool.{Bool, false, cond, _&&_, not}
 use mathlib.Core.List.{List, [], _∷_, _++_, map}
 use lib.Dec.{eqb}
 use lib.ListN.{length}
-use Rattle.words.specs.Buffers.{Overwritten}
+use Rattle.sequences.specs.Buffers.{Overwritten}
 use Rattle.characters.specs.declared.Character.{Character}
 use Rattle.characters.specs.Sequences.{sequenceOf}
 use Rattle.characters.specs.Escapes.{backslash, escapeOf}

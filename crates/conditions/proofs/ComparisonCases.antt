@@ -6,7 +6,7 @@ use mathlib.Core.Bool.{Bool, true, false, _||_}
 use lib.Dec.{eqb, ltb, leb}
 use borrow.Author.Tests.{eqb-true, eq-eqb, ne-eqb, lt-ltb, le-ltb, le-leb, lt-leb, ltb-true, ltb-false, leb-true, leb-false}
 use Rattle.words.specs.Words.{termKind, termValues, valueRank, keyRank, numberKind, textKind, variableKind}
-use Rattle.words.proofs.Booleans.{and-left, and-right}
+use Rattle.sequences.proofs.Booleans.{and-left, and-right}
 use Rattle.words.proofs.Ranks.{rank-bound}
 use Rattle.conditions.specs.declared.Truth.the-variants.{True, False, Error}
 use Rattle.conditions.specs.Truth.{ofTest, kindsAre, equality, inequality}

@@ -10,7 +10,7 @@ use lib.Seq.{drop-drop, getD-drop}
 use lib.Dec.{eqb, leb}
 use Rattle.words.specs.Words.{kind, low, trueKind, andKind, orKind, notKind, comparisonKind, lastOperator}
 use Rattle.words.specs.Bindings.{Bindings}
-use Rattle.words.proofs.Booleans.{absurd-true}
+use Rattle.sequences.proofs.Booleans.{absurd-true}
 use Rattle.plans.specs.declared.Node.{Node}
 use Rattle.plans.specs.declared.Node.the-variants.{Always, Pair, Negated, Compared, Wrong}
 use Rattle.plans.specs.Conditions.{Condition, always, both, either, negated, Read, next, pairOf, nodeOf, readNode, readCondition, mostDepth}

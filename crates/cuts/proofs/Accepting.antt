@@ -6,16 +6,16 @@ use lib.Dec.{eqb}
 use lib.ListN.{length}
 use Rattle.words.specs.Words.{isValue}
 use Rattle.words.specs.Bindings.{Bindings, variableCount}
-use Rattle.words.specs.Sequences.{all}
-use Rattle.words.proofs.Booleans.{and-right}
+use Rattle.sequences.specs.Sequences.{all}
+use Rattle.sequences.proofs.Booleans.{and-right}
 use Rattle.words.proofs.Testing.{all-passes, front-passes, rest-passes}
 use Rattle.tables.specs.Tables.{Tables, tableTests}
 use Rattle.plans.specs.Plans.{readPlan, planOf, planTests}
 use Rattle.plans.proofs.Bounds.{PlanForm, plan-form, was-read}
 use Rattle.steps.specs.Steps.{after}
 use Rattle.steps.proofs.Values.{after-valued}
-use Rattle.words.proofs.Each.{all-each}
-use Rattle.words.proofs.EachMore.{each-weaken}
+use Rattle.sequences.proofs.Each.{all-each}
+use Rattle.sequences.proofs.EachMore.{each-weaken}
 use Rattle.lists.proofs.Values.{AllValues}
 use Rattle.lists.proofs.Gatherings.{Gathering, gathering}
 use Rattle.turns.specs.Surveys.{Survey}

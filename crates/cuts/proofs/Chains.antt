@@ -6,7 +6,7 @@ use mathlib.Core.Bool.{Bool, true, false, _||_}
 use mathlib.Core.List.{List, [], _∷_, _++_, flatten, append-assoc, append-nil}
 use lib.ListN.{take}
 use Rattle.words.specs.Bindings.{Bindings}
-use Rattle.words.specs.Sequences.{iterate}
+use Rattle.sequences.specs.Sequences.{iterate}
 use Rattle.tables.specs.Tables.{Tables}
 use Rattle.plans.specs.Endings.{rows}
 use Rattle.plans.specs.Plans.{Plan}

@@ -14,9 +14,9 @@ use borrow.Author.Tests.{le-leb, leb-false}
 use Rattle.words.specs.declared.Written.the-variants.{Words, Refused}
 use Rattle.words.specs.Words.{isValue}
 use Rattle.words.specs.Bindings.{Bindings}
-use Rattle.words.specs.Sequences.{all}
+use Rattle.sequences.specs.Sequences.{all}
 use Rattle.words.specs.Tests.{firstFailing}
-use Rattle.words.proofs.Booleans.{absurd-true, and-both}
+use Rattle.sequences.proofs.Booleans.{absurd-true, and-both}
 use Rattle.words.proofs.Testing.{none-some, some-injective, fails-first}
 use Rattle.tables.specs.Tables.{Tables}
 use Rattle.plans.specs.Endings.{Ending, rows, top, group, registers}
@@ -24,7 +24,7 @@ use Rattle.plans.specs.Years.{yearAllowed}
 use Rattle.plans.specs.Plans.{Plan, planOf, hasForm, readPlan, variablesRight}
 use Rattle.steps.specs.Steps.{after}
 use Rattle.lists.specs.Gathering.{gathered, merged, takenInto, keptRight, listRight, totalsFit, rowsFit}
-use Rattle.words.proofs.EachMore.{each-right}
+use Rattle.sequences.proofs.EachMore.{each-right}
 use Rattle.lists.proofs.Values.{AllValues}
 use Rattle.lists.specs.Closing.{listAt}
 use Rattle.lists.proofs.Gatherings.{Valid, valid-kept}

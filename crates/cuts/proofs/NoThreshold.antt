@@ -4,7 +4,7 @@ use native.Mathlib.Omega.{arith}
 use mathlib.Core.Path.{_≡_, refl}
 use mathlib.Core.Bool.{true}
 use mathlib.Core.List.{List, [], _∷_}
-use Rattle.words.proofs.Each.{Each}
+use Rattle.sequences.proofs.Each.{Each}
 use Rattle.plans.specs.Endings.{Ending, rows, top, group, registers}
 use Rattle.lists.specs.Gathering.{thresholdRight}
 use Rattle.step_prunings.proofs.Sending.{KeepsNoBest, of-rows, of-groups, of-registers}

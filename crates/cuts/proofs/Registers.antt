@@ -2,7 +2,7 @@
 use Prim.Native.Nat.{ℕ, zero, suc}
 use mathlib.Core.Path.{_≡_, sym, _∙_, ap, subst, subst⁻¹}
 use mathlib.Core.List.{List, [], map}
-use Rattle.words.specs.Sequences.{iterate, numbers}
+use Rattle.sequences.specs.Sequences.{iterate, numbers}
 use Rattle.tables.specs.Tables.{Tables}
 use Rattle.plans.specs.Endings.{registers}
 use Rattle.plans.specs.Plans.{Plan, planOf}

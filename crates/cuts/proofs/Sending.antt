@@ -6,11 +6,11 @@ use mathlib.Core.Path.{_≡_, refl, _∙_, ap, subst, subst⁻¹}
 use mathlib.Core.Bool.{true}
 use mathlib.Core.List.{List, [], _∷_, map}
 use lib.Dec.{ltb}
-use Rattle.words.specs.Sequences.{all}
+use Rattle.sequences.specs.Sequences.{all}
 use Rattle.words.specs.Tests.{Test, FirstFails, here, there}
-use Rattle.words.proofs.Booleans.{absurd-true}
-use Rattle.words.proofs.Elements.{all-head, all-tail}
-use Rattle.words.proofs.Each.{each-append}
+use Rattle.sequences.proofs.Booleans.{absurd-true}
+use Rattle.sequences.proofs.Elements.{all-head, all-tail}
+use Rattle.sequences.proofs.Each.{each-append}
 use Rattle.plans.specs.Plans.{planOf}
 use Rattle.lists.specs.Thresholds.{Sent, absent}
 use Rattle.turns.specs.Surveys.{Survey}

@@ -11,7 +11,7 @@ use lib.Dec.{leb}
 use lib.ListN.{length, length-append}
 use lib.Seq.{take-append-seam}
 use borrow.Author.Tests.{leb-true, le-leb}
-use Rattle.words.proofs.Booleans.{and-left, and-right, and-both}
+use Rattle.sequences.proofs.Booleans.{and-left, and-right, and-both}
 use Rattle.words.proofs.Testing.{all-passes, front-passes, rest-passes}
 use Rattle.tables.specs.Tables.{tableTests}
 use Rattle.plans.specs.Plans.{readPlan, planTests}

@@ -10,7 +10,7 @@ use lib.Seq.{take-append-seam}
 use Rattle.words.specs.declared.Written.{Written}
 use Rattle.words.specs.declared.Written.the-variants.{Words, Refused}
 use Rattle.words.specs.Answers.{wordsIn}
-use Rattle.words.proofs.Booleans.{and-left, and-right}
+use Rattle.sequences.proofs.Booleans.{and-left, and-right}
 use Rattle.tables.specs.Tables.{Tables}
 use Rattle.plans.specs.Endings.{Ending, rows, top, group, registers}
 use Rattle.plans.specs.Plans.{Plan, planOf}

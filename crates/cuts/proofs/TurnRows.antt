@@ -5,7 +5,7 @@ use native.Mathlib.Omega.{arith}
 use mathlib.Core.Path.{_≡_, refl, sym, _∙_, ap}
 use mathlib.Core.List.{List, [], _∷_, _++_, append-assoc, append-nil}
 use Rattle.words.specs.Bindings.{Bindings}
-use Rattle.words.specs.Sequences.{iterate}
+use Rattle.sequences.specs.Sequences.{iterate}
 use Rattle.tables.specs.Tables.{Tables}
 use Rattle.plans.specs.Plans.{Plan, planOf}
 use Rattle.steps.specs.Steps.{Run, after}

@@ -9,8 +9,8 @@ use lib.Dec.{leb}
 use lib.ListN.{length}
 use lib.Seq.{take-append-seam}
 use Rattle.words.specs.Bindings.{Bindings}
-use Rattle.words.specs.Sequences.{iterate}
-use Rattle.words.proofs.Booleans.{absurd-true, and-right}
+use Rattle.sequences.specs.Sequences.{iterate}
+use Rattle.sequences.proofs.Booleans.{absurd-true, and-right}
 use Rattle.tables.specs.Tables.{Tables}
 use Rattle.plans.specs.Endings.{Ending, rows, top, group, registers}
 use Rattle.plans.specs.Plans.{Plan, planOf}

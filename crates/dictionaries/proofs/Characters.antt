@@ -7,8 +7,8 @@ use mathlib.Core.Option.{Option, none, some}
 use mathlib.Core.List.{List, [], _∷_}
 use lib.Dec.{leb}
 use borrow.Author.Tests.{leb-true}
-use Rattle.words.proofs.Booleans.{and-left, and-right, yes, no, decided}
-use Rattle.words.proofs.Each.{Each}
+use Rattle.sequences.proofs.Booleans.{and-left, and-right, yes, no, decided}
+use Rattle.sequences.proofs.Each.{Each}
 use Rattle.dictionaries.specs.Utf8.{Span, span, isIn, trailing, Utf8Row, utf8Table, afterIn, afterFirst}
 use Rattle.dictionaries.specs.Utf8.{formedFrom, wellFormed, firstBits, sixMore, codePointsFrom, codePoints}
 

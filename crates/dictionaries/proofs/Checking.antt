@@ -8,9 +8,9 @@ use mathlib.Core.List.{List, _∷_}
 use lib.Dec.{eqb, ltb, leb}
 use lib.ListN.{length}
 use borrow.Author.Tests.{lt-ltb, ne-eqb}
-use Rattle.words.specs.Sequences.{all, neighbours, member}
-use Rattle.words.proofs.Booleans.{absurd-true, and-left, and-right, and-both}
-use Rattle.words.proofs.Elements.{all-weaken}
+use Rattle.sequences.specs.Sequences.{all, neighbours, member}
+use Rattle.sequences.proofs.Booleans.{absurd-true, and-left, and-right, and-both}
+use Rattle.sequences.proofs.Elements.{all-weaken}
 use Rattle.dictionaries.specs.declared.StringKind.{StringKind}
 use Rattle.dictionaries.specs.declared.StringKind.the-variants.{Names, Texts}
 use Rattle.dictionaries.specs.Strings.{stringBefore}

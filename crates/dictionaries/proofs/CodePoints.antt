@@ -7,7 +7,7 @@ use mathlib.Core.List.{List, _∷_}
 use Rattle.dictionaries.specs.Strings.{stringBefore}
 use Rattle.dictionaries.specs.Utf8.{wellFormed, codePoints}
 use Rattle.dictionaries.proofs.Strings.{before-less, before-same, before-more, before-none, before-some, before-equal, before-self, heads}
-use Rattle.words.proofs.Each.{Each}
+use Rattle.sequences.proofs.Each.{Each}
 use Rattle.dictionaries.proofs.Characters.{Utf8Text, end, one, two, three, four, text-of}
 
 text-order : {xs cs ys ds : List ℕ} → Utf8Text xs cs → Utf8Text ys ds → stringBefore xs ys ≡ stringBefore cs ds

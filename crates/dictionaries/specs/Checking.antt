@@ -5,7 +5,7 @@ use mathlib.Core.Bool.{Bool, true, _&&_, not}
 use mathlib.Core.List.{List, [], _∷_}
 use lib.Dec.{ltb, leb}
 use lib.ListN.{length}
-use Rattle.words.specs.Sequences.{all, neighbours, member}
+use Rattle.sequences.specs.Sequences.{all, neighbours, member}
 use Rattle.dictionaries.specs.declared.StringKind.{StringKind}
 use Rattle.dictionaries.specs.declared.StringKind.the-variants.{Names, Texts}
 use Rattle.dictionaries.specs.Strings.{stringBefore}

@@ -5,7 +5,7 @@ use mathlib.Core.Bool.{Bool, true, false, cond, _&&_, _||_}
 use mathlib.Core.List.{List, [], _∷_}
 use lib.Dec.{eqb, ltb, leb}
 use lib.ListN.{length, take, drop, getD}
-use Rattle.words.specs.Sequences.{all, neighbours}
+use Rattle.sequences.specs.Sequences.{all, neighbours}
 use Rattle.dictionaries.specs.Strings.{stringBefore, sameString}
 use Rattle.dictionaries.specs.Utf8.{wellFormed}
 

@@ -7,8 +7,8 @@ use mathlib.Core.Option.{none, some}
 use mathlib.Core.List.{List}
 use lib.Dec.{ltb}
 use Rattle.words.specs.Tests.{firstFailing}
-use Rattle.words.proofs.Booleans.{Decided, yes, no, decided}
-use Rattle.words.proofs.Ascending.{Ascending, neighbours-ascending}
+use Rattle.sequences.proofs.Booleans.{Decided, yes, no, decided}
+use Rattle.sequences.proofs.Ascending.{Ascending, neighbours-ascending}
 use Rattle.calls.specs.Calls.{CallSchema, CallResult, RightCall, CallRefusals, AnswersRight, resultOfCall}
 use Rattle.calls.proofs.Refusals.{by-number, by-none, call-told, call-refusals}
 use Rattle.dictionaries.specs.declared.StringKind.{StringKind}

@@ -7,7 +7,7 @@ use mathlib.Core.List.{List, _∷_}
 use lib.Dec.{ltb}
 use lib.ListN.{length, getD}
 use borrow.Author.Tests.{lt-ltb, le-ltb, ltb-true, ltb-false}
-use Rattle.words.proofs.Booleans.{Decided, yes, no, decided}
+use Rattle.sequences.proofs.Booleans.{Decided, yes, no, decided}
 use Rattle.calls.specs.Calls.{CallResult, RightCall, CallRefusals, resultOfCall}
 use Rattle.calls.proofs.Refusals.{by-number, by-none, call-told, call-refusals}
 use Rattle.dictionaries.specs.Dictionaries.{byteRange}

@@ -7,7 +7,7 @@ use mathlib.Core.List.{List, [], _∷_, flatten}
 use lib.ListN.{length, take, drop, length-append}
 use lib.Seq.{take-append-seam, drop-append-seam, drop-drop}
 use borrow.Author.Tests.{le-leb, eq-eqb}
-use Rattle.words.proofs.Booleans.{and-both}
+use Rattle.sequences.proofs.Booleans.{and-both}
 use Rattle.dictionaries.specs.Dictionaries.{stringsFrom, endsRight}
 use Rattle.dictionary_numberings.specs.Numbering.{endsAfter}
 

@@ -8,11 +8,11 @@ use mathlib.Core.List.{List, []}
 use lib.Dec.{ltb, leb}
 use lib.ListN.{length, getD, length-map}
 use borrow.Author.Tests.{leb-true, le-leb, lt-ltb, ltb-true}
-use Rattle.words.specs.Sequences.{all, neighbours}
-use Rattle.words.proofs.Booleans.{and-left, and-right, and-both}
-use Rattle.words.proofs.Each.{all-each, each-all}
-use Rattle.words.proofs.Somewhere.{map-at}
-use Rattle.words.proofs.Ascending.{Ascending, ascending-neighbours}
+use Rattle.sequences.specs.Sequences.{all, neighbours}
+use Rattle.sequences.proofs.Booleans.{and-left, and-right, and-both}
+use Rattle.sequences.proofs.Each.{all-each, each-all}
+use Rattle.sequences.proofs.Somewhere.{map-at}
+use Rattle.sequences.proofs.Ascending.{Ascending, ascending-neighbours}
 use Rattle.dictionaries.specs.declared.StringKind.{StringKind}
 use Rattle.dictionaries.specs.declared.Lookup.the-variants.{At}
 use Rattle.dictionaries.specs.Strings.{stringBefore}

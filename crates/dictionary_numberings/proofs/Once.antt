@@ -5,9 +5,9 @@ use mathlib.Core.Path.{_≡_, refl, sym, _∙_, ap}
 use mathlib.Core.Bool.{Bool, true, false, _||_}
 use mathlib.Core.List.{List, [], _∷_}
 use lib.ListN.{length}
-use Rattle.words.proofs.Booleans.{Decided, yes, no, decided}
-use Rattle.words.proofs.Each.{Each}
-use Rattle.words.proofs.Ascending.{Ascending, ahead-less}
+use Rattle.sequences.proofs.Booleans.{Decided, yes, no, decided}
+use Rattle.sequences.proofs.Each.{Each}
+use Rattle.sequences.proofs.Ascending.{Ascending, ahead-less}
 use Rattle.dictionaries.specs.Strings.{stringBefore, sameString}
 use Rattle.dictionaries.specs.Dictionaries.{isAmong}
 use Rattle.dictionaries.proofs.Strings.{before-equal, before-ordered}

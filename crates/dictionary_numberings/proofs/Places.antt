@@ -6,11 +6,11 @@ use mathlib.Core.Bool.{Bool, true, false, _||_}
 use mathlib.Core.List.{List, [], _∷_, _++_, map, map-append}
 use lib.ListN.{length, getD, take}
 use lib.Seq.{take-suc, take-all}
-use Rattle.words.specs.Sequences.{numbers}
-use Rattle.words.specs.Sorting.{insertBy, insertAllBy, sortBy}
-use Rattle.words.proofs.Booleans.{yes, no, decided}
-use Rattle.words.proofs.EachMore.{each-mapped}
-use Rattle.words.proofs.Sorting.{Sorted, sorted-sort}
+use Rattle.sequences.specs.Sequences.{numbers}
+use Rattle.sequences.specs.Sorting.{insertBy, insertAllBy, sortBy}
+use Rattle.sequences.proofs.Booleans.{yes, no, decided}
+use Rattle.sequences.proofs.EachMore.{each-mapped}
+use Rattle.sequences.proofs.Sorting.{Sorted, sorted-sort}
 use Rattle.dictionaries.specs.Strings.{stringBefore, sameString}
 use Rattle.dictionaries.specs.Dictionaries.{stringsOf, isAmong, placeBefore}
 use Rattle.dictionaries.proofs.Searching.{place-ordered, strings-length}

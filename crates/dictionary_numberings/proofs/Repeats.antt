@@ -4,11 +4,11 @@ use mathlib.Core.Path.{_≡_, refl, sym, _∙_, ap, ap₂}
 use mathlib.Core.Bool.{Bool, true, false, _||_}
 use mathlib.Core.Logic.{inl}
 use mathlib.Core.List.{List, [], _∷_}
-use Rattle.words.proofs.Booleans.{absurd-true, Decided, yes, no, decided}
-use Rattle.words.proofs.Each.{Each}
-use Rattle.words.proofs.EachMore.{each-weaken}
-use Rattle.words.proofs.Ascending.{Ahead, Ascending}
-use Rattle.words.proofs.Sorting.{Sorted}
+use Rattle.sequences.proofs.Booleans.{absurd-true, Decided, yes, no, decided}
+use Rattle.sequences.proofs.Each.{Each}
+use Rattle.sequences.proofs.EachMore.{each-weaken}
+use Rattle.sequences.proofs.Ascending.{Ahead, Ascending}
+use Rattle.sequences.proofs.Sorting.{Sorted}
 use Rattle.dictionaries.specs.Strings.{stringBefore, sameString}
 use Rattle.dictionaries.specs.Dictionaries.{isAmong}
 use Rattle.dictionaries.proofs.Strings.{before-equal, before-ordered, same-self, same-equal}

@@ -6,7 +6,7 @@ use mathlib.Core.Logic.{_↔_}
 use mathlib.Core.List.{List, [], _∷_, map, flatten}
 use lib.Dec.{leb}
 use lib.ListN.{length, getD}
-use Rattle.words.specs.Sequences.{all}
+use Rattle.sequences.specs.Sequences.{all}
 use Rattle.dictionaries.specs.declared.StringKind.{StringKind}
 use Rattle.dictionaries.specs.Strings.{stringBefore}
 use Rattle.dictionaries.specs.Dictionaries.{stringsOf, mostStrings, stringRank, isAmong}

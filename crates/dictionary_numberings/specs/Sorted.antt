@@ -3,8 +3,8 @@ use Prim.Native.Nat.{ℕ}
 use mathlib.Core.Bool.{cond}
 use mathlib.Core.List.{List, [], _∷_, map}
 use lib.ListN.{length, getD}
-use Rattle.words.specs.Sequences.{numbers}
-use Rattle.words.specs.Sorting.{sortBy}
+use Rattle.sequences.specs.Sequences.{numbers}
+use Rattle.sequences.specs.Sorting.{sortBy}
 use Rattle.dictionaries.specs.Strings.{stringBefore}
 use Rattle.dictionaries.specs.Dictionaries.{stringsOf, placeBefore}
 

@@ -9,8 +9,8 @@ use lib.Dec.{eqb}
 use lib.ListN.{length, getD, drop, drop-of-length-le}
 use lib.Seq.{drop-cons}
 use borrow.Author.Tests.{le-ltb, le-leb, lt-leb, eqb-true, eqb-false}
-use Rattle.words.proofs.Booleans.{or-left, or-right, Decided, yes, no, decided}
-use Rattle.words.specs.Sequences.{all, neighbours}
+use Rattle.sequences.proofs.Booleans.{or-left, or-right, Decided, yes, no, decided}
+use Rattle.sequences.specs.Sequences.{all, neighbours}
 use Rattle.dictionaries.specs.Dictionaries.{endsRight}
 use Rattle.dictionaries.specs.Checking.{iriCharacter}
 use Rattle.dictionaries.proofs.Checking.{or-rest}

@@ -11,7 +11,7 @@ ghost use mathlib.Core.Bool.{true, _&&_, _||_};
 ghost use Prim.Native.Nat.{_+_, _<_};
 ghost use lib.Dec.{eqb};
 ghost use lib.ListN.{length};
-ghost use Rattle.words.specs.Sequences.{all, neighbours};
+ghost use Rattle.sequences.specs.Sequences.{all, neighbours};
 ghost use Rattle.dictionaries.specs.Strings.{stringBefore};
 ghost use Rattle.dictionaries.specs.Dictionaries.{stringsOf, endsRight, placeBefore};
 ghost use Rattle.dictionaries.specs.Checking.{stringRight, dictionaryRight};

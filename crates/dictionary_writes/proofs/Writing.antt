@@ -9,9 +9,9 @@ use lib.Dec.{eqb}
 use lib.ListN.{length, getD, set, take, drop, length-set, length-append, length-map, take-append-drop, drop-of-length-le}
 use lib.Seq.{paste, length-paste, take-paste, drop-paste, take-suc-set, drop-set-lt, drop-drop, drop-cons, take-all, length-take-le}
 use borrow.Author.Tests.{eqb-true, eqb-false}
-use Rattle.words.specs.Sequences.{over}
-use Rattle.words.proofs.Somewhere.{map-at}
-use Rattle.words.proofs.Booleans.{or-left, or-right, Decided, yes, no, decided}
+use Rattle.sequences.specs.Sequences.{over}
+use Rattle.sequences.proofs.Somewhere.{map-at}
+use Rattle.sequences.proofs.Booleans.{or-left, or-right, Decided, yes, no, decided}
 use Rattle.dictionaries.specs.Strings.{stringBefore}
 use Rattle.dictionaries.proofs.Checking.{or-rest}
 use Rattle.dictionary_numberings.specs.Numbering.{endsAfter}

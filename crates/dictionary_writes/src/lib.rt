@@ -8,7 +8,7 @@ ghost use Prim.Native.Nat.{_+_, _≤_, _<_};
 ghost use lib.Dec.{eqb};
 ghost use lib.ListN.{length, getD};
 ghost use lib.Seq.{paste};
-ghost use Rattle.words.specs.Sequences.{all, over};
+ghost use Rattle.sequences.specs.Sequences.{all, over};
 ghost use Rattle.dictionaries.specs.Dictionaries.{endsRight, hasString, placeBefore};
 ghost use Rattle.dictionary_numberings.specs.Numbering.{endsAfter};
 ghost use Rattle.dictionary_numberings.specs.Sorted.{lastOfEach, stringsAt};

@@ -10,10 +10,10 @@ use lib.ListN.{length}
 use lib.IntN.{ℤ, pos, negsuc}
 use borrow.Author.Tests.{eq-eqb, ne-eqb, lt-ltb, le-ltb, ltb-true, leb-true}
 use Rattle.words.specs.Words as words
-use Rattle.words.proofs.Booleans.{absurd-true, Decided, decided}
+use Rattle.sequences.proofs.Booleans.{absurd-true, Decided, decided}
 use Rattle.words.proofs.Signed.{below, above, sub-same}
-use Rattle.words.proofs.Ascending.{neighbours-ascending}
-use Rattle.words.proofs.Somewhere.{map-at}
+use Rattle.sequences.proofs.Ascending.{neighbours-ascending}
+use Rattle.sequences.proofs.Somewhere.{map-at}
 use Rattle.plans.specs.Conditions.{next}
 use Rattle.dictionaries.specs.declared.Lookup.{Lookup}
 use Rattle.dictionaries.specs.declared.Lookup.the-variants.{At, Absent}

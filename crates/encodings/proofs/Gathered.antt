@@ -8,10 +8,10 @@ use mathlib.Core.List.{List, [], _∷_, _++_, map, flatten, append-assoc}
 use lib.ListN.{length, take, drop, length-append}
 use borrow.Author.Tests.{eq-eqb, le-leb}
 use Rattle.words.specs.Words as words
-use Rattle.words.specs.Sequences.{all, neighbours}
-use Rattle.words.proofs.Booleans.{and-left, and-right, yes, no, decided}
-use Rattle.words.proofs.Each.{Each, all-each, each-all}
-use Rattle.words.proofs.Ascending.{Ahead, Ascending, ascending-neighbours}
+use Rattle.sequences.specs.Sequences.{all, neighbours}
+use Rattle.sequences.proofs.Booleans.{and-left, and-right, yes, no, decided}
+use Rattle.sequences.proofs.Each.{Each, all-each, each-all}
+use Rattle.sequences.proofs.Ascending.{Ahead, Ascending, ascending-neighbours}
 use Rattle.dictionaries.specs.Strings.{stringBefore, sameString}
 use Rattle.dictionaries.specs.Utf8.{wellFormed}
 use Rattle.dictionaries.specs.Dictionaries.{byteRange, stringsFrom, stringsOf, endsRight, RightDictionary, mostStrings, stringRank, isAmong}

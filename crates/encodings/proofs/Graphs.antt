@@ -10,7 +10,7 @@ use lib.Dec.{eqb}
 use lib.IntN.{pos}
 use borrow.Author.Tests.{eqb-true, eqb-false, eq-eqb, ne-eqb}
 use Rattle.words.specs.Words as words
-use Rattle.words.proofs.Booleans.{Decided, yes, no, decided}
+use Rattle.sequences.proofs.Booleans.{Decided, yes, no, decided}
 use Rattle.tables.specs.Tables.{Tables}
 use Rattle.plans.specs.Plans.{Plan}
 use Rattle.sparql.specs.Terms.{iri, integer, TripleOver, sameTriple}

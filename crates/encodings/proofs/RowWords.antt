@@ -6,9 +6,9 @@ use mathlib.Core.Option.{Option, none, some}
 use mathlib.Core.List.{List, [], _∷_, map, flatten}
 use lib.ListN.{length, getD, length-map}
 use lib.IntN.{pos}
-use Rattle.words.proofs.Each.{Each, each-map}
-use Rattle.words.proofs.Flattening.{Wide, length-flatten, flatten-at}
-use Rattle.words.proofs.Somewhere.{map-at}
+use Rattle.sequences.proofs.Each.{Each, each-map}
+use Rattle.sequences.proofs.Flattening.{Wide, length-flatten, flatten-at}
+use Rattle.sequences.proofs.Somewhere.{map-at}
 use Rattle.tables.specs.declared.Order.the-variants.{Spo}
 use Rattle.tables.specs.Tables.{columnCount, fieldOf, fieldsOf}
 use Rattle.sparql.specs.Terms.{iri, integer}

@@ -7,10 +7,10 @@ use mathlib.Core.Option.{some}
 use mathlib.Core.List.{List, []}
 use lib.Dec.{eqb}
 use Rattle.words.specs.Words as words
-use Rattle.words.proofs.Elements.{same-test}
-use Rattle.words.proofs.Each.{all-each}
-use Rattle.words.proofs.Ascending.{neighbours-ascending}
-use Rattle.words.proofs.Somewhere.{each-at}
+use Rattle.sequences.proofs.Elements.{same-test}
+use Rattle.sequences.proofs.Each.{all-each}
+use Rattle.sequences.proofs.Ascending.{neighbours-ascending}
+use Rattle.sequences.proofs.Somewhere.{each-at}
 use Rattle.dictionaries.specs.declared.Lookup.{Lookup}
 use Rattle.dictionaries.specs.declared.Lookup.the-variants.{At, Absent}
 use Rattle.dictionaries.specs.Strings.{sameString}

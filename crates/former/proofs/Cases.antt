@@ -10,7 +10,7 @@ use Rattle.conditions.specs.Computing as conditions
 use Rattle.steps.specs.Computing as steps
 use Rattle.registers.specs.Computing as registers
 use Rattle.lists.specs.Computing as lists
-use Rattle.words.proofs.Elements.{all-getD}
+use Rattle.sequences.proofs.Elements.{all-getD}
 use Rattle.plans.specs.Plans.{planOf, branchAt}
 use Rattle.conditions.specs.Former.{formerInequality}
 use Rattle.lists.specs.Former.{formerRowBefore, formerKeysBefore}

@@ -3,7 +3,7 @@ use Prim.Native.Nat.{ℕ}
 use mathlib.Core.Path.{_≡_, refl, sym, _∙_, ap}
 use mathlib.Core.Bool.{true}
 use mathlib.Core.List.{List, []}
-use Rattle.words.proofs.Booleans.{absurd-true}
+use Rattle.sequences.proofs.Booleans.{absurd-true}
 use Rattle.plans.specs.Plans.{Plan, planOf}
 use Rattle.tables.specs.Tables.{Tables}
 use Rattle.steps.specs.Steps.{Run, after}

@@ -11,11 +11,11 @@ use borrow.Author.Tests.{eqb-true, eq-eqb, ne-eqb, ltb-true}
 use Rattle.words.specs.Words.{termKind, termValue, numberKind, isNumber, isVariable, numberValue, unbound}
 use Rattle.words.specs.Former.{Former, formerRank}
 use Rattle.words.specs.Bindings.{Bindings, valueOf}
-use Rattle.words.specs.Sequences.{all}
-use Rattle.words.proofs.Booleans.{Decided, yes, no, decided, and-right}
-use Rattle.words.proofs.Elements.{all-head, all-tail}
-use Rattle.words.proofs.Each.{Each}
-use Rattle.words.proofs.EachMore.{each-weaken}
+use Rattle.sequences.specs.Sequences.{all}
+use Rattle.sequences.proofs.Booleans.{Decided, yes, no, decided, and-right}
+use Rattle.sequences.proofs.Elements.{all-head, all-tail}
+use Rattle.sequences.proofs.Each.{Each}
+use Rattle.sequences.proofs.EachMore.{each-weaken}
 use Rattle.words.proofs.Former.{value-as-before}
 use Rattle.lists.specs.Rows.{project}
 use Rattle.lists.specs.Sums.{longValues, halfLongs}

@@ -6,11 +6,11 @@ use mathlib.Core.List.{List, [], map, map-id, flatten}
 use lib.ListN.{take}
 use Rattle.words.specs.Words.{isVariable}
 use Rattle.words.specs.Bindings.{Bindings}
-use Rattle.words.specs.Sequences.{all}
-use Rattle.words.specs.Sorting.{sortBy, bestBy}
-use Rattle.words.proofs.Each.{Each}
-use Rattle.words.proofs.EachMore.{each-weaken, each-mapped}
-use Rattle.words.proofs.SortedMaps.{sort-map}
+use Rattle.sequences.specs.Sequences.{all}
+use Rattle.sequences.specs.Sorting.{sortBy, bestBy}
+use Rattle.sequences.proofs.Each.{Each}
+use Rattle.sequences.proofs.EachMore.{each-weaken, each-mapped}
+use Rattle.sequences.proofs.SortedMaps.{sort-map}
 use Rattle.plans.specs.Endings.{Ending, rows, top, group, registers}
 use Rattle.plans.proofs.Bounds.{EndingForm}
 use Rattle.lists.specs.Rows.{project, rowBefore, ahead}

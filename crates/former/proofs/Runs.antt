@@ -9,12 +9,12 @@ use borrow.Author.Tests.{eqb-true, eq-eqb, lt-ltb, ltb-true, leb-true}
 use Rattle.words.specs.Words.{termKind, termValue, numberKind, halfValues, isNumber, isVariable, unbound}
 use Rattle.words.specs.Former.{Former}
 use Rattle.words.specs.Bindings.{Bindings, variableCount, valueOf}
-use Rattle.words.specs.Sequences.{all}
+use Rattle.sequences.specs.Sequences.{all}
 use Rattle.words.specs.Tests.{firstFailing}
-use Rattle.words.proofs.Booleans.{yes, no, decided, and-left, and-right, and-both}
-use Rattle.words.proofs.Elements.{all-getD}
-use Rattle.words.proofs.Each.{Each, all-each}
-use Rattle.words.proofs.EachMore.{each-weaken}
+use Rattle.sequences.proofs.Booleans.{yes, no, decided, and-left, and-right, and-both}
+use Rattle.sequences.proofs.Elements.{all-getD}
+use Rattle.sequences.proofs.Each.{Each, all-each}
+use Rattle.sequences.proofs.EachMore.{each-weaken}
 use Rattle.tables.specs.Tables.{Tables, columnCount, fieldOf, tableTests}
 use Rattle.tables.proofs.RightTables.{right}
 use Rattle.plans.specs.Plans.{Plan, branchAt}

@@ -7,8 +7,8 @@ use lib.Dec.{eqb, ltb, leb}
 use Rattle.words.specs.Words.{termValue, isNumber, unbound}
 use Rattle.words.specs.Former.{formerRank}
 use Rattle.words.specs.Bindings.{Bindings, valueOf}
-use Rattle.words.specs.Sequences.{all}
-use Rattle.words.specs.Sorting.{bestBy}
+use Rattle.sequences.specs.Sequences.{all}
+use Rattle.sequences.specs.Sorting.{bestBy}
 use Rattle.plans.specs.Endings.{Ending, rows, top, group, registers}
 use Rattle.registers.specs.Registers.{registersOf}
 use Rattle.lists.specs.Rows.{project, boundValues}

@@ -7,11 +7,11 @@ use mathlib.Core.List.{List, [], _∷_, _++_, map, flatten, append-nil, map-appe
 use lib.ListN.{length, take}
 use borrow.Author.Tests.{le-leb}
 use Rattle.words.specs.Bindings.{Bindings}
-use Rattle.words.specs.Sequences.{all, keep, distinct}
-use Rattle.words.proofs.Booleans.{absurd-true, and-right, Decided, yes, no, decided}
+use Rattle.sequences.specs.Sequences.{all, keep, distinct}
+use Rattle.sequences.proofs.Booleans.{absurd-true, and-right, Decided, yes, no, decided}
 use Rattle.plans.specs.Endings.{top, keyAmong, endingRight}
 use Rattle.plans.proofs.Bounds.{TopForm}
-use Rattle.words.specs.Sorting.{insertBy, insertAllBy, sortBy, bestBy}
+use Rattle.sequences.specs.Sorting.{insertBy, insertAllBy, sortBy, bestBy}
 use Rattle.lists.specs.Rows.{project, rowBefore, ahead}
 use Rattle.lists.specs.Gathering.{gathered, leastOutput, thresholdRight}
 use Rattle.lists.specs.Delivering.{isAhead, withRow}
@@ -20,7 +20,7 @@ use Rattle.lists.specs.Putting.{Taken, Listed}
 use Rattle.list_best.specs.BestLists.{TopParts, BestList, Deliverable}
 use Rattle.lists.proofs.Leaving.{ahead-all, ahead-row}
 use Rattle.lists.proofs.Counts.{keep-append}
-use Rattle.words.proofs.Sorting.{take-insert, sort-append, sorted-best, length-best}
+use Rattle.sequences.proofs.Sorting.{take-insert, sort-append, sorted-best, length-best}
 use Rattle.lists.proofs.RowOrder.{rows-ordered}
 use Rattle.lists.proofs.TopLists.{bestRows, wide-rows, records-gathered}
 use Rattle.list_best.proofs.BestWords.{best-rows}

@@ -10,9 +10,9 @@ use lib.ListN.{length, take, drop, take-append-drop}
 use lib.Seq.{length-take-le}
 use borrow.Author.Tests.{eqb-true}
 use Rattle.words.specs.Bindings.{Bindings, nothingBound}
-use Rattle.words.specs.Sequences.{over}
-use Rattle.words.proofs.Booleans.{and-left, yes, no, decided}
-use Rattle.words.proofs.Buffers.{take-over}
+use Rattle.sequences.specs.Sequences.{over}
+use Rattle.sequences.proofs.Booleans.{and-left, yes, no, decided}
+use Rattle.sequences.proofs.Buffers.{take-over}
 use Rattle.plans.specs.Endings.{top}
 use Rattle.lists.specs.Rows.{project, rowBefore}
 use Rattle.lists.specs.Gathering.{thresholdRight}

@@ -9,19 +9,19 @@ use mathlib.Core.List.{List, [], _∷_, _++_, flatten, append-nil}
 use lib.ListN.{length, take, length-append, length-take}
 use lib.Seq.{take-all}
 use Rattle.plans.specs.Endings.{top}
-use Rattle.words.specs.Sorting.{insertBy, insertAllBy, sortBy, bestBy}
+use Rattle.sequences.specs.Sorting.{insertBy, insertAllBy, sortBy, bestBy}
 use Rattle.lists.specs.Rows.{rowBefore}
 use Rattle.lists.specs.Gathering.{recordsIn, merged}
 use Rattle.lists.specs.Delivering.{withBest}
 use Rattle.list_best.specs.BestLists.{BestList}
 use Rattle.lists.proofs.Records.{wide-append, wide-records, wide-best, length-records, length-flatten, flatten-records, records-nil}
-use Rattle.words.proofs.Sorting.{Sorted, take-insertAll, sort-append, sort-stays, sorted-insert, sorted-take}
+use Rattle.sequences.proofs.Sorting.{Sorted, take-insertAll, sort-append, sort-stays, sorted-insert, sorted-take}
 use Rattle.list_best_places.proofs.Placing.{length-insert}
 use Rattle.lists.proofs.RowOrder.{rows-ordered}
 use Rattle.list_best_places.proofs.RowWords.{records-cons}
 use Rattle.lists.proofs.TopLists.{merged-top}
 use Rattle.list_best.proofs.BestWords.{best-sorted, best-few, records-new, with-best}
-use Rattle.words.proofs.Orders.{Ordered}
+use Rattle.sequences.proofs.Orders.{Ordered}
 
 -- ---- in any order
 module _ {A : Type 0} (before : A → A → Bool) where

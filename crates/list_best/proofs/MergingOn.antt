@@ -6,8 +6,8 @@ use mathlib.Core.Path.{_≡_, refl, sym, _∙_, ap, ap₂, subst}
 use mathlib.Core.List.{List, _++_}
 use lib.ListN.{length, take, drop, take-append-drop, drop-of-length-le}
 use lib.Seq.{drop-drop, length-take-le}
-use Rattle.words.specs.Sequences.{over}
-use Rattle.words.proofs.Buffers.{take-over, drop-over, length-over}
+use Rattle.sequences.specs.Sequences.{over}
+use Rattle.sequences.proofs.Buffers.{take-over, drop-over, length-over}
 use Rattle.plans.specs.Endings.{top}
 use Rattle.lists.specs.Gathering.{merged}
 use Rattle.lists.specs.Delivering.{withBest}

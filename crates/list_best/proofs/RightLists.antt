@@ -9,8 +9,8 @@ use lib.ListN.{length, take}
 use lib.Seq.{length-take-le}
 use borrow.Author.Tests.{eq-eqb, ne-eqb, le-leb, lt-leb, eqb-true, leb-true}
 use Rattle.words.specs.Words.{isValue}
-use Rattle.words.specs.Sequences.{all}
-use Rattle.words.proofs.Booleans.{and-left, and-right}
+use Rattle.sequences.specs.Sequences.{all}
+use Rattle.sequences.proofs.Booleans.{and-left, and-right}
 use Rattle.plans.specs.Endings.{top}
 use Rattle.lists.specs.Gathering.{thresholdRight, listRight, merged}
 use Rattle.list_best.specs.BestLists.{TopParts, BestList, Mergeable}

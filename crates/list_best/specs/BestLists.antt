@@ -4,7 +4,7 @@ use mathlib.Core.Path.{_≡_}
 use mathlib.Core.Bool.{true, not}
 use mathlib.Core.List.{List}
 use lib.ListN.{length, take}
-use Rattle.words.specs.Sequences.{all, neighbours}
+use Rattle.sequences.specs.Sequences.{all, neighbours}
 use Rattle.plans.specs.Endings.{top, mostRowVariables, mostBest, keyAmong}
 use Rattle.lists.specs.Rows.{rowBefore}
 use Rattle.lists.specs.Gathering.{recordsIn, leastOutput, thresholdRight, merged}

@@ -7,7 +7,7 @@ ghost use mathlib.Core.Path.{_≡_};
 ghost use mathlib.Core.Bool.{true};
 ghost use Prim.Native.Nat.{_≤_, _<_};
 ghost use lib.ListN.{length, take};
-ghost use Rattle.words.specs.Sequences.{all};
+ghost use Rattle.sequences.specs.Sequences.{all};
 ghost use Rattle.plans.specs.Endings.{top, keyAmong};
 ghost use Rattle.lists.specs.Rows.{rowBefore};
 ghost use Rattle.lists.specs.Gathering.{merged};

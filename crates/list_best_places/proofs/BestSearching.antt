@@ -11,7 +11,7 @@ use Rattle.lists.specs.Rows.{rowBefore}
 use Rattle.lists.specs.Gathering.{recordsIn}
 use Rattle.list_best_places.specs.Places.{Searchable, placeIn, rowPlace, PlacedUpTo}
 use Rattle.lists.proofs.Records.{length-records, records-nil}
-use Rattle.words.proofs.Sorting.{Sorted, sorted-take}
+use Rattle.sequences.proofs.Sorting.{Sorted, sorted-take}
 use Rattle.list_best_places.proofs.Placing.{place-le, place-back, place-behind, place-front, sorted-neighbours}
 use Rattle.lists.proofs.RowOrder.{rows-ordered}
 use Rattle.list_best_places.proofs.RowWords.{records-snoc, records-append, records-take, whole-room, whole-less, whole-rest, last-row}

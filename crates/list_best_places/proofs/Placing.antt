@@ -6,14 +6,14 @@ use mathlib.Core.Bool.{Bool, true, false, not}
 use mathlib.Core.List.{List, [], _∷_, _++_}
 use lib.ListN.{length, take, drop, length-append, length-take, length-drop}
 use borrow.Author.Tests.{not-true}
-use Rattle.words.specs.Sequences.{neighbours}
-use Rattle.words.proofs.Booleans.{absurd-true, and-left, and-right, Decided, yes, no, decided}
-use Rattle.words.proofs.Orders.{Ordered}
-use Rattle.words.specs.Sorting.{insertBy}
+use Rattle.sequences.specs.Sequences.{neighbours}
+use Rattle.sequences.proofs.Booleans.{absurd-true, and-left, and-right, Decided, yes, no, decided}
+use Rattle.sequences.proofs.Orders.{Ordered}
+use Rattle.sequences.specs.Sorting.{insertBy}
 use Rattle.list_best_places.specs.Places.{placeIn}
-use Rattle.words.proofs.Inserting.{insert-nil, insert-here, insert-later}
-use Rattle.words.proofs.Each.{Each}
-use Rattle.words.proofs.Sorting.{Sorted}
+use Rattle.sequences.proofs.Inserting.{insert-nil, insert-here, insert-later}
+use Rattle.sequences.proofs.Each.{Each}
+use Rattle.sequences.proofs.Sorting.{Sorted}
 
 module _ {A : Type 0} (before : A → A → Bool) (x : A) where
   place-nil : placeIn before x [] ≡ 0

@@ -8,9 +8,9 @@ use mathlib.Core.Path.{_≡_, sym, _∙_, ap, ap₂}
 use mathlib.Core.List.{List, [], _∷_, _++_, flatten, append-nil}
 use lib.ListN.{length, take, drop, length-append, length-drop, take-append-drop}
 use lib.Seq.{take-nil, drop-nil, take-append-add, drop-append-add, take-at, drop-at, take-add, drop-drop, length-take-le}
-use Rattle.words.specs.Sequences.{parts}
+use Rattle.sequences.specs.Sequences.{parts}
 use Rattle.lists.specs.Gathering.{recordsIn}
-use Rattle.words.proofs.Each.{each-take}
+use Rattle.sequences.proofs.Each.{each-take}
 use Rattle.lists.proofs.Records.{Wide, wide-append, wide-records, flatten-records, records-flatten, flatten-append}
 
 module _ (w : ℕ) where

@@ -4,7 +4,7 @@ use mathlib.Core.Path.{_≡_}
 use mathlib.Core.Bool.{Bool, true, cond, not}
 use mathlib.Core.List.{List, [], _∷_}
 use lib.ListN.{length, take}
-use Rattle.words.specs.Sequences.{all, neighbours}
+use Rattle.sequences.specs.Sequences.{all, neighbours}
 use Rattle.plans.specs.Endings.{keyAmong}
 use Rattle.lists.specs.Rows.{rowBefore}
 use Rattle.lists.specs.Gathering.{recordsIn}

@@ -7,7 +7,7 @@ ghost use mathlib.Core.List.{List};
 ghost use Prim.Native.Nat.{ℕ, _%_, _≤_, _<_};
 ghost use lib.Dec.{leb};
 ghost use lib.ListN.{length, take};
-ghost use Rattle.words.specs.Sequences.{all, neighbours};
+ghost use Rattle.sequences.specs.Sequences.{all, neighbours};
 ghost use Rattle.plans.specs.Endings.{top, keyAmong, mostRowVariables, mostBest};
 ghost use Rattle.lists.specs.Rows.{rowBefore};
 ghost use Rattle.lists.specs.Gathering.{recordsIn, thresholdRight, listRight, merged};

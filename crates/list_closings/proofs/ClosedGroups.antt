@@ -5,7 +5,7 @@ use mathlib.Core.Path.{_≡_, refl, sym, _∙_, ap, subst, subst⁻¹}
 use mathlib.Core.List.{List, [], _∷_, _++_}
 use lib.ListN.{length, take, drop, take-append-drop}
 use lib.Seq.{length-take-le}
-use Rattle.words.specs.Sequences.{over}
+use Rattle.sequences.specs.Sequences.{over}
 use Rattle.plans.specs.Endings.{group}
 use Rattle.lists.specs.Groups.{ofNothing, totalsWidth, groupWords}
 use Rattle.lists.specs.Closing.{orNothing, closed}

@@ -4,8 +4,8 @@ use native.Mathlib.Omega.{arith}
 use mathlib.Core.Path.{_≡_, refl, sym, _∙_, ap, subst⁻¹}
 use mathlib.Core.List.{List, []}
 use lib.ListN.{length}
-use Rattle.words.specs.Sequences.{over}
-use Rattle.words.proofs.Keeping.{keep-nil}
+use Rattle.sequences.specs.Sequences.{over}
+use Rattle.sequences.proofs.Keeping.{keep-nil}
 use Rattle.plans.specs.declared.EndingKind.{EndingKind}
 use Rattle.plans.specs.declared.EndingKind.the-variants.{Registers}
 use Rattle.plans.specs.Endings.{Ending}

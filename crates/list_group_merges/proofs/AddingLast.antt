@@ -3,8 +3,8 @@ use mathlib.Core.Path.{_≡_, refl, _∙_, ap}
 use mathlib.Core.Bool.{Bool, true, false, cond}
 use mathlib.Core.List.{List, [], _∷_, _++_}
 use Rattle.lists.specs.Groups.{addBy, addAllBy}
-use Rattle.words.proofs.Each.{Each}
-use Rattle.words.proofs.Ascending.{Ahead, Ascending}
+use Rattle.sequences.proofs.Each.{Each}
+use Rattle.sequences.proofs.Ascending.{Ahead, Ascending}
 use Rattle.lists.proofs.Adding.{addAll-last}
 
 -- each of the list comes before z

@@ -10,8 +10,8 @@ use Rattle.lists.specs.declared.Comes.the-variants.{Before, Same, After}
 use Rattle.lists.specs.Groups.{addAllBy}
 use Rattle.lists.specs.Sides.{sideBy}
 use Rattle.list_group_merges.specs.Weaving.{bySide, BackWalk, walked, walkedIn}
-use Rattle.words.proofs.Each.{each-append}
-use Rattle.words.proofs.EachMore.{each-weaken}
+use Rattle.sequences.proofs.Each.{each-append}
+use Rattle.sequences.proofs.EachMore.{each-weaken}
 use Rattle.list_group_merges.proofs.AddingLast.{Below, last-old, last-new, last-both}
 
 -- ---- one step

@@ -11,8 +11,8 @@ use mathlib.Core.List.{List, [], _∷_, _++_, flatten, append-nil}
 use lib.ListN.{length, take, drop, length-append, length-map}
 use lib.Seq.{take-add}
 use Rattle.words.specs.Words.{keyRank}
-use Rattle.words.specs.Sequences.{all}
-use Rattle.words.proofs.Orders.{lex-trans, lex-asym, lex-weak}
+use Rattle.sequences.specs.Sequences.{all}
+use Rattle.sequences.proofs.Orders.{lex-trans, lex-asym, lex-weak}
 use Rattle.plans.specs.Endings.{group}
 use Rattle.lists.specs.declared.Comes.the-variants.{Before, Same, After}
 use Rattle.list_group_merges.specs.declared.Union.{Union}
@@ -23,7 +23,7 @@ use Rattle.list_groups.specs.Keys.{keysFirst}
 use Rattle.lists.specs.Sides.{sideBy}
 use Rattle.list_group_merges.specs.Weaving.{walked, recordAt, sides, wordWalk, woven, moreBy, countWalk, unionOf}
 use Rattle.lists.proofs.Keys.{ranks}
-use Rattle.words.proofs.Ascending.{Ascending}
+use Rattle.sequences.proofs.Ascending.{Ascending}
 use Rattle.list_group_totals.proofs.RecordAt as at-words
 use Rattle.lists.proofs.GroupWords.{Words, have-keys-in}
 use Rattle.lists.proofs.GroupValid.{right-ascending}

@@ -8,7 +8,7 @@ use mathlib.Core.List.{List, [], _∷_, _++_, map, map-append}
 use lib.ListN.{length, take, drop, length-drop}
 use lib.Seq.{take-take, drop-drop, length-take-le}
 use borrow.Author.Tests.{lt-ltb}
-use Rattle.words.specs.Sequences.{parts}
+use Rattle.sequences.specs.Sequences.{parts}
 use Rattle.lists.specs.Groups.{Group, totalsWidth, pairAt, together, groupWords, groupIn}
 use Rattle.lists.specs.Gathering.{recordsIn, groupsIn, groupFits}
 use Rattle.lists.specs.Sums.{longValues}

@@ -10,8 +10,8 @@ use lib.ListN.{length, take, drop, length-drop, drop-of-length-le}
 use lib.Seq.{drop-drop, length-take-le}
 use borrow.Author.Tests.{eq-eqb, ne-eqb}
 use Rattle.words.specs.Words.{isValue}
-use Rattle.words.specs.Sequences.{all, neighbours}
-use Rattle.words.proofs.Booleans.{absurd-true}
+use Rattle.sequences.specs.Sequences.{all, neighbours}
+use Rattle.sequences.proofs.Booleans.{absurd-true}
 use Rattle.plans.specs.Endings.{group}
 use Rattle.lists.specs.Groups.{Group, totalsWidth, keysBefore, groupIn}
 use Rattle.lists.specs.Gathering.{recordsIn, leastRows, groupRight, listRight}

@@ -7,7 +7,7 @@ use native.Mathlib.Numerals.{add-one}
 use mathlib.Core.Path.{_≡_, sym, _∙_, ap}
 use mathlib.Core.List.{List, _∷_}
 use lib.ListN.{length, take, drop, length-drop}
-use Rattle.words.specs.Sequences.{parts}
+use Rattle.sequences.specs.Sequences.{parts}
 use Rattle.lists.specs.Gathering.{recordsIn}
 
 module _ (w : ℕ) where

@@ -6,7 +6,7 @@ use mathlib.Core.Path.{_≡_, _∙_, ap}
 use mathlib.Core.List.{List, []}
 use lib.ListN.{length, getD, take, drop}
 use lib.Seq.{drop-drop}
-use Rattle.words.specs.Sequences.{parts}
+use Rattle.sequences.specs.Sequences.{parts}
 
 -- the words before it and its own are words of the list
 pub record-fits : (i length w : ℕ) → i < length / w → i * w + w ≤ length

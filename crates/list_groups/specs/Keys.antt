@@ -3,7 +3,7 @@ use Prim.Native.Nat.{ℕ}
 use mathlib.Core.Bool.{Bool}
 use mathlib.Core.List.{List, map}
 use Rattle.words.specs.Words.{keyRank}
-use Rattle.words.specs.Sequences.{lexBefore}
+use Rattle.sequences.specs.Sequences.{lexBefore}
 
 -- keys come before others in the order of keys, from the first key on
 abbrev pub keysFirst : List ℕ → List ℕ → Bool

@@ -8,7 +8,7 @@ use lib.ListN.{length, take}
 use lib.Seq.{length-take-le}
 use borrow.Author.Tests.{le-leb}
 use Rattle.words.specs.Bindings.{Bindings, valueOf}
-use Rattle.words.specs.Sequences.{over}
+use Rattle.sequences.specs.Sequences.{over}
 use Rattle.plans.specs.Endings.{registers}
 use Rattle.registers.specs.Registers.{registerCount, registersOf, greaterOf}
 use Rattle.registers.proofs.Bounds.{registers-length, greater-length}

@@ -10,9 +10,9 @@ use lib.Dec.{eqb}
 use lib.ListN.{length, getD, take, drop, set}
 use lib.Seq.{length-take-le, take-suc, take-length, drop-cons, getD-append-seam, paste}
 use borrow.Author.Tests.{eqb-true}
-use Rattle.words.specs.Sequences.{all, over}
-use Rattle.words.proofs.Booleans.{and-left}
-use Rattle.words.proofs.Buffers.{over-next}
+use Rattle.sequences.specs.Sequences.{all, over}
+use Rattle.sequences.proofs.Booleans.{and-left}
+use Rattle.sequences.proofs.Buffers.{over-next}
 use Rattle.registers.specs.Registers.{registerCount, registersIn, greaterOf, isRank, areRegisters, keptRegisters}
 use Rattle.registers.proofs.Bounds.{greater-length, none-greater}
 

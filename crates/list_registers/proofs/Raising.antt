@@ -11,10 +11,10 @@ use lib.ListN.{length, getD, take, drop, set, replicate, length-append, length-s
 use lib.ListN.{take-append-drop, List·getD-append}
 use lib.Seq.{length-take-le, set-append-left, set-append-seam, set-out}
 use borrow.Author.Tests.{eq-eqb, ne-eqb}
-use Rattle.words.specs.Sequences.{numbers, over}
-use Rattle.words.proofs.Orders.{Three, less, same, more, three}
-use Rattle.words.proofs.Numbers.{numbers-none, numbers-next}
-use Rattle.words.proofs.Buffers.{over-next}
+use Rattle.sequences.specs.Sequences.{numbers, over}
+use Rattle.sequences.proofs.Orders.{Three, less, same, more, three}
+use Rattle.sequences.proofs.Numbers.{numbers-none, numbers-next}
+use Rattle.sequences.proofs.Buffers.{over-next}
 use Rattle.register_hashes.specs.Hashes.{hashOf, pickedBy, rankIn}
 use Rattle.registers.specs.Registers.{registerCount, givenTo, registerOf, registersOf, greaterOf}
 use Rattle.registers.proofs.Merging.{map-same}

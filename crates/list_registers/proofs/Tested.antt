@@ -5,7 +5,7 @@ use mathlib.Core.Bool.{true, false}
 use mathlib.Core.List.{List}
 use lib.ListN.{length}
 use borrow.Author.Tests.{eq-eqb, ne-eqb}
-use Rattle.words.specs.Sequences.{all}
+use Rattle.sequences.specs.Sequences.{all}
 use Rattle.registers.specs.Registers.{registerCount, isRank, areRegisters, keptRegisters}
 
 module _ (ws : List ℕ) where

@@ -1,7 +1,7 @@
 // Test 12 of a list of registers.
 use crate::REGISTERS;
 ghost use mathlib.Core.Path.{_≡_};
-ghost use Rattle.words.specs.Sequences.{all};
+ghost use Rattle.sequences.specs.Sequences.{all};
 ghost use Rattle.registers.specs.Registers.{isRank, areRegisters, keptRegisters};
 
 const MOST_RANK: u32 = 61;

@@ -6,7 +6,7 @@ ghost use mathlib.Core.Path.{_≡_};
 ghost use mathlib.Core.List.{[], _∷_};
 ghost use Prim.Native.Nat.{_≤_, max};
 ghost use lib.ListN.{length, take};
-ghost use Rattle.words.specs.Sequences.{over};
+ghost use Rattle.sequences.specs.Sequences.{over};
 ghost use Rattle.plans.specs.Endings.{registers};
 ghost use Rattle.registers.specs.Registers.{registerCount, registersOf, greaterOf};
 ghost use Rattle.lists.specs.Delivering.{withValue, withRow};

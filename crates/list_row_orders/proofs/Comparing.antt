@@ -10,11 +10,11 @@ use lib.ListN.{length, getD, drop, drop-of-length-le}
 use lib.Seq.{drop-cons}
 use borrow.Author.Tests.{eq-eqb, ne-eqb}
 use Rattle.words.specs.Words.{variable, low, kind, fallingKind, keyRank, lastRank, unbound}
-use Rattle.words.specs.Sequences.{all, member, lexBefore}
-use Rattle.words.proofs.Booleans.{absurd-true}
+use Rattle.sequences.specs.Sequences.{all, member, lexBefore}
+use Rattle.sequences.proofs.Booleans.{absurd-true}
 use Rattle.words.proofs.Bound.{any-default}
-use Rattle.words.proofs.Elements.{all-at}
-use Rattle.words.proofs.Orders.{lex-less, lex-same, lex-more}
+use Rattle.sequences.proofs.Elements.{all-at}
+use Rattle.sequences.proofs.Orders.{lex-less, lex-same, lex-more}
 use Rattle.plans.specs.Endings.{keyAmong}
 use Rattle.lists.specs.Rows.{indexOf, rankBy, keyValue, rowRanks, rowBefore}
 

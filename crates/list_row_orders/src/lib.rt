@@ -6,7 +6,7 @@ ghost use mathlib.Core.Bool.{true};
 ghost use Prim.Native.Nat.{_≤_};
 ghost use lib.ListN.{length};
 ghost use Rattle.words.specs.Words.{variable, low};
-ghost use Rattle.words.specs.Sequences.{all};
+ghost use Rattle.sequences.specs.Sequences.{all};
 ghost use Rattle.plans.specs.Endings.{keyAmong};
 ghost use Rattle.lists.specs.Rows.{indexOf, rankBy, rowBefore};
 

@@ -8,7 +8,7 @@ ghost use lib.ListN.{length, take};
 ghost use lib.Seq.{paste};
 ghost use Rattle.plans.specs.Endings.{rows, mostRowVariables};
 ghost use Rattle.words.specs.Bindings.{nothingBound};
-ghost use Rattle.words.specs.Sequences.{over};
+ghost use Rattle.sequences.specs.Sequences.{over};
 ghost use Rattle.lists.specs.Rows.{project};
 ghost use Rattle.lists.specs.Delivering.{withRow};
 ghost use Rattle.lists.specs.Putting.{Taken};

@@ -3,7 +3,7 @@ use words::Term;
 ghost use mathlib.Core.Path.{_≡_};
 ghost use mathlib.Core.List.{List};
 ghost use Prim.Native.Nat.{ℕ};
-ghost use Rattle.words.specs.Sequences.{all};
+ghost use Rattle.sequences.specs.Sequences.{all};
 ghost use Rattle.words.specs.Words.{isValue};
 ghost use Rattle.plans.specs.Endings.{rows, group, registers};
 ghost use Rattle.lists.specs.Gathering.{thresholdRight};

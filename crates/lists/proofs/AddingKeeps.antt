@@ -2,10 +2,10 @@
 use mathlib.Core.Path.{_≡_, refl, sym, _∙_, ap, ap₂}
 use mathlib.Core.Bool.{Bool, true, false, cond, _&&_}
 use mathlib.Core.List.{List, [], _∷_, map}
-use Rattle.words.specs.Sequences.{neighbours}
+use Rattle.sequences.specs.Sequences.{neighbours}
 use Rattle.lists.specs.Groups.{addBy, addAllBy}
-use Rattle.words.proofs.Each.{Each}
-use Rattle.words.proofs.Ascending.{Ahead, Ascending}
+use Rattle.sequences.proofs.Each.{Each}
+use Rattle.sequences.proofs.Ascending.{Ahead, Ascending}
 
 -- ---- a property of each element
 module _ {A : Type 0} (P : A → Type 0) (before : A → A → Bool) (join : A → A → A)

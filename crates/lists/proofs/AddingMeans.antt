@@ -4,15 +4,15 @@ use mathlib.Core.Path.{_≡_, refl, _∙_, ap}
 use mathlib.Core.Bool.{Bool, true, false}
 use mathlib.Core.List.{List, [], _∷_, _++_, append-nil}
 use lib.Seq.{append-snoc}
-use Rattle.words.specs.Sequences.{keep}
+use Rattle.sequences.specs.Sequences.{keep}
 use Rattle.lists.specs.Groups.{addBy, addAllBy}
 use Rattle.lists.proofs.Counts.{keep-append}
 use Rattle.lists.proofs.Stable.{alike}
 use Rattle.lists.proofs.Alike.{Among, here, there, neither-like, less-unlike, more-unlike, like-self, like-join, unlike}
 use Rattle.lists.proofs.Keeping.{keep-agree, keep-none}
-use Rattle.words.proofs.Each.{Each, each-append}
-use Rattle.words.proofs.EachMore.{each-weaken, each-always}
-use Rattle.words.proofs.Ascending.{ahead-less, Ascending}
+use Rattle.sequences.proofs.Each.{Each, each-append}
+use Rattle.sequences.proofs.EachMore.{each-weaken, each-always}
+use Rattle.sequences.proofs.Ascending.{ahead-less, Ascending}
 use Rattle.lists.proofs.Adding.{Joins, Places, less, same, more, places, add-nil, add-less, add-more, add-same, same-less, ascending-add}
 
 -- elements joined from the first on

@@ -3,9 +3,9 @@ use mathlib.Core.Path.{_≡_, refl}
 use mathlib.Core.Bool.{Bool, true, false, not}
 use mathlib.Core.List.{List, _∷_}
 use borrow.Author.Tests.{not-true}
-use Rattle.words.proofs.Booleans.{absurd-true, and-left, and-right}
+use Rattle.sequences.proofs.Booleans.{absurd-true, and-left, and-right}
 use Rattle.lists.proofs.Stable.{alike}
-use Rattle.words.proofs.Each.{Each}
+use Rattle.sequences.proofs.Each.{Each}
 use Rattle.lists.proofs.Adding.{Joins, same-left}
 
 -- an element of the place of y

@@ -8,8 +8,8 @@ use lib.Dec.{eqb}
 use lib.ListN.{getD, set}
 use lib.Seq.{getD-set-other}
 use borrow.Author.Tests.{eqb-false, not-true}
-use Rattle.words.specs.Sequences.{member, distinct}
-use Rattle.words.proofs.Booleans.{and-left, and-right, or-left, or-right}
+use Rattle.sequences.specs.Sequences.{member, distinct}
+use Rattle.sequences.proofs.Booleans.{and-left, and-right, or-left, or-right}
 use Rattle.lists.proofs.Counts.{count, count-nil, count-append}
 
 module _ {A : Type 0} (f : A → Bool) where

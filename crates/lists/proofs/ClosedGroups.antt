@@ -10,7 +10,7 @@ use lib.ListN.{length}
 use lib.IntN.{+ℤ-idr}
 use borrow.Author.Tests.{eqb-true}
 use Rattle.words.specs.Words.{unbound}
-use Rattle.words.specs.Sequences.{all, lexBefore}
+use Rattle.sequences.specs.Sequences.{all, lexBefore}
 use Rattle.words.specs.Bindings.{Bindings}
 use Rattle.plans.specs.Endings.{group}
 use Rattle.lists.specs.Groups.{Group, ofRow, ofNothing, together, lesser, greater, keysBefore, addBy, addAllBy, addGroups, groupsOf, groupWords}

@@ -5,12 +5,12 @@ use mathlib.Core.Path.{_≡_, _∙_, ap}
 use mathlib.Core.Bool.{Bool, true, false}
 use mathlib.Core.List.{List, [], _∷_, _++_}
 use lib.ListN.{length, take, length-append}
-use Rattle.words.specs.Sequences.{keep}
-use Rattle.words.proofs.Booleans.{Decided, yes, no, decided}
-use Rattle.words.specs.Sorting.{insertBy, insertAllBy, sortBy, bestBy}
+use Rattle.sequences.specs.Sequences.{keep}
+use Rattle.sequences.proofs.Booleans.{Decided, yes, no, decided}
+use Rattle.sequences.specs.Sorting.{insertBy, insertAllBy, sortBy, bestBy}
 use Rattle.lists.specs.Rows.{ahead}
-pub use Rattle.words.proofs.Keeping.{keep-nil, keep-yes, keep-no, keep-append}
-use Rattle.words.proofs.Inserting.{insert-nil, insert-here, insert-later}
+pub use Rattle.sequences.proofs.Keeping.{keep-nil, keep-yes, keep-no, keep-append}
+use Rattle.sequences.proofs.Inserting.{insert-nil, insert-here, insert-later}
 use Rattle.lists.proofs.Leaving.{ahead-all, ahead-row}
 
 abbrev pub count : {A : Type 0} → (A → Bool) → List A → ℕ

@@ -12,9 +12,9 @@ use borrow.Author.Tests.{eqb-true, eq-eqb, ne-eqb, lt-ltb, le-ltb, ltb-true, ltb
 use Rattle.words.specs.Words.{numberKind, variableKind, termKind, termValues, termValue, isNumber, keyRank, lastRank}
 use Rattle.words.specs.Words.{variable, low, kind, fallingKind, unbound}
 use Rattle.words.specs.Former.{formerRank, formerKeyRank, Former}
-use Rattle.words.specs.Sequences.{lexBefore}
-use Rattle.words.proofs.Each.{Each}
-use Rattle.words.proofs.Orders.{Three, less, same, more, three, lex-less, lex-same, lex-more}
+use Rattle.sequences.specs.Sequences.{lexBefore}
+use Rattle.sequences.proofs.Each.{Each}
+use Rattle.sequences.proofs.Orders.{Three, less, same, more, three, lex-less, lex-same, lex-more}
 use Rattle.words.proofs.Ranks.{rank-bound, rank-unbound, rank-below}
 use Rattle.words.proofs.Former.{value-as-before, at-most-as-before, key-less-as-before}
 use Rattle.lists.specs.Sums.{longValues, halfLongs, sumFits, sumBits}

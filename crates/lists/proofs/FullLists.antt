@@ -11,13 +11,13 @@ use Rattle.words.specs.Bindings.{Bindings}
 use Rattle.words.specs.Words.{variable, word, risingKind}
 use Rattle.words.specs.Computing as words
 use Rattle.plans.specs.Endings.{Ending, rows, top, group, registers}
-use Rattle.words.specs.Sorting.{bestBy}
+use Rattle.sequences.specs.Sorting.{bestBy}
 use Rattle.lists.specs.Rows.{project, rowBefore, ahead}
 use Rattle.lists.specs.Gathering.{width, recordsIn, gathered, merged}
 use Rattle.lists.specs.Thresholds.{mergedAll, lastRow, chosenFrom, LastOfFull, Sent, absent, row}
 use Rattle.lists.specs.Computing as lists
 use Rattle.lists.proofs.Records.{Wide, wide-append, wide-records, wide-best, records-flatten, records-nil, length-flatten}
-use Rattle.words.proofs.Sorting.{Sorted, sorted-best, best-none, best-left}
+use Rattle.sequences.proofs.Sorting.{Sorted, sorted-best, best-none, best-left}
 use Rattle.lists.proofs.Counts.{count, count-append, count-best, count-ahead}
 use Rattle.lists.proofs.Chosen.{count-chosen}
 use Rattle.lists.proofs.Thresholds.{upTo}

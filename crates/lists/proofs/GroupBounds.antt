@@ -12,13 +12,13 @@ use lib.IntN.{ℤ, pos, subℕ, _+ℤ_}
 use borrow.Author.Tests.{lt-ltb}
 use Rattle.words.specs.Words.{isNumber, halfValues, termValue, numberValue}
 use Rattle.words.specs.Bindings.{Bindings, valueOf}
-use Rattle.words.specs.Sequences.{all}
+use Rattle.sequences.specs.Sequences.{all}
 use Rattle.lists.specs.Groups.{Group, ofValue, ofRow, together, keysBefore, addBy, addAllBy, addGroups, groupsOf}
 use Rattle.lists.specs.Gathering.{groupFits}
 use Rattle.lists.specs.Sums.{longValues, halfLongs, sumFits}
 use Rattle.words.proofs.Signed.{below, above, sub-same, sub-add, pos-sub, signed-low, signed-high}
-use Rattle.words.proofs.Each.{Each, each-all, each-map}
-use Rattle.words.proofs.EachMore.{each-weaken, each-both}
+use Rattle.sequences.proofs.Each.{Each, each-all, each-map}
+use Rattle.sequences.proofs.EachMore.{each-weaken, each-both}
 use Rattle.lists.proofs.AddingKeeps.{each-addAll}
 
 -- a total of all groups

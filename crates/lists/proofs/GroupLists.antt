@@ -6,12 +6,12 @@ use mathlib.Core.Bool.{true}
 use mathlib.Core.List.{List, [], _∷_, _++_, map, map-append, flatten}
 use lib.ListN.{length, length-map}
 use Rattle.words.specs.Bindings.{Bindings, valueOf}
-use Rattle.words.specs.Sequences.{all}
+use Rattle.sequences.specs.Sequences.{all}
 use Rattle.plans.specs.Endings.{group}
 use Rattle.lists.specs.Groups.{Group, ofRow, together, keysBefore, addBy, addAllBy, addGroups, groupsOf, groupWords}
 use Rattle.lists.specs.Gathering.{groupsIn, gathered, merged, groupFits}
-use Rattle.words.proofs.Each.{each-map}
-use Rattle.words.proofs.Ascending.{Ascending}
+use Rattle.sequences.proofs.Each.{each-map}
+use Rattle.sequences.proofs.Ascending.{Ascending}
 use Rattle.lists.proofs.Adding.{addAll-last}
 use Rattle.lists.proofs.GroupWords.{HaveKeys, wrapped, groups-in-words}
 use Rattle.lists.proofs.Wrapping.{wrapped-all, words-added}

@@ -6,12 +6,12 @@ use mathlib.Core.List.{List, [], _∷_, map}
 use lib.ListN.{length, length-map}
 use Rattle.words.specs.Words.{isValue}
 use Rattle.words.specs.Bindings.{Bindings, valueOf}
-use Rattle.words.specs.Sequences.{all}
+use Rattle.sequences.specs.Sequences.{all}
 use Rattle.lists.specs.Rows.{project}
 use Rattle.lists.specs.Groups.{Group, ofRow, keysBefore, addAllBy, addGroups, groupsOf}
 use Rattle.lists.specs.Gathering.{groupRight}
-use Rattle.words.proofs.Each.{Each}
-use Rattle.words.proofs.EachMore.{each-weaken, each-mapped}
+use Rattle.sequences.proofs.Each.{Each}
+use Rattle.sequences.proofs.EachMore.{each-weaken, each-mapped}
 use Rattle.lists.proofs.Stable.{alike}
 use Rattle.lists.proofs.Keys.{sameWords, place-keys}
 use Rattle.lists.proofs.AddingKeeps.{each-addAll}

@@ -8,15 +8,15 @@ use lib.Dec.{eqb}
 use lib.ListN.{length, length-map}
 use borrow.Author.Tests.{eqb-true, eq-eqb}
 use Rattle.words.specs.Bindings.{Bindings}
-use Rattle.words.specs.Sequences.{all, neighbours}
-use Rattle.words.proofs.Booleans.{and-left, and-right}
+use Rattle.sequences.specs.Sequences.{all, neighbours}
+use Rattle.sequences.proofs.Booleans.{and-left, and-right}
 use Rattle.plans.specs.Endings.{group}
 use Rattle.lists.specs.Groups.{Group, totalsWidth, ofRow, together, keysBefore, addBy, addAllBy, addGroups, groupsOf, groupWords}
 use Rattle.lists.specs.Gathering.{groupsIn, gathered, merged, groupRight, listRight, leastOutput}
-use Rattle.words.proofs.Each.{Each, all-each, each-all}
-use Rattle.words.proofs.EachMore.{each-mapped, each-weaken}
+use Rattle.sequences.proofs.Each.{Each, all-each, each-all}
+use Rattle.sequences.proofs.EachMore.{each-mapped, each-weaken}
 use Rattle.lists.proofs.Records.{whole-flatten, length-flatten}
-use Rattle.words.proofs.Ascending.{Ascending, ascending-neighbours}
+use Rattle.sequences.proofs.Ascending.{Ascending, ascending-neighbours}
 use Rattle.lists.proofs.AddingKeeps.{each-addAll, ascending-map}
 use Rattle.lists.proofs.GroupWords.{HaveKeys, wide-words, wrapped, groups-in-words, have-keys-in}
 use Rattle.lists.proofs.Wrapping.{before-same}

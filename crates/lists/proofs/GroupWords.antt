@@ -7,11 +7,11 @@ use mathlib.Core.Path.{_≡_, refl, sym, _∙_, ap, ap₂}
 use mathlib.Core.List.{List, [], _∷_, _++_, map, flatten}
 use lib.ListN.{length, getD, take, drop, length-append, length-take, drop-of-length-le, take-append-drop, List·getD-eq-default}
 use lib.Seq.{take-at, drop-cons, getD-append-add, getD-take, getD-drop, length-take-le}
-use Rattle.words.specs.Sequences.{parts}
+use Rattle.sequences.specs.Sequences.{parts}
 use Rattle.lists.specs.Groups.{Group, totalsWidth, wordValues, twoWords, pairAt, groupWords, groupIn}
 use Rattle.lists.specs.Gathering.{recordsIn, groupsIn}
 use Rattle.lists.specs.Sums.{sumBits, sumIn}
-use Rattle.words.proofs.Each.{Each}
+use Rattle.sequences.proofs.Each.{Each}
 use Rattle.lists.proofs.Sums.{bits-in}
 use Rattle.lists.proofs.Records.{Wide, records-flatten, flatten-records, wide-records}
 

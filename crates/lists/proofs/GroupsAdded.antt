@@ -7,10 +7,10 @@ use mathlib.Core.List.{List, [], _∷_, _++_, map}
 use lib.ListN.{length, length-map}
 use lib.IntN.{+ℤ-assoc}
 use Rattle.words.specs.Words.{keyRank}
-use Rattle.words.specs.Sequences.{neighbours}
-use Rattle.words.proofs.Orders.{lex-ordered}
+use Rattle.sequences.specs.Sequences.{neighbours}
+use Rattle.sequences.proofs.Orders.{lex-ordered}
 use Rattle.lists.specs.Groups.{Group, together, keysBefore, addAllBy, addGroups}
-use Rattle.words.proofs.Ascending.{Ascending, neighbours-ascending}
+use Rattle.sequences.proofs.Ascending.{Ascending, neighbours-ascending}
 use Rattle.lists.proofs.Adding.{Joins, ascending-addAll, add-twice, addAll-append}
 use Rattle.lists.proofs.AddingKeeps.{each-addAll, ascending-map, ascending-unmap, neighbours-map, addAll-map}
 use Rattle.lists.proofs.Keys.{ranks}

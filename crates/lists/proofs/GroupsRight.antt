@@ -10,8 +10,8 @@ use lib.ListN.{length}
 use lib.IntN.{pos, _+ℤ_}
 use borrow.Author.Tests.{eqb-true, eqb-false, ne-eqb, leb-true, leb-false, le-leb}
 use Rattle.words.specs.Words.{isNumber, valueRank, unbound, isValue}
-use Rattle.words.specs.Sequences.{all}
-use Rattle.words.proofs.Booleans.{and-left, and-right}
+use Rattle.sequences.specs.Sequences.{all}
+use Rattle.sequences.proofs.Booleans.{and-left, and-right}
 use Rattle.lists.specs.Groups.{Group, ofValue, ofNothing, lesser, greater, together}
 use Rattle.lists.specs.Sums.{isZero, sumBits, sumIn}
 use Rattle.lists.specs.Gathering.{extremesRight, leastRows, groupRight}

@@ -3,9 +3,9 @@ use mathlib.Core.Path.{_≡_, refl, ap}
 use mathlib.Core.Bool.{Bool, true, false, cond}
 use mathlib.Core.List.{List, [], _∷_, map, List·Memᴰ, List·Memᴰ·head, List·Memᴰ·tail, List·Memᴰ·cases-cons}
 use mathlib.Core.Logic.{inl, inr}
-use Rattle.words.specs.Sequences.{keep}
-use Rattle.words.proofs.Each.{Each}
-pub use Rattle.words.proofs.Keeping.{keep-agree}
+use Rattle.sequences.specs.Sequences.{keep}
+use Rattle.sequences.proofs.Each.{Each}
+pub use Rattle.sequences.proofs.Keeping.{keep-agree}
 
 pub keep-none : {A : Type 0} (f : A → Bool) (xs : List A) → Each (λ x. f x ≡ false) xs → keep f xs ≡ []
 unfolding keep

@@ -8,9 +8,9 @@ use lib.Dec.{eqb}
 use lib.ListN.{length}
 use borrow.Author.Tests.{eqb-true, eq-eqb}
 use Rattle.words.specs.Words.{isVariable, termKind, unbound, keyRank, isValue}
-use Rattle.words.specs.Sequences.{all, lexBefore}
-use Rattle.words.proofs.Booleans.{absurd-true, and-left, and-right}
-use Rattle.words.proofs.Orders.{Three, less, same, more, three, lex-less, lex-same, lex-asym}
+use Rattle.sequences.specs.Sequences.{all, lexBefore}
+use Rattle.sequences.proofs.Booleans.{absurd-true, and-left, and-right}
+use Rattle.sequences.proofs.Orders.{Three, less, same, more, three, lex-less, lex-same, lex-asym}
 use Rattle.words.proofs.Ranks.{rank-below, rank-one}
 
 pub rank-same : (a b : ℕ) → isValue a ≡ true → isValue b ≡ true → keyRank a ≡ keyRank b → a ≡ b

@@ -7,11 +7,11 @@ use mathlib.Core.Bool.{Bool, false, not}
 use mathlib.Core.List.{List, [], _∷_, _++_, flatten, append-nil}
 use lib.ListN.{length, drop, length-append}
 use lib.Seq.{drop-append-add}
-use Rattle.words.proofs.Booleans.{yes, no, decided}
-use Rattle.words.proofs.Orders.{Ordered}
-use Rattle.words.proofs.Each.{Each}
+use Rattle.sequences.proofs.Booleans.{yes, no, decided}
+use Rattle.sequences.proofs.Orders.{Ordered}
+use Rattle.sequences.proofs.Each.{Each}
 use Rattle.lists.proofs.Records.{Wide, length-flatten}
-use Rattle.words.proofs.Sorting.{Sorted}
+use Rattle.sequences.proofs.Sorting.{Sorted}
 use Rattle.lists.proofs.Counts.{count, count-nil, count-yes}
 use Rattle.lists.proofs.Thresholds.{upTo}
 

@@ -3,8 +3,8 @@ use Prim.Native.Nat.{ℕ}
 use mathlib.Core.Path.{_≡_, refl}
 use mathlib.Core.Bool.{Bool}
 use mathlib.Core.List.{List, [], _∷_}
-use Rattle.words.specs.Sequences.{keep}
-use Rattle.words.proofs.Each.{Each, each-keep}
+use Rattle.sequences.specs.Sequences.{keep}
+use Rattle.sequences.proofs.Each.{Each, each-keep}
 use Rattle.lists.specs.Rows.{ahead}
 
 module _ (before : List ℕ → List ℕ → Bool) where

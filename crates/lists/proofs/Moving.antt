@@ -5,7 +5,7 @@ use mathlib.Core.List.{List, _∷_, _++_, append-assoc}
 use native.Mathlib.Omega.{arith}
 use lib.ListN.{length, getD, take, drop, set, length-append, length-take, length-drop, take-append-drop, List·getD-append}
 use lib.Seq.{take-suc, drop-cons, append-snoc, set-at, getD-take, take-append-le, take-take, drop-at, take-length, take-add, length-take-le, paste}
-use Rattle.words.specs.Sequences.{over}
+use Rattle.sequences.specs.Sequences.{over}
 use Rattle.lists.specs.Moves.{shifted, inserted}
 
 pub shift-start : (b : List ℕ) (e w : ℕ) → b ≡ shifted b e e w

@@ -6,7 +6,7 @@ use mathlib.Core.Path.{_≡_, refl, sym, ap}
 use mathlib.Core.List.{List, [], _∷_}
 use lib.ListN.{length}
 use Rattle.words.specs.Bindings.{Bindings}
-use Rattle.words.specs.Sequences.{all, keep, numbers}
+use Rattle.sequences.specs.Sequences.{all, keep, numbers}
 use Rattle.plans.specs.Endings.{Ending, rows, top, group, registers}
 use Rattle.registers.specs.Registers.{registerOf, registersOf}
 use Rattle.lists.specs.Gathering.{gathered, leastOutput, merged, takenInto, totalsFit, keptRight}

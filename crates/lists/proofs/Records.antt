@@ -9,12 +9,12 @@ use mathlib.Core.List.{List, [], _∷_, _++_, map, flatten}
 use lib.ListN.{length, take, drop, length-map, length-drop, take-append-drop}
 use lib.Seq.{take-at, drop-at, length-take-le}
 use Rattle.words.specs.Bindings.{Bindings, valueOf}
-use Rattle.words.specs.Sequences.{parts}
-use Rattle.words.specs.Sorting.{insertBy, bestBy}
+use Rattle.sequences.specs.Sequences.{parts}
+use Rattle.sequences.specs.Sorting.{insertBy, bestBy}
 use Rattle.lists.specs.Rows.{project, ahead}
 use Rattle.lists.specs.Gathering.{recordsIn}
-use Rattle.words.proofs.Each.{each-map, each-append, each-insert, each-best}
-pub use Rattle.words.proofs.Flattening.{Wide, length-flatten, flatten-append}
+use Rattle.sequences.proofs.Each.{each-map, each-append, each-insert, each-best}
+pub use Rattle.sequences.proofs.Flattening.{Wide, length-flatten, flatten-append}
 use Rattle.lists.proofs.Leaving.{each-ahead}
 
 -- ---- what is wide

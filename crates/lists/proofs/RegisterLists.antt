@@ -8,9 +8,9 @@ use lib.Dec.{eqb}
 use lib.ListN.{length, replicate}
 use borrow.Author.Tests.{eqb-true}
 use Rattle.words.specs.Bindings.{Bindings, valueOf}
-use Rattle.words.specs.Sequences.{all, keep, numbers}
-use Rattle.words.proofs.Booleans.{and-left}
-use Rattle.words.proofs.Keeping.{keep-append, keep-yes, keep-no, keep-nil}
+use Rattle.sequences.specs.Sequences.{all, keep, numbers}
+use Rattle.sequences.proofs.Booleans.{and-left}
+use Rattle.sequences.proofs.Keeping.{keep-append, keep-yes, keep-no, keep-nil}
 use Rattle.plans.specs.Endings.{registers}
 use Rattle.registers.specs.Registers.{registerCount, registerOf, registersOf, registersIn, greaterOf, isRank, areRegisters, keptRegisters}
 use Rattle.registers.proofs.Merging.{registers-append}

@@ -2,7 +2,7 @@
 use Prim.Native.Nat.{ℕ}
 use mathlib.Core.List.{List}
 use lib.ListN.{length, length-map}
-use Rattle.words.proofs.Orders.{Ordered, lex-ordered}
+use Rattle.sequences.proofs.Orders.{Ordered, lex-ordered}
 use Rattle.lists.specs.Rows.{rankBy, keyValue, rowRanks, rowBefore}
 
 -- each row has as many ranks as there are keys

@@ -2,16 +2,16 @@
 use mathlib.Core.Path.{_≡_, sym, _∙_, ap}
 use mathlib.Core.Bool.{Bool, true, false, not, _&&_}
 use mathlib.Core.List.{List, [], _∷_, _++_, append-nil, append-assoc}
-use Rattle.words.specs.Sequences.{keep}
-use Rattle.words.proofs.Booleans.{absurd-true, and-left, Decided, yes, no, decided}
-use Rattle.words.proofs.Orders.{Ordered}
+use Rattle.sequences.specs.Sequences.{keep}
+use Rattle.sequences.proofs.Booleans.{absurd-true, and-left, Decided, yes, no, decided}
+use Rattle.sequences.proofs.Orders.{Ordered}
 use borrow.Author.Tests.{not-true}
-use Rattle.words.specs.Sorting.{insertBy, insertAllBy, sortBy}
-use Rattle.words.proofs.Inserting.{insert-nil, insert-here, insert-later}
-use Rattle.words.proofs.Each.{Each}
+use Rattle.sequences.specs.Sorting.{insertBy, insertAllBy, sortBy}
+use Rattle.sequences.proofs.Inserting.{insert-nil, insert-here, insert-later}
+use Rattle.sequences.proofs.Each.{Each}
 use Rattle.lists.proofs.Keeping.{keep-none}
 use Rattle.lists.proofs.Counts.{keep-nil, keep-yes, keep-no, keep-append}
-use Rattle.words.proofs.Sorting.{Sorted, sorted-insert}
+use Rattle.sequences.proofs.Sorting.{Sorted, sorted-insert}
 
 -- neither comes before the other
 abbrev pub alike : {A : Type 0} → (A → A → Bool) → A → A → Bool

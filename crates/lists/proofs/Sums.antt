@@ -10,7 +10,7 @@ use lib.Dec.{eqb}
 use lib.IntN.{ℤ, pos, negsuc, subℕ, _+ℤ_}
 use borrow.Author.Tests.{eqb-true, ne-eqb, lt-ltb, ltb-true}
 use Rattle.words.specs.Words.{termValues, halfValues, termValue, numberValue}
-use Rattle.words.proofs.Booleans.{absurd-true}
+use Rattle.sequences.proofs.Booleans.{absurd-true}
 use Rattle.words.proofs.Signed.{below, above, sub-add, pos-sub, negsuc-sub, signed-low, signed-high}
 use Rattle.lists.specs.Sums.{longValues, halfLongs, sumFits, sumBits, sumIn, isZero}
 

@@ -5,14 +5,14 @@ use mathlib.Core.Path.{_≡_, refl, sym, _∙_, ap}
 use mathlib.Core.Bool.{Bool, true, false, not}
 use mathlib.Core.List.{List, [], _∷_, _++_}
 use lib.ListN.{take}
-use Rattle.words.specs.Sequences.{keep}
-use Rattle.words.proofs.Booleans.{absurd-true, Decided, yes, no, decided}
-use Rattle.words.proofs.Orders.{Ordered}
-use Rattle.words.specs.Sorting.{insertBy, insertAllBy, sortBy, bestBy}
-use Rattle.words.proofs.Inserting.{insert-later}
-use Rattle.words.proofs.Each.{Each}
+use Rattle.sequences.specs.Sequences.{keep}
+use Rattle.sequences.proofs.Booleans.{absurd-true, Decided, yes, no, decided}
+use Rattle.sequences.proofs.Orders.{Ordered}
+use Rattle.sequences.specs.Sorting.{insertBy, insertAllBy, sortBy, bestBy}
+use Rattle.sequences.proofs.Inserting.{insert-later}
+use Rattle.sequences.proofs.Each.{Each}
 use Rattle.lists.proofs.Counts.{count, count-nil, count-no, count-more, count-insert, count-sort}
-use Rattle.words.proofs.Sorting.{Sorted, sorted-insert, sorted-sort, take-insertAll, sort-append}
+use Rattle.sequences.proofs.Sorting.{Sorted, sorted-insert, sorted-sort, take-insertAll, sort-append}
 
 -- up to a limit: not after it
 abbrev pub upTo : {A : Type 0} → (A → A → Bool) → A → A → Bool

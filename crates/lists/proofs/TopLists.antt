@@ -6,12 +6,12 @@ use mathlib.Core.List.{List, [], _∷_, _++_, map, flatten, map-append}
 use lib.ListN.{length}
 use Rattle.words.specs.Bindings.{Bindings}
 use Rattle.plans.specs.Endings.{Ending, rows, top, group, registers}
-use Rattle.words.specs.Sorting.{bestBy}
+use Rattle.sequences.specs.Sorting.{bestBy}
 use Rattle.lists.specs.Rows.{project, rowBefore, ahead}
 use Rattle.lists.specs.Gathering.{recordsIn, gathered, merged}
 use Rattle.lists.proofs.Leaving.{ahead-all, ahead-row, ahead-none}
 use Rattle.lists.proofs.Records.{Wide, wide-project, wide-best, wide-ahead, records-flatten, flatten-append}
-use Rattle.words.proofs.Sorting.{best-none, best-left, best-right}
+use Rattle.sequences.proofs.Sorting.{best-none, best-left, best-right}
 use Rattle.lists.proofs.Counts.{count}
 use Rattle.lists.proofs.Thresholds.{upTo, best-before}
 use Rattle.lists.proofs.RowOrder.{rows-ordered}

@@ -11,17 +11,17 @@ use lib.Dec.{eqb}
 use borrow.Author.Tests.{eq-eqb, le-leb}
 use Rattle.words.specs.Words.{isValue}
 use Rattle.words.specs.Bindings.{Bindings}
-use Rattle.words.specs.Sequences.{all, neighbours}
-use Rattle.words.proofs.Booleans.{and-left, and-right, and-both}
+use Rattle.sequences.specs.Sequences.{all, neighbours}
+use Rattle.sequences.proofs.Booleans.{and-left, and-right, and-both}
 use Rattle.plans.specs.Endings.{rows, top}
-use Rattle.words.specs.Sorting.{bestBy}
+use Rattle.sequences.specs.Sorting.{bestBy}
 use Rattle.lists.specs.Rows.{project, rowBefore, ahead}
 use Rattle.lists.specs.Gathering.{recordsIn, gathered, merged, leastOutput, listRight}
-use Rattle.words.proofs.Each.{each-append, each-best}
+use Rattle.sequences.proofs.Each.{each-append, each-best}
 use Rattle.lists.proofs.Leaving.{each-ahead}
 use Rattle.lists.proofs.Records.{Wide, wide-append, wide-records, wide-best, wide-project, wide-ahead, records-flatten, records-zero}
 use Rattle.lists.proofs.Records.{whole-flatten, length-flatten}
-use Rattle.words.proofs.Sorting.{Sorted, sorted-best, length-best}
+use Rattle.sequences.proofs.Sorting.{Sorted, sorted-best, length-best}
 use Rattle.lists.proofs.Values.{AllValues, values-rows, values-flatten, values-records}
 use Rattle.lists.proofs.RowOrder.{rows-ordered}
 use Rattle.lists.proofs.TopLists.{merged-top}

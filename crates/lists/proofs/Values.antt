@@ -6,12 +6,12 @@ use mathlib.Core.List.{List, [], _∷_, map, flatten}
 use lib.ListN.{length, drop}
 use Rattle.words.specs.Words.{isVariable, termValue, unbound, isValue}
 use Rattle.words.specs.Bindings.{Bindings, valueOf}
-use Rattle.words.specs.Sequences.{all, parts}
-use Rattle.words.proofs.Booleans.{yes, no, decided}
-use Rattle.words.proofs.Elements.{all-getD, all-take, all-append}
+use Rattle.sequences.specs.Sequences.{all, parts}
+use Rattle.sequences.proofs.Booleans.{yes, no, decided}
+use Rattle.sequences.proofs.Elements.{all-getD, all-take, all-append}
 use Rattle.lists.specs.Rows.{project}
 use Rattle.lists.specs.Gathering.{recordsIn}
-use Rattle.words.proofs.Each.{Each, each-map, each-all, all-drop}
+use Rattle.sequences.proofs.Each.{Each, each-map, each-all, all-drop}
 
 -- each word of each list is one that a delivered row may have
 abbrev pub AllValues : List (List ℕ) → Type 0

@@ -6,10 +6,10 @@ use mathlib.Core.Bool.{true}
 use mathlib.Core.List.{List, [], _∷_, map}
 use lib.Dec.{ltb}
 use lib.IntN.{ℤ}
-use Rattle.words.specs.Sequences.{all}
-use Rattle.words.proofs.Booleans.{and-right}
-use Rattle.words.proofs.Each.{Each, all-each}
-use Rattle.words.proofs.EachMore.{each-weaken}
+use Rattle.sequences.specs.Sequences.{all}
+use Rattle.sequences.proofs.Booleans.{and-right}
+use Rattle.sequences.proofs.Each.{Each, all-each}
+use Rattle.sequences.proofs.EachMore.{each-weaken}
 use Rattle.lists.specs.Sums.{longValues, sumFits, sumBits, sumIn}
 use Rattle.lists.specs.Groups.{Group, together, keysBefore, addAllBy, addBy, addGroups, groupWords}
 use Rattle.lists.specs.Gathering.{groupFits}

@@ -8,7 +8,7 @@ use lib.ListN.{length, getD, take, length-append, length-map, List·getD-map}
 use lib.Seq.{take-length, length-take-le, paste}
 use borrow.Author.Tests.{le-leb, lt-leb}
 use Rattle.words.specs.Bindings.{Bindings, valueOf}
-use Rattle.words.specs.Sequences.{over}
+use Rattle.sequences.specs.Sequences.{over}
 use Rattle.words.proofs.Bound.{any-default}
 use Rattle.plans.specs.Endings.{rows}
 use Rattle.lists.specs.declared.Put.the-variants.{Words, NoRoom}

@@ -5,7 +5,7 @@ use mathlib.Core.Bool.{Bool, true, cond}
 use lib.ListN.{length, take}
 use Rattle.words.specs.Bindings.{Bindings, valueOf}
 use Rattle.plans.specs.Endings.{Ending, rows, top, group, registers}
-use Rattle.words.specs.Sorting.{insertBy}
+use Rattle.sequences.specs.Sorting.{insertBy}
 use Rattle.registers.specs.Registers.{registersOf, greaterOf}
 use Rattle.lists.specs.Rows.{project, hasValue, rowBefore}
 use Rattle.lists.specs.Groups.{ofRow, addBy, keysBefore, together, groupWords}

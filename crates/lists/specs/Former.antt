@@ -5,7 +5,7 @@ use mathlib.Core.Bool.{Bool, cond}
 use lib.Dec.{eqb}
 use Rattle.words.specs.Words.{termValue, kind, fallingKind, unbound, lastRank}
 use Rattle.words.specs.Former.{formerKeyRank, Former}
-use Rattle.words.specs.Sequences.{lexBefore}
+use Rattle.sequences.specs.Sequences.{lexBefore}
 use Rattle.lists.specs.Rows.{keyValue}
 
 abbrev pub formerRankBy : ℕ → ℕ → ℕ

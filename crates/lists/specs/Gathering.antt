@@ -7,9 +7,9 @@ use lib.ListN.{length}
 use lib.Dec.{eqb, ltb, leb}
 use Rattle.words.specs.Words.{isNumber, isValue, valueRank, unbound}
 use Rattle.words.specs.Bindings.{Bindings}
-use Rattle.words.specs.Sequences.{all, neighbours, parts}
+use Rattle.sequences.specs.Sequences.{all, neighbours, parts}
 use Rattle.plans.specs.Endings.{Ending, rows, top, group, registers}
-use Rattle.words.specs.Sorting.{bestBy}
+use Rattle.sequences.specs.Sorting.{bestBy}
 use Rattle.registers.specs.Registers.{registerCount, registersOf, registersIn, greaterOf, areRegisters, keptRegisters}
 use Rattle.lists.specs.Rows.{project, boundValues, rowBefore, ahead}
 use Rattle.lists.specs.Sums.{longValues, sumFits, isZero}

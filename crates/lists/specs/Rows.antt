@@ -6,7 +6,7 @@ use lib.ListN.{getD}
 use lib.Dec.{eqb}
 use Rattle.words.specs.Words.{variable, low, kind, fallingKind, unbound, keyRank, lastRank}
 use Rattle.words.specs.Bindings.{Bindings, valueOf}
-use Rattle.words.specs.Sequences.{keep, lexBefore}
+use Rattle.sequences.specs.Sequences.{keep, lexBefore}
 
 -- the row of some variables: their values, in their sequence
 abbrev pub project : List ℕ → Bindings → List ℕ

@@ -6,7 +6,7 @@ use mathlib.Core.Bool.{true}
 use mathlib.Core.List.{List, [], map, foldl}
 use lib.ListN.{length, drop, getD}
 use lib.Dec.{ltb}
-use Rattle.words.specs.Sequences.{all, distinct}
+use Rattle.sequences.specs.Sequences.{all, distinct}
 use Rattle.plans.specs.Endings.{Ending}
 use Rattle.lists.specs.Gathering.{width, leastOutput, merged}
 

@@ -4,9 +4,9 @@ use mathlib.Core.Path.{_≡_}
 use mathlib.Core.Bool.{Bool, true}
 use mathlib.Core.Option.{none}
 use mathlib.Core.List.{List}
-use Rattle.words.specs.Sequences.{all}
+use Rattle.sequences.specs.Sequences.{all}
 use Rattle.words.specs.Tests.{firstFailing}
-use Rattle.words.proofs.Booleans.{and-right}
+use Rattle.sequences.proofs.Booleans.{and-right}
 use Rattle.plans.specs.Branches.{branchRight, binds}
 use Rattle.plans.specs.Endings.{Ending, rows, top, group, registers, endingRight}
 use Rattle.plans.specs.Plans.{readPlan, planOf, planTests}

@@ -9,10 +9,10 @@ use lib.Dec.{eqb, leb}
 use lib.ListN.{length}
 use borrow.Author.Tests.{eqb-true, le-leb, lt-leb, not-true, not-false}
 use Rattle.words.specs.declared.Written.the-variants.{Words, Refused}
-use Rattle.words.specs.Sequences.{all, over}
+use Rattle.sequences.specs.Sequences.{all, over}
 use Rattle.words.specs.Tests.{firstFailing}
 use Rattle.words.proofs.Testing.{orElse, first-append}
-use Rattle.words.proofs.Booleans.{and-left, and-right}
+use Rattle.sequences.proofs.Booleans.{and-left, and-right}
 use Rattle.plans.specs.Endings.{Ending, rows, top, group, registers}
 use Rattle.plans.specs.Plans.{planTests}
 use Rattle.registers.specs.Registers.{registerCount, registersIn, greaterOf, isRank, areRegisters, keptRegisters}

@@ -4,9 +4,9 @@ use mathlib.Core.Bool.{Bool, true, false}
 use mathlib.Core.List.{List, [], _∷_, _++_, append-assoc, append-nil}
 use mathlib.Core.List.{List·Permᴰ, List·Permᴰ·nil, List·Permᴰ·cons, List·Permᴰ·swap, List·Permᴰ·trans}
 use Rattle.lists.specs.Groups.{addBy, addAllBy}
-use Rattle.words.proofs.Each.{Each}
-use Rattle.words.proofs.EachMore.{each-permuted}
-use Rattle.words.proofs.Ascending.{Ahead, Ascending}
+use Rattle.sequences.proofs.Each.{Each}
+use Rattle.sequences.proofs.EachMore.{each-permuted}
+use Rattle.sequences.proofs.Ascending.{Ahead, Ascending}
 use Rattle.lists.proofs.Adding.{Joins, Places, less, same, more, places, commute, both-add, add-nil, add-more}
 
 module _

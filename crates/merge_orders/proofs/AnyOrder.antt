@@ -6,9 +6,9 @@ use mathlib.Core.Bool.{true}
 use mathlib.Core.Option.{some}
 use mathlib.Core.List.{List, [], _∷_, _++_, flatten}
 use lib.ListN.{length}
-use Rattle.words.specs.Sorting.{bestBy}
-use Rattle.words.proofs.Booleans.{absurd-true}
-use Rattle.words.proofs.Sorting.{best-none}
+use Rattle.sequences.specs.Sorting.{bestBy}
+use Rattle.sequences.proofs.Booleans.{absurd-true}
+use Rattle.sequences.proofs.Sorting.{best-none}
 use Rattle.plans.specs.Endings.{top}
 use Rattle.plans.specs.Plans.{planOf}
 use Rattle.lists.specs.Rows.{rowBefore}

@@ -6,13 +6,13 @@ use mathlib.Core.List.{List, [], _∷_, _++_, map, map-append, flatten, append-n
 use mathlib.Core.List.{List·Permᴰ, List·Permᴰ·cons, List·Permᴰ·swap, List·Permᴰ·trans, Permᴰ·refl}
 use lib.ListN.{length, take}
 use Rattle.words.specs.Bindings.{Bindings}
-use Rattle.words.specs.Sequences.{keep}
-use Rattle.words.specs.Sorting.{insertBy, insertAllBy, sortBy, bestBy}
-use Rattle.words.proofs.Booleans.{Decided, yes, no, decided}
-use Rattle.words.proofs.Orders.{Ordered}
-use Rattle.words.proofs.Inserting.{insert-nil, insert-here, insert-later}
-use Rattle.words.proofs.Each.{Each, each-append, each-take, each-keep, each-best}
-use Rattle.words.proofs.EachMore.{each-weaken, each-left, each-right}
+use Rattle.sequences.specs.Sequences.{keep}
+use Rattle.sequences.specs.Sorting.{insertBy, insertAllBy, sortBy, bestBy}
+use Rattle.sequences.proofs.Booleans.{Decided, yes, no, decided}
+use Rattle.sequences.proofs.Orders.{Ordered}
+use Rattle.sequences.proofs.Inserting.{insert-nil, insert-here, insert-later}
+use Rattle.sequences.proofs.Each.{Each, each-append, each-take, each-keep, each-best}
+use Rattle.sequences.proofs.EachMore.{each-weaken, each-left, each-right}
 use Rattle.plans.specs.Endings.{top}
 use Rattle.lists.specs.Rows.{project, rowBefore, ahead}
 use Rattle.lists.specs.Gathering.{recordsIn, gathered}

@@ -7,11 +7,11 @@ use lib.Dec.{eqb}
 use lib.ListN.{length, getD, set, List·getD-map}
 use lib.Seq.{getD-set-other}
 use borrow.Author.Tests.{eqb-false, not-true}
-use Rattle.words.specs.Sequences.{member, distinct}
-use Rattle.words.proofs.Booleans.{and-left, and-right, or-left, or-right}
-use Rattle.words.proofs.Orders.{Ordered}
-use Rattle.words.proofs.Each.{Each, each-append}
-use Rattle.words.proofs.EachMore.{each-weaken, each-left, each-permuted}
+use Rattle.sequences.specs.Sequences.{member, distinct}
+use Rattle.sequences.proofs.Booleans.{and-left, and-right, or-left, or-right}
+use Rattle.sequences.proofs.Orders.{Ordered}
+use Rattle.sequences.proofs.Each.{Each, each-append}
+use Rattle.sequences.proofs.EachMore.{each-weaken, each-left, each-permuted}
 use Rattle.lists.specs.Rows.{rowBefore}
 use Rattle.lists.specs.Gathering.{recordsIn}
 use Rattle.lists.proofs.Records.{records-nil}

@@ -7,15 +7,15 @@ use mathlib.Core.Bool.{true, false}
 use mathlib.Core.Option.{some}
 use mathlib.Core.List.{List, [], _∷_, _++_, map, flatten, append-nil, append-assoc, List·Permᴰ}
 use lib.ListN.{length, getD}
-use Rattle.words.proofs.Booleans.{absurd-true}
+use Rattle.sequences.proofs.Booleans.{absurd-true}
 use Rattle.words.proofs.Testing.{some-injective}
 use Rattle.plans.specs.Endings.{group}
 use Rattle.plans.specs.Plans.{planOf}
 use Rattle.lists.specs.Groups.{Group, keysBefore, addAllBy, addGroups, groupWords}
 use Rattle.lists.specs.Gathering.{groupsIn, merged, listRight, keptRight, totalsFit}
-use Rattle.words.proofs.Each.{Each, each-append}
+use Rattle.sequences.proofs.Each.{Each, each-append}
 use Rattle.lists.proofs.Records.{records-nil}
-use Rattle.words.proofs.Ascending.{Ascending}
+use Rattle.sequences.proofs.Ascending.{Ascending}
 use Rattle.lists.proofs.Adding.{add-parts}
 use Rattle.lists.proofs.AddingKeeps.{ascending-unmap}
 use Rattle.merge_orders.proofs.AddingPermuted.{addAll-permuted, already-added}

@@ -6,9 +6,9 @@ use mathlib.Core.List.{List, [], _∷_, _++_, map, map-append, flatten, foldl}
 use lib.ListN.{length, take, getD}
 use lib.Seq.{take-suc, take-length}
 use lib.IntN.{ℤ}
-use Rattle.words.specs.Sequences.{numbers}
-use Rattle.words.proofs.Each.{Each}
-use Rattle.words.proofs.Numbers.{numbers-none, numbers-next}
+use Rattle.sequences.specs.Sequences.{numbers}
+use Rattle.sequences.proofs.Each.{Each}
+use Rattle.sequences.proofs.Numbers.{numbers-none, numbers-next}
 use Rattle.plans.specs.Endings.{group, registers}
 use Rattle.registers.specs.Registers.{registerCount, registersIn, greaterOf}
 use Rattle.registers.proofs.Merging.{greater-comm, greater-assoc}

@@ -6,9 +6,9 @@ use mathlib.Core.Option.{Option, none, some}
 use mathlib.Core.List.{List, [], _∷_, map, foldl}
 use lib.ListN.{length}
 use Rattle.words.specs.Bindings.{Bindings}
-use Rattle.words.specs.Sequences.{iterate, all}
-use Rattle.words.proofs.Booleans.{absurd-true, and-both}
-use Rattle.words.proofs.Each.{Each}
+use Rattle.sequences.specs.Sequences.{iterate, all}
+use Rattle.sequences.proofs.Booleans.{absurd-true, and-both}
+use Rattle.sequences.proofs.Each.{Each}
 use Rattle.tables.specs.Tables.{Tables}
 use Rattle.plans.specs.Endings.{Ending, rows, top, group, registers}
 use Rattle.plans.specs.Plans.{Plan, planOf, hasForm}

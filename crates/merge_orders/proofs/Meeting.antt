@@ -7,7 +7,7 @@ use Rattle.plans.specs.Computing as plans
 use Rattle.registers.specs.Computing as registers
 use Rattle.lists.specs.Computing as lists
 use Rattle.merges.specs.Computing as merges
-use Rattle.words.specs.Sequences.{numbers}
+use Rattle.sequences.specs.Sequences.{numbers}
 use Rattle.words.specs.Words.{variable, word, fallingKind}
 use Rattle.merge_orders.specs.Ways.{empty, turn, into, turnsAlong, given}
 use Rattle.merge_orders.specs.Refused.{among-kept, among-lists, merging, fromTurns}

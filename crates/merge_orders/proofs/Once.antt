@@ -7,10 +7,10 @@ use mathlib.Core.Option.{some}
 use mathlib.Core.List.{List, [], _∷_, _++_, map, map-append, flatten, Permᴰ·symm}
 use mathlib.Core.List.{List·Permᴰ, List·Permᴰ·nil, List·Permᴰ·cons, List·Permᴰ·swap, List·Permᴰ·trans}
 use lib.ListN.{length, getD}
-use Rattle.words.specs.Sequences.{numbers}
-use Rattle.words.specs.Sorting.{bestBy}
-use Rattle.words.proofs.Each.{Each}
-use Rattle.words.proofs.Numbers.{numbers-none}
+use Rattle.sequences.specs.Sequences.{numbers}
+use Rattle.sequences.specs.Sorting.{bestBy}
+use Rattle.sequences.proofs.Each.{Each}
+use Rattle.sequences.proofs.Numbers.{numbers-none}
 use Rattle.plans.specs.Endings.{top, group, registers}
 use Rattle.plans.specs.Plans.{planOf}
 use Rattle.registers.specs.Registers.{registerCount}

@@ -9,10 +9,10 @@ use lib.Seq.{getD-append-seam}
 use borrow.Author.Tests.{ltb-true}
 use Rattle.words.specs.declared.Written.{Written}
 use Rattle.words.specs.declared.Written.the-variants.{Words, Refused}
-use Rattle.words.specs.Sequences.{numbers}
-use Rattle.words.proofs.Each.{Each}
-use Rattle.words.proofs.EachMore.{each-weaken, each-left, each-right}
-use Rattle.words.proofs.Numbers.{numbers-none, numbers-next, numbers-below}
+use Rattle.sequences.specs.Sequences.{numbers}
+use Rattle.sequences.proofs.Each.{Each}
+use Rattle.sequences.proofs.EachMore.{each-weaken, each-left, each-right}
+use Rattle.sequences.proofs.Numbers.{numbers-none, numbers-next, numbers-below}
 use Rattle.plans.specs.Conditions.{next}
 use Rattle.plans.specs.Endings.{Ending, rows, top, group, registers}
 use Rattle.plans.specs.Plans.{planOf}

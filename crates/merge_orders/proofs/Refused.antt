@@ -12,10 +12,10 @@ use lib.Seq.{take-append-seam}
 use borrow.Author.Tests.{le-leb, ltb-true}
 use Rattle.words.specs.declared.Written.{Written}
 use Rattle.words.specs.declared.Written.the-variants.{Words, Refused}
-use Rattle.words.specs.Sequences.{all}
+use Rattle.sequences.specs.Sequences.{all}
 use Rattle.words.specs.Tests.{AllPass, firstFailing}
-use Rattle.words.proofs.Booleans.{absurd-true, and-left, and-right, and-both}
-use Rattle.words.proofs.Elements.{all-getD, all-at}
+use Rattle.sequences.proofs.Booleans.{absurd-true, and-left, and-right, and-both}
+use Rattle.sequences.proofs.Elements.{all-getD, all-at}
 use Rattle.words.proofs.Testing.{none-some, some-injective, all-passes, fails-first, first-append, orElse}
 use Rattle.plans.specs.Endings.{Ending, top, group, registers}
 use Rattle.plans.specs.Conditions.{next}

@@ -5,12 +5,12 @@ use mathlib.Core.Logic.{inl, inr}
 use mathlib.Core.Bool.{Bool, true}
 use mathlib.Core.List.{List, [], _∷_, List·Permᴰ, List·Permᴰ·nil, List·Permᴰ·cons, List·Permᴰ·swap, List·Permᴰ·trans}
 use lib.ListN.{take}
-use Rattle.words.proofs.Booleans.{absurd-true, Decided, yes, no, decided}
-use Rattle.words.proofs.Orders.{Ordered}
-use Rattle.words.specs.Sorting.{insertBy, insertAllBy, sortBy, bestBy}
-use Rattle.words.proofs.Inserting.{insert-nil, insert-here, insert-later}
-use Rattle.words.proofs.Each.{Each}
-use Rattle.words.proofs.EachMore.{each-permuted}
+use Rattle.sequences.proofs.Booleans.{absurd-true, Decided, yes, no, decided}
+use Rattle.sequences.proofs.Orders.{Ordered}
+use Rattle.sequences.specs.Sorting.{insertBy, insertAllBy, sortBy, bestBy}
+use Rattle.sequences.proofs.Inserting.{insert-nil, insert-here, insert-later}
+use Rattle.sequences.proofs.Each.{Each}
+use Rattle.sequences.proofs.EachMore.{each-permuted}
 use Rattle.merge_orders.specs.Apart.{Differs, FromEach, Apart}
 
 -- that an element differs from each of some, both ways round

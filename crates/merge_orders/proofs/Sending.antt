@@ -6,7 +6,7 @@ use mathlib.Core.Bool.{true}
 use mathlib.Core.Option.{some}
 use mathlib.Core.List.{List, [], _∷_, flatten, foldl}
 use lib.ListN.{length, getD}
-use Rattle.words.specs.Sorting.{bestBy}
+use Rattle.sequences.specs.Sorting.{bestBy}
 use Rattle.plans.specs.Endings.{top}
 use Rattle.plans.specs.Plans.{planOf}
 use Rattle.lists.specs.Rows.{rowBefore}

@@ -11,7 +11,7 @@ use lib.Seq.{take-append-seam}
 use Rattle.words.specs.declared.Written.{Written}
 use Rattle.words.specs.declared.Written.the-variants.{Words, Refused}
 use Rattle.words.specs.Answers.{wordsIn}
-use Rattle.words.proofs.Booleans.{and-left, and-right}
+use Rattle.sequences.proofs.Booleans.{and-left, and-right}
 use Rattle.words.proofs.Testing.{none-some, some-injective}
 use Rattle.plans.specs.Conditions.{next}
 use Rattle.plans.specs.Plans.{planOf}

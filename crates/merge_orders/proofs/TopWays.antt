@@ -5,14 +5,14 @@ use mathlib.Core.Bool.{Bool, true}
 use mathlib.Core.Option.{some}
 use mathlib.Core.List.{List, [], _∷_, _++_, map, flatten, append-nil, append-assoc, List·Permᴰ}
 use lib.ListN.{length, getD}
-use Rattle.words.proofs.Booleans.{absurd-true}
+use Rattle.sequences.proofs.Booleans.{absurd-true}
 use Rattle.words.proofs.Testing.{some-injective}
 use Rattle.plans.specs.Endings.{top}
 use Rattle.plans.specs.Plans.{planOf}
-use Rattle.words.specs.Sorting.{bestBy}
+use Rattle.sequences.specs.Sorting.{bestBy}
 use Rattle.lists.specs.Rows.{rowBefore}
 use Rattle.lists.specs.Gathering.{recordsIn, merged}
-use Rattle.words.proofs.Sorting.{best-left, best-right}
+use Rattle.sequences.proofs.Sorting.{best-left, best-right}
 use Rattle.lists.proofs.Records.{Wide, wide-append, wide-records, wide-best, records-flatten, records-nil}
 use Rattle.lists.proofs.RowOrder.{rows-ordered}
 use Rattle.lists.proofs.TopLists.{merged-top}

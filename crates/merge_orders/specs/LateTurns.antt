@@ -6,7 +6,7 @@ use mathlib.Core.Bool.{true}
 use mathlib.Core.Option.{some}
 use mathlib.Core.List.{List, map, flatten}
 use lib.ListN.{length}
-use Rattle.words.specs.Sequences.{numbers, distinct}
+use Rattle.sequences.specs.Sequences.{numbers, distinct}
 use Rattle.plans.specs.Endings as endings
 use Rattle.plans.specs.Endings.{top, group}
 use Rattle.plans.specs.Plans.{planOf}

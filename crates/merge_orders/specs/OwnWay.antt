@@ -4,7 +4,7 @@ use mathlib.Core.Path.{_≡_}
 use mathlib.Core.Option.{some}
 use mathlib.Core.List.{List}
 use lib.ListN.{length}
-use Rattle.words.specs.Sequences.{numbers}
+use Rattle.sequences.specs.Sequences.{numbers}
 use Rattle.cuts.specs.Histories.{Phone, servedIn}
 use Rattle.cuts.specs.Premises.{listsIn}
 use Rattle.merge_orders.specs.Ways.{Way, turnsAlong, given}

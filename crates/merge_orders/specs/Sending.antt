@@ -6,7 +6,7 @@ use mathlib.Core.Option.{some}
 use mathlib.Core.List.{List}
 use lib.Dec.{ltb}
 use lib.ListN.{length}
-use Rattle.words.specs.Sequences.{all, distinct}
+use Rattle.sequences.specs.Sequences.{all, distinct}
 use Rattle.plans.specs.Endings.{top}
 use Rattle.plans.specs.Plans.{planOf}
 use Rattle.lists.specs.Gathering.{leastOutput}

@@ -6,7 +6,7 @@ use mathlib.Core.List.{List, [], _∷_, _++_, map, flatten, List·Permᴰ}
 use lib.ListN.{length, take, getD}
 use Rattle.words.specs.declared.Written.{Written}
 use Rattle.words.specs.declared.Written.the-variants.{Words, Refused}
-use Rattle.words.specs.Sequences.{numbers}
+use Rattle.sequences.specs.Sequences.{numbers}
 use Rattle.plans.specs.Conditions.{next}
 use Rattle.lists.specs.Gathering.{recordsIn}
 use Rattle.merges.specs.Merging.{MergeInput, MergeResult, mergeOf}

@@ -4,8 +4,8 @@ use mathlib.Core.Path.{subst⁻¹}
 use lib.ListN.{length}
 use borrow.Author.Tests.{leb-true}
 use Rattle.words.specs.Answers.{wordsIn}
-use Rattle.words.specs.Buffers.{Overwritten}
-use Rattle.words.proofs.Buffers.{overwritten}
+use Rattle.sequences.specs.Buffers.{Overwritten}
+use Rattle.sequences.proofs.Buffers.{overwritten}
 use Rattle.merges.specs.Merging.{MergeInput, MergeResult, mergedWords}
 use Rattle.merges.specs.Refusals.{Merges, MergeWrites}
 use Rattle.merges.proofs.Refusals.{merge-passed, merged-so}

@@ -4,7 +4,7 @@ use plans::among;
 use words::PlanWord;
 use words::Term;
 ghost use mathlib.Core.Path.{_≡_};
-ghost use Rattle.words.specs.Sequences.{all, distinct};
+ghost use Rattle.sequences.specs.Sequences.{all, distinct};
 ghost use Rattle.plans.specs.Branches.{termRight};
 ghost use Rattle.plans.specs.Endings.{isKey};
 ghost use Rattle.plan_ending_forms.specs.Wanting.{isWanted};

@@ -3,7 +3,7 @@ use Prim.Native.Nat.{ℕ}
 use mathlib.Core.Path.{_≡_, refl, sym, _∙_}
 use mathlib.Core.Bool.{Bool, true, false, _&&_}
 use mathlib.Core.List.{[], _∷_}
-use Rattle.words.specs.Sequences.{all, member, distinct}
+use Rattle.sequences.specs.Sequences.{all, member, distinct}
 use Rattle.plans.specs.declared.EndingKind.the-variants.{Rows, Top, Group, Registers}
 use Rattle.plans.specs.Endings.{Ending, rows, top, group, registers, keyAmong, endingRight}
 use Rattle.plans.specs.Reading.{lastIn, variablesIn, keysIn, measuredIn}

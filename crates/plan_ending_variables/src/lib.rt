@@ -13,7 +13,7 @@ use words::PlanWord;
 use words::Term;
 ghost use mathlib.Core.Path.{_≡_};
 ghost use mathlib.Core.Bool.{true, _&&_};
-ghost use Rattle.words.specs.Sequences.{all, distinct};
+ghost use Rattle.sequences.specs.Sequences.{all, distinct};
 ghost use Rattle.plans.specs.Branches.{readBranches, binds};
 ghost use Rattle.plans.specs.Endings.{keyAmong, endingForm, endingAt, endingRight};
 ghost use Rattle.plans.specs.Reading.{isRead, branchesIn};

@@ -7,11 +7,11 @@ use mathlib.Core.List.{List, [], _∷_}
 use lib.Dec.{leb}
 use lib.ListN.{length, take, drop}
 use borrow.Author.Tests.{ne-eqb, le-leb, lt-leb}
-use Rattle.words.specs.Sequences.{all}
+use Rattle.sequences.specs.Sequences.{all}
 use Rattle.words.specs.Tests.{firstFailing, numberOf}
 use Rattle.words.proofs.Testing.{passes-all, test-passed}
 use Rattle.words.proofs.Numbering.{one-fails, none-fails}
-use Rattle.words.proofs.Walking.{rest-of}
+use Rattle.sequences.proofs.Walking.{rest-of}
 use Rattle.plan_tests.specs.declared.Part.{Part}
 use Rattle.plan_tests.specs.declared.Part.the-variants.{Ends, Broken}
 use Rattle.plans.specs.declared.Years.{Years}

@@ -9,8 +9,8 @@ use mathlib.Core.List.{List, _∷_}
 use lib.Dec.{leb}
 use lib.ListN.{length, getD, take, drop}
 use borrow.Author.Tests.{ne-eqb, lt-ltb, le-ltb}
-use Rattle.words.specs.Sequences.{all}
-use Rattle.words.proofs.Walking.{rest-of, rest-length}
+use Rattle.sequences.specs.Sequences.{all}
+use Rattle.sequences.proofs.Walking.{rest-of, rest-length}
 use Rattle.plan_tests.specs.declared.Part.{Part}
 use Rattle.plan_tests.specs.declared.Part.the-variants.{Ends, Broken}
 use Rattle.plans.specs.declared.Tree.{Tree}

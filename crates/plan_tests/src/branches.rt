@@ -9,7 +9,7 @@ use plans::PATTERN_WIDTH;
 use plans::Tree;
 use plans::pattern_count;
 ghost use mathlib.Core.Path.{_≡_};
-ghost use Rattle.words.specs.Sequences.{all};
+ghost use Rattle.sequences.specs.Sequences.{all};
 ghost use Rattle.plans.specs.Branches.{readBranch, readBranches, branchRight};
 ghost use Rattle.plan_tests.specs.Testing.{partOf};
 

@@ -10,9 +10,9 @@ use lib.ListN.{length, take, drop, getD, length-take, length-drop}
 use lib.Seq.{getD-drop}
 use borrow.Author.Tests.{leb-true, ltb-false, eqb-true, eqb-false, not-true}
 use Rattle.words.specs.Words.{kind, low, isVariable, headKind, branchKind, rowsKind, topKind, groupKind, registersKind}
-use Rattle.words.proofs.Booleans.{and-left, and-right, absurd-true}
+use Rattle.sequences.proofs.Booleans.{and-left, and-right, absurd-true}
 use Rattle.words.proofs.Testing.{none-some, some-injective}
-use Rattle.words.proofs.Elements.{all-take, all-at}
+use Rattle.sequences.proofs.Elements.{all-take, all-at}
 use Rattle.plans.specs.declared.EndingKind.{EndingKind}
 use Rattle.plans.specs.declared.EndingKind.the-variants.{Rows, Top, Group, Registers, Invalid}
 use Rattle.plans.specs.declared.Years.{Years}

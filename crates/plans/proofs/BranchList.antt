@@ -8,7 +8,7 @@ use mathlib.Core.Option.{none, some}
 use mathlib.Core.List.{List, [], _∷_}
 use lib.ListN.{length, drop, length-drop}
 use lib.Seq.{drop-drop}
-use Rattle.words.proofs.Booleans.{and-left, and-right}
+use Rattle.sequences.proofs.Booleans.{and-left, and-right}
 use Rattle.plans.specs.Conditions.{Read, next}
 use Rattle.plans.specs.Branches.{Branch, readBranch, readBranches, noBranch, nthBranch}
 use Rattle.plans.specs.Reading.{isRead, wordsRead, readOr, Gives, branchIn, branchesIn}

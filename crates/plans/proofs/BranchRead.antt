@@ -9,8 +9,8 @@ use lib.Dec.{eqb, leb, ltb}
 use lib.ListN.{length, getD, take, drop, length-drop}
 use borrow.Author.Tests.{eq-eqb, leb-true, ltb-false}
 use Rattle.words.specs.Words.{kind, low, branchKind}
-use Rattle.words.proofs.Booleans.{absurd-true}
-use Rattle.words.proofs.Walking.{rest-of}
+use Rattle.sequences.proofs.Booleans.{absurd-true}
+use Rattle.sequences.proofs.Walking.{rest-of}
 use Rattle.words.proofs.Testing.{none-some, some-injective}
 use Rattle.plans.specs.Conditions.{Condition, Read, readCondition, nodes, mostDepth, mostNodes}
 use Rattle.plans.specs.Branches.{Branch, patternWidth, patternCount, mostPatterns, withCondition, readBranch, noBranch}

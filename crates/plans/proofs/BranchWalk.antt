@@ -6,8 +6,8 @@ use mathlib.Core.Bool.{Bool, true, false, _||_}
 use mathlib.Core.List.{List}
 use lib.ListN.{length, take, drop, length-drop}
 use lib.Seq.{drop-drop}
-use Rattle.words.specs.Sequences.{member}
-use Rattle.words.proofs.Walking.{rest-of}
+use Rattle.sequences.specs.Sequences.{member}
+use Rattle.sequences.proofs.Walking.{rest-of}
 use Rattle.plans.specs.Branches.{readBranch, readBranches, binds}
 use Rattle.plans.specs.Reading.{isRead, wordsRead, branchIn, branchesIn}
 use Rattle.plans.proofs.BranchRead.{branch-in}

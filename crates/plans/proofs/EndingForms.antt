@@ -8,9 +8,9 @@ use lib.Dec.{eqb}
 use lib.ListN.{length, getD, take, drop}
 use borrow.Author.Tests.{ne-eqb, le-leb, lt-leb, leb-true, eqb-true}
 use Rattle.words.specs.Words.{low, isVariable}
-use Rattle.words.specs.Sequences.{all}
-use Rattle.words.proofs.Booleans.{absurd-true, and-left, and-right}
-use Rattle.words.proofs.Walking.{rest-of, first-none}
+use Rattle.sequences.specs.Sequences.{all}
+use Rattle.sequences.proofs.Booleans.{absurd-true, and-left, and-right}
+use Rattle.sequences.proofs.Walking.{rest-of, first-none}
 use Rattle.plans.specs.declared.EndingKind.{EndingKind}
 use Rattle.plans.specs.declared.EndingKind.the-variants.{Rows, Top, Group, Registers, Invalid}
 use Rattle.plans.specs.Endings.{mostKeys, rowWidth, rowVariables, afterRows, rowsForm, isKey, keysForm, lastOf, formAs, endingForm}

@@ -6,8 +6,8 @@ use mathlib.Core.Bool.{true}
 use mathlib.Core.List.{List, [], _∷_}
 use lib.ListN.{length, getD, take, drop}
 use Rattle.words.specs.Words.{low}
-use Rattle.words.proofs.Booleans.{absurd-true}
-use Rattle.words.proofs.Walking.{rest-of}
+use Rattle.sequences.proofs.Booleans.{absurd-true}
+use Rattle.sequences.proofs.Walking.{rest-of}
 use Rattle.plans.specs.declared.EndingKind.{EndingKind}
 use Rattle.plans.specs.declared.EndingKind.the-variants.{Rows, Top, Group, Registers, Invalid}
 use Rattle.plans.specs.Endings.{Ending, rows, top, group, registers, bestCount, rowVariables, afterRows, lastOf, formAs}

@@ -9,9 +9,9 @@ use lib.ListN.{length, getD, take, drop, length-append, take-append-drop, drop-o
 use lib.Seq.{drop-drop, drop-cons, length-take-le, take-append-seam, drop-append-seam, getD-drop, getD-append-seam}
 use borrow.Author.Tests.{leb-true, le-leb, eqb-true, eq-eqb, ne-eqb, eqb-false, not-true}
 use Rattle.words.specs.Words.{kind, low, word, isVariable, rowsKind, topKind, groupKind, registersKind}
-use Rattle.words.specs.Sequences.{all}
-use Rattle.words.proofs.Booleans.{absurd-true, and-left, and-right, and-both}
-use Rattle.words.proofs.Elements.{all-append}
+use Rattle.sequences.specs.Sequences.{all}
+use Rattle.sequences.proofs.Booleans.{absurd-true, and-left, and-right, and-both}
+use Rattle.sequences.proofs.Elements.{all-append}
 use Rattle.plans.specs.declared.EndingKind.{EndingKind}
 use Rattle.plans.specs.declared.EndingKind.the-variants.{Rows, Top, Group, Registers, Invalid}
 use Rattle.plans.specs.Endings.{Ending, rows, top, group, registers, mostRowVariables, mostBest, mostKeys, mostGroupVariables, bestCount}

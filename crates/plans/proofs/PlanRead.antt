@@ -9,9 +9,9 @@ use lib.Dec.{eqb, leb}
 use lib.ListN.{length, getD, take, drop}
 use lib.Seq.{drop-drop}
 use borrow.Author.Tests.{leb-true, eqb-false, not-true}
-use Rattle.words.proofs.Booleans.{and-left, and-right}
+use Rattle.sequences.proofs.Booleans.{and-left, and-right}
 use Rattle.words.proofs.Testing.{none-some, some-injective}
-use Rattle.words.proofs.Walking.{rest-of, first-none}
+use Rattle.sequences.proofs.Walking.{rest-of, first-none}
 use Rattle.plans.specs.Years.{yearsIn, yearWords, fromHead, headOf, bodyOf}
 use Rattle.plans.specs.Conditions.{Read}
 use Rattle.plans.specs.Branches.{Branch, readBranch, readBranches}

@@ -12,7 +12,7 @@ use lib.Seq.{drop-append-seam}
 use borrow.Author.Tests.{leb-true, le-leb, eqb-true, eqb-false, eq-eqb, ne-eqb, not-true}
 use Rattle.words.specs.Words.{kind, low, word, yearKind, headKind, yearWord, mostYear}
 use Rattle.words.specs.Tests.{AllPass}
-use Rattle.words.proofs.Booleans.{and-left, and-right, and-both}
+use Rattle.sequences.proofs.Booleans.{and-left, and-right, and-both}
 use Rattle.words.proofs.Testing.{none-some, some-injective}
 use Rattle.plans.specs.declared.Years.{Years}
 use Rattle.plans.specs.declared.Years.the-variants.{Latest, Every, Named}

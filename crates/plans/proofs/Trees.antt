@@ -11,7 +11,7 @@ use lib.ListN.{length, getD, take, drop, length-drop}
 use lib.Seq.{drop-drop}
 use borrow.Author.Tests.{le-ltb}
 use Rattle.words.specs.Words.{kind, andKind}
-use Rattle.words.proofs.Walking.{rest-of, rest-length}
+use Rattle.sequences.proofs.Walking.{rest-of, rest-length}
 use Rattle.plans.specs.declared.Node.{Node}
 use Rattle.plans.specs.declared.Node.the-variants.{Always, Pair, Negated, Compared, Wrong}
 use Rattle.plans.specs.declared.Tree.{Tree}

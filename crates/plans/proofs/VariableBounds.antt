@@ -7,9 +7,9 @@ use mathlib.Core.List.{List, [], _∷_}
 use lib.Dec.{ltb}
 use Rattle.words.specs.Words.{isVariable, termValue}
 use Rattle.words.specs.Bindings.{variableCount}
-use Rattle.words.specs.Sequences.{all, member, distinct}
-use Rattle.words.proofs.Booleans.{and-left, and-right, and-both, absurd-true}
-use Rattle.words.proofs.Elements.{member-all}
+use Rattle.sequences.specs.Sequences.{all, member, distinct}
+use Rattle.sequences.proofs.Booleans.{and-left, and-right, and-both, absurd-true}
+use Rattle.sequences.proofs.Elements.{member-all}
 use Rattle.plans.specs.Conditions.{allBound}
 use Rattle.plans.specs.Branches.{Branch, termRight, branchRight, binds, nthBranch}
 use Rattle.plans.specs.Endings.{Ending, rows, top, group, registers, keyAmong, endingRight}

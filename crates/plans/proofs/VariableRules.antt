@@ -9,10 +9,10 @@ use lib.ListN.{length}
 use borrow.Author.Tests.{ltb-true, lt-ltb}
 use Rattle.words.specs.Words.{isVariable, termValue}
 use Rattle.words.specs.Bindings.{variableCount}
-use Rattle.words.specs.Sequences.{all, member, distinct}
-use Rattle.words.proofs.Booleans.{absurd-true, and-left, and-right, and-both}
-use Rattle.words.proofs.Elements.{all-element, element-all}
-use Rattle.words.proofs.Members.{all-when, distinct-when}
+use Rattle.sequences.specs.Sequences.{all, member, distinct}
+use Rattle.sequences.proofs.Booleans.{absurd-true, and-left, and-right, and-both}
+use Rattle.sequences.proofs.Elements.{all-element, element-all}
+use Rattle.sequences.proofs.Members.{all-when, distinct-when}
 use Rattle.plans.specs.Conditions.{Condition, always, both, either, negated, compared, boundIn, allBound}
 use Rattle.plans.specs.Branches.{Branch, termRight, branchRight, binds, noBranch, nthBranch}
 use Rattle.plans.specs.Endings.{Ending, rows, top, group, registers, keyAmong, endingRight}

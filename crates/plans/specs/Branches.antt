@@ -7,7 +7,7 @@ use lib.Dec.{eqb, leb, ltb}
 use lib.ListN.{length, take, drop, getD}
 use Rattle.words.specs.Words.{kind, low, isVariable, termValue, branchKind}
 use Rattle.words.specs.Bindings.{variableCount}
-use Rattle.words.specs.Sequences.{all, member}
+use Rattle.sequences.specs.Sequences.{all, member}
 use Rattle.plans.specs.Conditions.{Condition, always, Read, next, readCondition, nodes, mostDepth, mostNodes, allBound}
 
 -- the patterns' terms, one pattern after the other

@@ -6,7 +6,7 @@ use mathlib.Core.List.{List, [], _∷_}
 use lib.Dec.{eqb, leb}
 use lib.ListN.{drop}
 use Rattle.words.specs.Words.{kind, low, isVariable, trueKind, andKind, orKind, notKind, comparisonKind, lastOperator}
-use Rattle.words.specs.Sequences.{member}
+use Rattle.sequences.specs.Sequences.{member}
 use Rattle.plans.specs.declared.Node.{Node}
 use Rattle.plans.specs.declared.Node.the-variants.{Always, Pair, Negated, Compared, Wrong}
 

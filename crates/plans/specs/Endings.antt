@@ -5,7 +5,7 @@ use mathlib.Core.List.{List, []}
 use lib.Dec.{eqb, leb}
 use lib.ListN.{length, take, drop, getD}
 use Rattle.words.specs.Words.{kind, low, isVariable, variable, rowsKind, topKind, risingKind, fallingKind, groupKind, registersKind}
-use Rattle.words.specs.Sequences.{all, member, distinct}
+use Rattle.sequences.specs.Sequences.{all, member, distinct}
 use Rattle.plans.specs.declared.EndingKind.{EndingKind}
 use Rattle.plans.specs.declared.EndingKind.the-variants.{Rows, Top, Group, Registers, Invalid}
 

@@ -5,7 +5,7 @@ use mathlib.Core.Bool.{true}
 use mathlib.Core.List.{List}
 use lib.ListN.{length}
 use Rattle.words.specs.Words.{isVariable}
-use Rattle.words.specs.Sequences.{all}
+use Rattle.sequences.specs.Sequences.{all}
 use Rattle.plans.specs.Branches.{Branch, patternWidth, mostPatterns}
 use Rattle.plans.specs.Endings.{Ending, rows, top, group, registers, mostRowVariables, mostBest, mostKeys, mostGroupVariables, isKey}
 

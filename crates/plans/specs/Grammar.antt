@@ -8,7 +8,7 @@ use lib.ListN.{length, getD}
 use Rattle.words.specs.Words.{lowNumbers, low, word, isVariable, termValue, variable, mostYear, yearWord, headKind, branchKind, trueKind, andKind, orKind}
 use Rattle.words.specs.Words.{notKind, comparisonKind, lastOperator, rowsKind, topKind, groupKind, registersKind}
 use Rattle.words.specs.Bindings.{variableCount}
-use Rattle.words.specs.Sequences.{member}
+use Rattle.sequences.specs.Sequences.{member}
 use Rattle.plans.specs.declared.Years.{Years}
 use Rattle.plans.specs.declared.Years.the-variants.{Latest, Every, Named}
 use Rattle.plans.specs.Conditions.{Condition, always, both, either, negated, compared, nodes, mostNodes, mostDepth}

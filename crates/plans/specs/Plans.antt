@@ -6,7 +6,7 @@ use mathlib.Core.List.{List, [], _∷_}
 use lib.Dec.{eqb, leb}
 use lib.ListN.{length, drop}
 use Rattle.words.specs.Words.{kind, low, headKind}
-use Rattle.words.specs.Sequences.{all}
+use Rattle.sequences.specs.Sequences.{all}
 use Rattle.words.specs.Tests.{Test}
 use Rattle.plans.specs.declared.Years.{Years}
 use Rattle.plans.specs.declared.Years.the-variants.{Latest}

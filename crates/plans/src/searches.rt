@@ -3,7 +3,7 @@ use words::PlanWord;
 ghost use mathlib.Core.Path.{_≡_};
 ghost use Prim.Native.Nat.{_≤_};
 ghost use lib.ListN.{getD};
-ghost use Rattle.words.specs.Sequences.{member};
+ghost use Rattle.sequences.specs.Sequences.{member};
 ghost use Rattle.plans.specs.Reading.{countIn};
 
 // The first word of p, or 0, which begins no head, branch, condition or ending, where there is none.

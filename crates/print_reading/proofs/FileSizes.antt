@@ -4,7 +4,7 @@ use native.Mathlib.Omega.{arith}
 use mathlib.Core.Path.{_≡_, refl, sym, _∙_}
 use mathlib.Core.List.{List}
 use lib.ListN.{length, getD, take, length-replicate}
-use Rattle.words.specs.Sequences.{parts}
+use Rattle.sequences.specs.Sequences.{parts}
 use Rattle.lists.specs.Gathering.{recordsIn}
 use Rattle.print_reading.specs.declared.Layout.the-variants.{Parts, Refused}
 use Rattle.print_reading.specs.Files.{wordBytes, littleEndian, fileWords, mostFileBytes, planAt, partsOf, countsRight, partsIn, layoutOf}

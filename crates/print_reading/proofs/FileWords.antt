@@ -7,8 +7,8 @@ use mathlib.Core.List.{List, [], _∷_}
 use lib.ListN.{length, getD, take, drop, set, length-map, List·getD-map}
 use lib.Seq.{drop-cons, take-suc, take-all, length-take-le}
 use borrow.Author.Tests.{le-leb, lt-leb, eq-eqb, ne-eqb}
-use Rattle.words.specs.Sequences.{over}
-use Rattle.words.proofs.Buffers.{over-next}
+use Rattle.sequences.specs.Sequences.{over}
+use Rattle.sequences.proofs.Buffers.{over-next}
 use Rattle.lists.specs.Gathering.{recordsIn}
 use Rattle.lists.proofs.Records.{length-records}
 use Rattle.list_group_totals.proofs.RecordAt.{part-at}

@@ -7,8 +7,8 @@ use mathlib.Core.List.{List}
 use lib.Dec.{leb}
 use lib.ListN.{length, take}
 use borrow.Author.Tests.{leb-true}
-use Rattle.words.proofs.Booleans.{and-left, and-right}
-use Rattle.words.proofs.Buffers.{take-over}
+use Rattle.sequences.proofs.Booleans.{and-left, and-right}
+use Rattle.sequences.proofs.Buffers.{take-over}
 use Rattle.print_reading.specs.declared.FileParts.{FileParts}
 use Rattle.print_reading.specs.declared.Layout.the-variants.{Parts, Refused}
 use Rattle.print_reading.specs.Files.{wordBytes, mostFileBytes, fileWords, rowsAt, planAt, rowCountIn, partsOf, Laid, countsRight, partsIn}

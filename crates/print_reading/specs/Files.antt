@@ -4,7 +4,7 @@ use mathlib.Core.Bool.{Bool, cond, _&&_}
 use mathlib.Core.List.{List, [], _∷_, map}
 use lib.Dec.{eqb, leb}
 use lib.ListN.{length, getD}
-use Rattle.words.specs.Sequences.{over}
+use Rattle.sequences.specs.Sequences.{over}
 use Rattle.tables.specs.Tables.{columnCount}
 use Rattle.lists.specs.Gathering.{recordsIn}
 use Rattle.print_reading.specs.declared.FileParts.{FileParts}

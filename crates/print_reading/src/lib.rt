@@ -3,7 +3,7 @@ use tables::COLUMNS;
 ghost use mathlib.Core.Path.{_≡_};
 ghost use Prim.Native.Nat.{_+_, _/_, _<_, _≤_};
 ghost use lib.ListN.{length, take, drop};
-ghost use Rattle.words.specs.Sequences.{over};
+ghost use Rattle.sequences.specs.Sequences.{over};
 ghost use Rattle.print_reading.specs.Files.{littleEndian, fileWords, wordBytes, mostFileBytes, partsIn, layoutOf, readOf};
 
 // Where the parts of a file begin, in words, and the words in all; the rows begin after the row count and the quantum.

@@ -8,9 +8,9 @@ use mathlib.Core.List.{List}
 use lib.Dec.{eqb}
 use lib.ListN.{length}
 use borrow.Author.Tests.{eqb-true}
-use Rattle.words.specs.Sequences.{all}
-use Rattle.words.proofs.Booleans.{and-left}
-use Rattle.words.proofs.Buffers.{length-over}
+use Rattle.sequences.specs.Sequences.{all}
+use Rattle.sequences.proofs.Booleans.{and-left}
+use Rattle.sequences.proofs.Buffers.{length-over}
 use Rattle.plans.specs.Endings.{Ending, rows, top, group, registers}
 use Rattle.plans.specs.Plans.{planOf}
 use Rattle.registers.specs.Registers.{registerCount, isRank, areRegisters, keptRegisters}

@@ -7,7 +7,7 @@ use mathlib.Core.Bool.{Bool, true, false}
 use mathlib.Core.List.{List, [], map}
 use lib.ListN.{length, drop}
 use Rattle.words.specs.Bindings.{Bindings}
-use Rattle.words.proofs.Booleans.{absurd-true}
+use Rattle.sequences.proofs.Booleans.{absurd-true}
 use Rattle.tables.specs.Tables.{Tables}
 use Rattle.plans.specs.declared.EndingKind.the-variants.{Rows}
 use Rattle.plans.specs.Endings.{Ending, rows, top, group, registers}

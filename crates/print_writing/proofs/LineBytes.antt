@@ -3,7 +3,7 @@ use Prim.Native.Nat.{ℕ, _≤_}
 use mathlib.Core.Path.{_∙_, ap₂}
 use mathlib.Core.List.{List}
 use lib.ListN.{length, take}
-use Rattle.words.proofs.Buffers.{take-over}
+use Rattle.sequences.proofs.Buffers.{take-over}
 use Rattle.lists.specs.Putting.{Listed}
 use Rattle.print_writing.specs.Shown.{IsLine}
 

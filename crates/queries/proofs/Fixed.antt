@@ -8,8 +8,8 @@ use mathlib.Core.Bool.{true}
 use mathlib.Core.List.{List}
 use lib.ListN.{length}
 use Rattle.words.specs.declared.Written.the-variants as written
-use Rattle.words.specs.Sequences.{over}
-use Rattle.words.proofs.Booleans.{absurd-true}
+use Rattle.sequences.specs.Sequences.{over}
+use Rattle.sequences.proofs.Booleans.{absurd-true}
 use Rattle.words.proofs.Testing.{none-some}
 use Rattle.tables.specs.Tables.{Tables}
 use Rattle.plans.specs.Plans.{Plan, planOf}

@@ -7,8 +7,8 @@ use mathlib.Core.List.{List, [], _∷_, _++_, append-assoc, append-nil}
 use lib.ListN.{length, drop}
 use lib.Seq.{drop-append-le}
 use Rattle.words.specs.Bindings.{Bindings}
-use Rattle.words.specs.Sequences.{all}
-use Rattle.words.proofs.Booleans.{and-right}
+use Rattle.sequences.specs.Sequences.{all}
+use Rattle.sequences.proofs.Booleans.{and-right}
 use Rattle.tables.specs.Tables.{Tables}
 use Rattle.plans.specs.Branches.{branchRight, binds}
 use Rattle.plans.specs.Endings.{Ending, endingRight}

@@ -10,7 +10,7 @@ use lib.Dec.{leb}
 use lib.ListN.{length}
 use borrow.Author.Tests.{leb-true, leb-false, le-leb}
 use Rattle.words.specs.Tests.{firstFailing}
-use Rattle.words.proofs.Booleans.{absurd-true, and-right, and-both}
+use Rattle.sequences.proofs.Booleans.{absurd-true, and-right, and-both}
 use Rattle.words.proofs.Testing.{none-some, some-injective, fails-first, all-passes, first-append, orElse}
 use Rattle.tables.specs.Tables.{Tables, tableTests}
 use Rattle.plans.specs.Endings.{Ending}

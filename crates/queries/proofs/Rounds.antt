@@ -6,8 +6,8 @@ use mathlib.Core.Bool.{false}
 use mathlib.Core.List.{List}
 use Rattle.words.specs.declared.Written.{Written}
 use Rattle.words.specs.declared.Written.the-variants as written
-use Rattle.words.specs.Sequences.{iterate}
-use Rattle.words.proofs.Iterating.{iterate-add, iterate-fixed}
+use Rattle.sequences.specs.Sequences.{iterate}
+use Rattle.sequences.proofs.Iterating.{iterate-add, iterate-fixed}
 use Rattle.plans.specs.Plans.{planOf}
 use Rattle.turns.specs.Surveys.{Survey}
 use Rattle.turns.specs.Opening.{openOf}

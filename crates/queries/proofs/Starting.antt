@@ -10,8 +10,8 @@ use Rattle.words.specs.declared.Written.{Written}
 use Rattle.words.specs.declared.Written.the-variants as written
 use Rattle.words.specs.Words.{lowNumbers}
 use Rattle.words.specs.Answers.{wordsIn}
-use Rattle.words.specs.Sequences.{all, over}
-use Rattle.words.proofs.Buffers.{length-over}
+use Rattle.sequences.specs.Sequences.{all, over}
+use Rattle.sequences.proofs.Buffers.{length-over}
 use Rattle.plans.specs.Endings.{Ending, rows, top, group, registers}
 use Rattle.plans.specs.Plans.{planOf}
 use Rattle.steps.specs.Steps.{Run, after}

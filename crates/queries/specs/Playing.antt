@@ -8,7 +8,7 @@ use mathlib.Core.Option.{none}
 use lib.ListN.{length, take, drop}
 use Rattle.words.specs.declared.Written.the-variants as written
 use Rattle.words.specs.Answers.{wordsIn}
-use Rattle.words.specs.Sequences.{over}
+use Rattle.sequences.specs.Sequences.{over}
 use Rattle.tables.specs.Tables.{Tables}
 use Rattle.plans.specs.Plans.{planOf}
 use Rattle.steps.specs.Steps.{after}

@@ -4,7 +4,7 @@ use Prim.Native.Nat.{ℕ}
 use mathlib.Core.List.{List, []}
 use Rattle.words.specs.declared.Written.{Written}
 use Rattle.words.specs.declared.Written.the-variants as written
-use Rattle.words.specs.Sequences.{iterate}
+use Rattle.sequences.specs.Sequences.{iterate}
 use Rattle.turns.specs.Surveys.{Survey}
 use Rattle.turns.specs.Opening.{openOf}
 use Rattle.turns.specs.Turns.{TurnInput}

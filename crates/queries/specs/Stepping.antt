@@ -6,7 +6,7 @@ use lib.Dec.{leb}
 use lib.ListN.{length, take}
 use Rattle.words.specs.declared.Written.{Written}
 use Rattle.words.specs.declared.Written.the-variants as written
-use Rattle.words.specs.Sequences.{over}
+use Rattle.sequences.specs.Sequences.{over}
 use Rattle.plans.specs.Endings.{Ending}
 use Rattle.plans.specs.Plans.{planOf}
 use Rattle.lists.specs.Gathering.{isRows}

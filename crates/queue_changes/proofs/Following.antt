@@ -4,7 +4,7 @@ use mathlib.Core.Bool.{Bool, true, false, cond}
 use mathlib.Core.List.{List, _++_}
 use lib.Dec.{eqb}
 use borrow.Author.Tests.{eqb-true, eqb-false}
-use Rattle.words.specs.Sequences.{all}
+use Rattle.sequences.specs.Sequences.{all}
 use Rattle.words.specs.Tests.{Test, firstFailing, numberOf}
 use Rattle.words.proofs.Numbering.{isNumbered, none-fails, front-decides, rest-decides}
 use Rattle.queue_changes.specs.Changes.{firstNumber}

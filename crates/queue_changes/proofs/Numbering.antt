@@ -6,7 +6,7 @@ use lib.Dec.{leb, ltb}
 use borrow.Author.Tests.{lt-leb, le-leb, ltb-true, ltb-false}
 use mathlib.Core.Bool.{Bool, true, false, _&&_, not}
 use Rattle.words.specs.Tests.{firstFailing, numberOf}
-use Rattle.words.proofs.Booleans.{absurd-true}
+use Rattle.sequences.proofs.Booleans.{absurd-true}
 use Rattle.queues.specs.ToppingUp.{topUpTestsBy}
 
 module _ (entries room : Bool) where

@@ -5,7 +5,7 @@ use mathlib.Core.Path.{_≡_, refl, sym, _∙_}
 use mathlib.Core.Bool.{true, false}
 use lib.Dec.{leb}
 use borrow.Author.Tests.{le-leb, lt-leb, leb-true}
-use Rattle.words.proofs.Elements.{same-test}
+use Rattle.sequences.proofs.Elements.{same-test}
 use Rattle.queues.specs.Lists.{mostEntries}
 use Rattle.queue_changes.specs.Changes.{roomBy}
 

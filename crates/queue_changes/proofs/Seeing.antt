@@ -8,8 +8,8 @@ use mathlib.Core.List.{List}
 use lib.Dec.{leb, ltb}
 use lib.ListN.{length, take}
 use borrow.Author.Tests.{leb-true}
-use Rattle.words.specs.Sequences.{member}
-use Rattle.words.proofs.Booleans.{and-left, and-right}
+use Rattle.sequences.specs.Sequences.{member}
+use Rattle.sequences.proofs.Booleans.{and-left, and-right}
 use Rattle.queues.specs.declared.Entry.{Entry}
 use Rattle.queues.specs.Lists.{mostEntries, lentAs, ownersIn, entriesRight, spaceRight}
 use Rattle.queue_entries.specs.declared.Seen.{Seen}

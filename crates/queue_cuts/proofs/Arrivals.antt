@@ -5,10 +5,10 @@ use mathlib.Core.Bool.{Bool, true, false, not}
 use mathlib.Core.Option.{none}
 use mathlib.Core.List.{List, [], _∷_, _++_}
 use lib.Dec.{eqb}
-use Rattle.words.specs.Sequences.{member}
+use Rattle.sequences.specs.Sequences.{member}
 use Rattle.words.specs.Tests.{Test, firstFailing}
 use Rattle.words.proofs.Numbering.{both-pass}
-use Rattle.words.proofs.Booleans.{and-right, or-left, or-right}
+use Rattle.sequences.proofs.Booleans.{and-right, or-left, or-right}
 use Rattle.words.proofs.Testing.{none-some}
 use Rattle.tables.specs.Tables.{tableTests}
 use Rattle.plans.specs.Plans.{planTests}

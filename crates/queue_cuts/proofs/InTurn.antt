@@ -10,9 +10,9 @@ use mathlib.Core.List.{List, [], _∷_, _++_}
 use lib.Dec.{leb}
 use lib.ListN.{length, length-append, length-replicate}
 use borrow.Author.Tests.{le-leb}
-use Rattle.words.specs.Sequences.{all}
+use Rattle.sequences.specs.Sequences.{all}
 use Rattle.words.specs.Tests.{AllPass}
-use Rattle.words.proofs.Booleans.{and-both}
+use Rattle.sequences.proofs.Booleans.{and-both}
 use Rattle.words.proofs.Testing.{none-some}
 use Rattle.plans.specs.Plans.{planOf}
 use Rattle.lists.specs.Gathering.{leastOutput}

@@ -10,7 +10,7 @@ use lib.Seq.{take-append-seam}
 use lib.Dec.{eqb}
 use borrow.Author.Tests.{le-leb}
 use Rattle.words.specs.Tests.{firstFailing}
-use Rattle.words.proofs.Orders.{less, same, more, three}
+use Rattle.sequences.proofs.Orders.{less, same, more, three}
 use Rattle.tables.specs.Tables.{Tables}
 use Rattle.plans.specs.Plans.{Plan, planOf}
 use Rattle.steps.specs.Steps.{after}

@@ -4,7 +4,7 @@ use mathlib.Core.Path.{_≡_, refl}
 use mathlib.Core.Bool.{Bool, true, false, _&&_, _||_, not}
 use mathlib.Core.List.{List, [], _∷_, _++_}
 use lib.Dec.{eqb}
-use Rattle.words.specs.Sequences.{member, distinct}
+use Rattle.sequences.specs.Sequences.{member, distinct}
 use Rattle.queues.proofs.Moving.{same-either-way}
 
 either-first : (a b c : Bool) → a || (b || c) ≡ b || (a || c)

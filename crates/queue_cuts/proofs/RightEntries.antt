@@ -10,9 +10,9 @@ use lib.Dec.{leb}
 use lib.ListN.{length, take, drop, length-append, length-drop, length-replicate}
 use lib.Seq.{take-append-seam}
 use borrow.Author.Tests.{le-leb}
-use Rattle.words.specs.Buffers.{Overwritten}
+use Rattle.sequences.specs.Buffers.{Overwritten}
 use Rattle.words.specs.Tests.{Test, firstFailing, AllPass}
-use Rattle.words.proofs.Booleans.{and-right, and-both}
+use Rattle.sequences.proofs.Booleans.{and-right, and-both}
 use Rattle.words.proofs.Numbering.{both-pass}
 use Rattle.words.proofs.Testing.{passes-all, test-passed}
 use Rattle.tables.specs.Tables.{tableTests}

@@ -8,10 +8,10 @@ use mathlib.Core.List.{List, [], _∷_, _++_, map, map-append, append-assoc, app
 use lib.Dec.{eqb, leb}
 use lib.ListN.{length, length-append}
 use borrow.Author.Tests.{leb-true}
-use Rattle.words.specs.Sequences.{all, keep, member, distinct}
+use Rattle.sequences.specs.Sequences.{all, keep, member, distinct}
 use Rattle.words.specs.Tests.{firstFailing}
-use Rattle.words.proofs.Booleans.{and-left, and-right, and-both}
-use Rattle.words.proofs.Elements.{all-head, all-tail, all-cons, all-append}
+use Rattle.sequences.proofs.Booleans.{and-left, and-right, and-both}
+use Rattle.sequences.proofs.Elements.{all-head, all-tail, all-cons, all-append}
 use Rattle.words.proofs.Testing.{passes-all, test-passed}
 use Rattle.turns.specs.Surveys.{Survey}
 use Rattle.queues.specs.declared.Entry.{Entry}

@@ -5,7 +5,7 @@ use mathlib.Core.Path.{_≡_}
 use mathlib.Core.Bool.{true}
 use mathlib.Core.List.{List, [], _∷_, _++_}
 use lib.ListN.{length, replicate}
-use Rattle.words.specs.Sequences.{all, distinct}
+use Rattle.sequences.specs.Sequences.{all, distinct}
 use Rattle.plans.specs.Plans.{planOf}
 use Rattle.steps.specs.Saved.{leastStateWords}
 use Rattle.lists.specs.Gathering.{leastOutput}

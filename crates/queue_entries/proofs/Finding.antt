@@ -9,8 +9,8 @@ use lib.Dec.{eqb, leb, ltb}
 use lib.ListN.{length, take, drop, getD, length-take, length-drop, drop-of-length-le}
 use lib.Seq.{getD-take, getD-drop, drop-cons, length-take-le}
 use borrow.Author.Tests.{eq-eqb, ne-eqb, lt-ltb, le-ltb}
-use Rattle.words.specs.Sequences.{member}
-use Rattle.words.proofs.Orders.{less, same, more, three}
+use Rattle.sequences.specs.Sequences.{member}
+use Rattle.sequences.proofs.Orders.{less, same, more, three}
 use Rattle.queues.specs.declared.Entry.{Entry}
 use Rattle.queues.specs.Lists.{ownersIn}
 use Rattle.queue_entries.specs.Entries.{nobody, FoundAt, stepsRight, standing}

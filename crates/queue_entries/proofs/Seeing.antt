@@ -7,7 +7,7 @@ use mathlib.Core.Bool.{Bool, true, false}
 use mathlib.Core.List.{List, []}
 use lib.ListN.{length, take}
 use lib.Seq.{take-all}
-use Rattle.words.proofs.Orders.{less, same, more, three}
+use Rattle.sequences.proofs.Orders.{less, same, more, three}
 use Rattle.queues.specs.declared.Entry.{Entry}
 use Rattle.queues.specs.Lists.{ownersIn, lentAs}
 use Rattle.queue_entries.specs.Entries.{FoundAt, standing}

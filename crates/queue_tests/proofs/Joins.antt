@@ -8,9 +8,9 @@ use mathlib.Core.List.{List, [], _∷_, _++_}
 use lib.Dec.{ltb, eqb}
 use lib.ListN.{length, take, drop, getD, replicate, length-append, length-drop}
 use lib.Seq.{take-length, length-take-le, paste}
-use Rattle.words.specs.Sequences.{all, member}
+use Rattle.sequences.specs.Sequences.{all, member}
 use Rattle.words.specs.Tests.{firstFailing, numberOf, AllPass}
-use Rattle.words.proofs.Booleans.{absurd-true, and-right}
+use Rattle.sequences.proofs.Booleans.{absurd-true, and-right}
 use Rattle.words.proofs.Numbering.{none-fails, one-fails}
 use Rattle.words.proofs.Testing.{passes-all, test-passed}
 use Rattle.tables.specs.Tables.{Tables}

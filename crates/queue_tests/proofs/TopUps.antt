@@ -9,9 +9,9 @@ use lib.Dec.{leb, ltb}
 use lib.ListN.{length, take, drop, getD, length-append, length-drop}
 use lib.Seq.{take-take, getD-take, length-take-le}
 use borrow.Author.Tests.{eq-eqb, ne-eqb, ltb-true}
-use Rattle.words.specs.Sequences.{keep, member, distinct}
+use Rattle.sequences.specs.Sequences.{keep, member, distinct}
 use Rattle.words.specs.Tests.{firstFailing, numberOf}
-use Rattle.words.proofs.Booleans.{absurd-true, and-left, and-right}
+use Rattle.sequences.proofs.Booleans.{absurd-true, and-left, and-right}
 use Rattle.words.proofs.Numbering.{one-fails}
 use Rattle.queues.specs.declared.Entry.{Entry}
 use Rattle.queues.specs.declared.Queued.the-variants.{Lists}

@@ -6,9 +6,9 @@ use mathlib.Core.Bool.{Bool, true, false, _&&_, not}
 use mathlib.Core.List.{_++_}
 use lib.Dec.{eqb}
 use borrow.Author.Tests.{le-leb, lt-leb, eq-eqb, ne-eqb}
-use Rattle.words.specs.Sequences.{all}
+use Rattle.sequences.specs.Sequences.{all}
 use Rattle.words.specs.Tests.{firstFailing, numberOf}
-use Rattle.words.proofs.Booleans.{absurd-true}
+use Rattle.sequences.proofs.Booleans.{absurd-true}
 use Rattle.tables.specs.Tables.{Tables, tableTests}
 use Rattle.steps.specs.Saved.{numberRight}
 use Rattle.turns.specs.Turns.{mostSteps}

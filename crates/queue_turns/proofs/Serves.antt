@@ -9,10 +9,10 @@ use mathlib.Core.List.{List, [], _∷_, _++_}
 use lib.Dec.{leb, eqb}
 use lib.ListN.{length, take, drop, getD}
 use borrow.Author.Tests.{le-leb, leb-true, eqb-true, eqb-false}
-use Rattle.words.specs.Sequences.{all, distinct}
+use Rattle.sequences.specs.Sequences.{all, distinct}
 use Rattle.words.specs.Tests.{Test, firstFailing, numberOf, AllPass}
-use Rattle.words.proofs.Booleans.{absurd-true, and-left, and-right, and-both}
-use Rattle.words.proofs.Elements.{all-head}
+use Rattle.sequences.proofs.Booleans.{absurd-true, and-left, and-right, and-both}
+use Rattle.sequences.proofs.Elements.{all-head}
 use Rattle.words.proofs.Testing.{orElse, first-append, passes-all, test-passed}
 use Rattle.words.proofs.Numbering.{isNumbered, none-fails, one-fails, both-pass}
 use Rattle.turns.specs.Surveys.{Survey}

@@ -10,9 +10,9 @@ use lib.ListN.{length, take}
 use lib.Seq.{take-append-seam}
 use lib.Dec.{eqb, leb}
 use borrow.Author.Tests.{eqb-true, eqb-false, eq-eqb, ne-eqb}
-use Rattle.words.specs.Sequences.{all, keep, member, distinct}
+use Rattle.sequences.specs.Sequences.{all, keep, member, distinct}
 use Rattle.words.specs.Tests.{Test, firstFailing}
-use Rattle.words.proofs.Booleans.{absurd-true, and-left, and-right, or-left, or-right}
+use Rattle.sequences.proofs.Booleans.{absurd-true, and-left, and-right, or-left, or-right}
 use Rattle.words.proofs.Testing.{none-some}
 use Rattle.turns.specs.Surveys.{Survey}
 use Rattle.turns.specs.declared.TurnEnding.{TurnEnding}

@@ -10,10 +10,10 @@ use mathlib.Core.Option.{Option, none, some}
 use mathlib.Core.List.{List, [], _∷_, _++_, map}
 use lib.Dec.{leb, eqb}
 use borrow.Author.Tests.{le-leb, leb-true}
-use Rattle.words.specs.Sequences.{all, distinct}
+use Rattle.sequences.specs.Sequences.{all, distinct}
 use Rattle.words.specs.Tests.{Test, firstFailing, numberOf, AllPass, FirstFails}
-use Rattle.words.proofs.Booleans.{absurd-true, and-left, and-right, and-both}
-use Rattle.words.proofs.Elements.{all-head}
+use Rattle.sequences.proofs.Booleans.{absurd-true, and-left, and-right, and-both}
+use Rattle.sequences.proofs.Elements.{all-head}
 use Rattle.words.proofs.Testing.{passes-all, all-passes, first-fails, fails-first, front-passes, rest-passes, test-passed}
 use Rattle.words.proofs.Refusing.{refused-by, served-when}
 use Rattle.turns.specs.Surveys.{Survey}

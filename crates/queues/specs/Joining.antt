@@ -5,7 +5,7 @@ use mathlib.Core.Option.{Option, none, some}
 use mathlib.Core.List.{List, [], _∷_, _++_}
 use lib.ListN.{length}
 use lib.Dec.{eqb}
-use Rattle.words.specs.Sequences.{member}
+use Rattle.sequences.specs.Sequences.{member}
 use Rattle.words.specs.Tests.{Test, firstFailing}
 use Rattle.tables.specs.Tables.{tableTests}
 use Rattle.plans.specs.Plans.{planOf, planTests}

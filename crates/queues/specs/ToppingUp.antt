@@ -4,7 +4,7 @@ use mathlib.Core.Bool.{Bool, _&&_, not}
 use mathlib.Core.Option.{Option, none, some}
 use mathlib.Core.List.{List, [], _∷_, _++_, map}
 use lib.Dec.{leb}
-use Rattle.words.specs.Sequences.{keep, member}
+use Rattle.sequences.specs.Sequences.{keep, member}
 use Rattle.words.specs.Tests.{Test, firstFailing}
 use Rattle.queues.specs.declared.Entry.{Entry}
 use Rattle.queues.specs.Lists.{LentLists, lineOf, asideOf, ownersIn, hasOwner, entriesRight, spaceRight}

@@ -8,9 +8,9 @@ use lib.Dec.{eqb}
 use lib.ListN.{length, take}
 use borrow.Author.Tests.{eqb-true, le-leb, lt-leb}
 use Rattle.words.specs.declared.Written.the-variants.{Words, Refused}
-use Rattle.words.specs.Sequences.{all, over}
+use Rattle.sequences.specs.Sequences.{all, over}
 use Rattle.words.specs.Tests.{firstFailing}
-use Rattle.words.proofs.Booleans.{and-left}
+use Rattle.sequences.proofs.Booleans.{and-left}
 use Rattle.registers.specs.Registers.{registerCount, isRank, areRegisters, keptRegisters, reportOn}
 use Rattle.registers.specs.Reporting.{ReportResult, reportInput, reportWords, reportOf}
 use Rattle.registers.proofs.Reports.{report-length}

@@ -5,9 +5,9 @@ use native.Mathlib.Numerals.{add-one}
 use mathlib.Core.Path.{_≡_, refl, sym, _∙_, ap}
 use mathlib.Core.List.{List, [], _∷_, _++_, map}
 use lib.ListN.{length, set, length-map}
-use Rattle.words.specs.Sequences.{numbers, over}
-use Rattle.words.proofs.Numbers.{numbers-none, numbers-next, numbers-length}
-use Rattle.words.proofs.Buffers.{over-next}
+use Rattle.sequences.specs.Sequences.{numbers, over}
+use Rattle.sequences.proofs.Numbers.{numbers-none, numbers-next, numbers-length}
+use Rattle.sequences.proofs.Buffers.{over-next}
 use Rattle.registers.specs.Registers.{registersIn, countAt, reportOn}
 use Rattle.registers.specs.Reporting.{reportWords}
 

@@ -4,7 +4,7 @@ ghost use mathlib.Core.Path.{_≡_};
 ghost use Prim.Native.Nat.{_≤_};
 ghost use mathlib.Core.List.{[]};
 ghost use lib.ListN.{length};
-ghost use Rattle.words.specs.Sequences.{over};
+ghost use Rattle.sequences.specs.Sequences.{over};
 ghost use Rattle.registers.specs.Registers.{registerCount, registersIn, countAt, reportOn};
 ghost use Rattle.registers.specs.Reporting.{reportWords};
 

@@ -9,9 +9,9 @@ use lib.Dec.{eqb}
 use lib.ListN.{length, replicate, length-map}
 use lib.Count.{leading-le}
 use borrow.Author.Tests.{leb-true, le-leb, eq-eqb, eqb-true}
-use Rattle.words.specs.Sequences.{all, numbers}
-use Rattle.words.proofs.Booleans.{and-left, and-right, and-both}
-use Rattle.words.proofs.Numbers.{numbers-length}
+use Rattle.sequences.specs.Sequences.{all, numbers}
+use Rattle.sequences.proofs.Booleans.{and-left, and-right, and-both}
+use Rattle.sequences.proofs.Numbers.{numbers-length}
 use Rattle.register_hashes.specs.Hashes.{hashOf, pickedBy, rankIn}
 use Rattle.registers.specs.Registers.{registerCount, mostRank, givenTo, registerOf, registersOf, registersIn, greaterOf, isRank, areRegisters}
 

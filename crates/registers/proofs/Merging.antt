@@ -3,7 +3,7 @@ use Prim.Native.Nat.{ℕ, _≤_, max}
 use native.Mathlib.Nat.{max-comm, zero-max, max-le, le-max-left, le-max-right, le-antisymm, le-trans, le-refl}
 use mathlib.Core.Path.{_≡_, refl, sym, _∙_, ap, ap₂}
 use mathlib.Core.List.{List, [], _∷_, _++_, map}
-use Rattle.words.specs.Sequences.{numbers}
+use Rattle.sequences.specs.Sequences.{numbers}
 use Rattle.registers.specs.Registers.{givenTo, registerOf, registersOf, greaterOf, registerCount}
 
 -- ---- of two numbers

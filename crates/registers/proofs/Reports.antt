@@ -7,9 +7,9 @@ use mathlib.Core.List.{List, [], _∷_, _++_, map}
 use lib.Dec.{eqb, ltb}
 use lib.ListN.{length, replicate, length-map}
 use borrow.Author.Tests.{leb-true, eqb-true, eqb-false, ltb-true, ltb-false, lt-ltb}
-use Rattle.words.specs.Sequences.{all, numbers}
-use Rattle.words.proofs.Numbers.{numbers-length}
-use Rattle.words.proofs.Booleans.{and-left, and-right}
+use Rattle.sequences.specs.Sequences.{all, numbers}
+use Rattle.sequences.proofs.Numbers.{numbers-length}
+use Rattle.sequences.proofs.Booleans.{and-left, and-right}
 use Rattle.registers.specs.Registers.{registerCount, mostRank, registersIn, isRank, areRegisters, keptRegisters, countAt, reportOn, total}
 
 -- ---- totals over the numbers below n

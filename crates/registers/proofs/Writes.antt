@@ -7,10 +7,10 @@ use lib.Dec.{leb}
 use lib.ListN.{length, take}
 use borrow.Author.Tests.{leb-true}
 use Rattle.words.specs.Answers.{wordsIn}
-use Rattle.words.specs.Buffers.{Overwritten}
-use Rattle.words.specs.Sequences.{over}
-use Rattle.words.proofs.Booleans.{and-right}
-use Rattle.words.proofs.Buffers.{overwritten, take-over}
+use Rattle.sequences.specs.Buffers.{Overwritten}
+use Rattle.sequences.specs.Sequences.{over}
+use Rattle.sequences.proofs.Booleans.{and-right}
+use Rattle.sequences.proofs.Buffers.{overwritten, take-over}
 use Rattle.registers.specs.Registers.{keptRegisters, total}
 use Rattle.registers.specs.Reporting.{ReportInput, ReportResult, givenRegisters, reportWords, reportedWords}
 use Rattle.registers.specs.Refusals.{Reports, ReportWrites}

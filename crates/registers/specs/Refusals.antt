@@ -8,7 +8,7 @@ use lib.ListN.{length, take}
 use Rattle.words.specs.declared.Written.{Written}
 use Rattle.words.specs.declared.Written.the-variants.{Refused}
 use Rattle.words.specs.Answers.{wordsIn, AnswersBy}
-use Rattle.words.specs.Buffers.{Overwritten}
+use Rattle.sequences.specs.Buffers.{Overwritten}
 use Rattle.words.specs.Tests.{Test, AllPass, FirstFails}
 use Rattle.registers.specs.Registers.{registerCount, total}
 use Rattle.registers.specs.Reporting.{ReportInput, reportWords, reportedWords, reportTests, reportOf}

@@ -4,7 +4,7 @@ use mathlib.Core.Bool.{Bool, cond, _&&_, _||_}
 use mathlib.Core.List.{List, [], _∷_, map}
 use lib.Dec.{eqb, leb}
 use lib.ListN.{length, replicate}
-use Rattle.words.specs.Sequences.{all, numbers}
+use Rattle.sequences.specs.Sequences.{all, numbers}
 use Rattle.register_hashes.specs.Hashes.{hashOf, pickedBy, rankIn}
 
 abbrev pub registerCount : ℕ

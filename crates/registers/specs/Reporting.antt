@@ -7,7 +7,7 @@ use lib.ListN.{length, take}
 use lib.Dec.{leb}
 use Rattle.words.specs.declared.Written.{Written}
 use Rattle.words.specs.declared.Written.the-variants.{Words, Refused}
-use Rattle.words.specs.Sequences.{over}
+use Rattle.sequences.specs.Sequences.{over}
 use Rattle.words.specs.Tests.{Test, firstFailing}
 use Rattle.registers.specs.Registers.{mostRank, keptRegisters, reportOn}
 

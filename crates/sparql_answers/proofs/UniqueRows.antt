@@ -6,10 +6,10 @@ use mathlib.Core.Path.{_≡_, refl, sym, _∙_, ap, ap₂, subst}
 use mathlib.Core.Bool.{true}
 use mathlib.Core.List.{List, [], _∷_, _++_, map, flatten, List·Permᴰ, List·Permᴰ·nil, List·Permᴰ·cons, List·Permᴰ·swap, List·Permᴰ·trans}
 use Rattle.words.specs.Bindings.{Bindings}
-use Rattle.words.specs.Sequences.{all}
-use Rattle.words.proofs.Booleans.{and-left, and-right}
-use Rattle.words.proofs.Each.{Each}
-use Rattle.words.proofs.EachMore.{each-permuted}
+use Rattle.sequences.specs.Sequences.{all}
+use Rattle.sequences.proofs.Booleans.{and-left, and-right}
+use Rattle.sequences.proofs.Each.{Each}
+use Rattle.sequences.proofs.EachMore.{each-permuted}
 use Rattle.tables.specs.Tables.{Tables}
 use Rattle.plans.specs.Plans.{Plan}
 use Rattle.sparql.specs.Terms.{Mapping}

@@ -4,7 +4,7 @@ use Prim.Native.Nat.{ℕ}
 use mathlib.Core.Path.{_≡_, sym, _∙_, ap, ap₂, subst}
 use mathlib.Core.List.{List}
 use lib.ListN.{take, drop}
-use Rattle.words.proofs.Buffers.{take-over, drop-over}
+use Rattle.sequences.proofs.Buffers.{take-over, drop-over}
 use Rattle.plans.specs.Plans.{planOf}
 use Rattle.turns.specs.Surveys.{Survey}
 use Rattle.cuts.proofs.Accepting.{opening-accepts, accepted-form}

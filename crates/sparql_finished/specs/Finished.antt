@@ -5,7 +5,7 @@ use mathlib.Core.Bool.{true}
 use mathlib.Core.List.{List, map}
 use lib.ListN.{take, drop}
 use Rattle.words.specs.Bindings.{Bindings}
-use Rattle.words.specs.Sequences.{all}
+use Rattle.sequences.specs.Sequences.{all}
 use Rattle.tables.specs.Tables.{Tables}
 use Rattle.plans.specs.Plans.{planOf}
 use Rattle.steps.specs.Steps.{after}

@@ -4,7 +4,7 @@ use mathlib.Core.Path.{_≡_, refl, sym, ap₂}
 use mathlib.Core.Bool.{true, _&&_, _||_, true≢false}
 use mathlib.Core.List.{List, [], _∷_, map}
 use lib.Dec.{eqb}
-use Rattle.words.proofs.Booleans.{and-left, and-right, yes, no, decided}
+use Rattle.sequences.proofs.Booleans.{and-left, and-right, yes, no, decided}
 use Rattle.tables.specs.Tables.{Tables, Section, section}
 use Rattle.plans.specs.Branches.{Branch}
 use Rattle.plans.specs.Plans.{Plan}

@@ -8,8 +8,8 @@ use mathlib.Core.Logic.{_⊎_, inl, inr}
 use lib.Dec.{eqb}
 use lib.IntN.{ℤ}
 use lib.ListN.{length, length-map}
-use Rattle.words.specs.Sequences.{all, keep}
-use Rattle.words.proofs.Booleans.{yes, no, decided}
+use Rattle.sequences.specs.Sequences.{all, keep}
+use Rattle.sequences.proofs.Booleans.{yes, no, decided}
 use Rattle.sparql.specs.Terms.{Vocabulary, RdfTermOver, iri, integer, text, MappingOver, lookup, sameMapping}
 use Rattle.sparql.specs.Algebra.{occurrences, projection}
 use Rattle.sparql.specs.Aggregates.{groupOf, ifNumber, numbersOf, sum, minimum, maximum, asTerm}

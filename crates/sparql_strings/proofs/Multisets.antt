@@ -5,7 +5,7 @@ use mathlib.Core.Path.{_≡_, refl, sym, _∙_, ap, ap₂, subst}
 use mathlib.Core.Bool.{Bool, true, false, cond}
 use mathlib.Core.List.{List, [], _∷_, map}
 use mathlib.Core.Logic.{_⊎_, inl, inr}
-use Rattle.words.proofs.Booleans.{Decided, yes, no, decided}
+use Rattle.sequences.proofs.Booleans.{Decided, yes, no, decided}
 use Rattle.sparql.specs.Terms.{Vocabulary, GraphOver, MappingOver, sameMapping}
 use Rattle.sparql.specs.Expressions.{ExpressionOver, evaluate, isEffective}
 use Rattle.sparql.specs.Algebra.{TriplePatternOver, MultisetOver, noSolutions, isSolution, basicGraphPattern, filter, union, occurrences, ToList}

@@ -3,8 +3,8 @@ use mathlib.Core.Path.{_≡_, refl, _∙_, ap, ap₂}
 use mathlib.Core.Bool.{_&&_}
 use mathlib.Core.Option.{Option, none, some}
 use mathlib.Core.List.{List, [], _∷_, map}
-use Rattle.words.specs.Sequences.{all, keep}
-use Rattle.words.proofs.Booleans.{yes, no, decided}
+use Rattle.sequences.specs.Sequences.{all, keep}
+use Rattle.sequences.proofs.Booleans.{yes, no, decided}
 use Rattle.sparql.specs.Terms.{Vocabulary, RdfTermOver, iri, integer, text, MappingOver, lookup}
 use Rattle.sparql.specs.Expressions.{isEffective, isMinusOne}
 use Rattle.sparql.specs.Ordering.{termBefore, valueBefore, valuesBefore, keysAscend, Comparator, asc, desc, beforeBy}

@@ -8,9 +8,9 @@ use mathlib.Core.List.{List, [], _∷_, map}
 use lib.Dec.{eqb}
 use lib.ListN.{length, length-map}
 use borrow.Author.Tests.{eqb-true}
-use Rattle.words.specs.Sequences.{all, allBelow}
-use Rattle.words.proofs.Booleans.{and-left, and-right, Decided, yes, no, decided}
-use Rattle.words.proofs.Counting.{all-at}
+use Rattle.sequences.specs.Sequences.{all, allBelow}
+use Rattle.sequences.proofs.Booleans.{and-left, and-right, Decided, yes, no, decided}
+use Rattle.sequences.proofs.Counting.{all-at}
 use Rattle.sparql.specs.Terms.{Vocabulary, RdfTermOver, TripleOver, GraphOver, MappingOver, variables, lookup, isBound}
 use Rattle.sparql.specs.Expressions.{PatternTermOver, variable, constant, valueUnder}
 use Rattle.sparql.specs.Algebra.{TriplePatternOver, isVariableNamed, mentions, occurs, tripleOf, instanceUnder, inGraph, sameTruth, domainIs, isSolution}

@@ -7,8 +7,8 @@ use mathlib.Core.Option.{Option, none, some}
 use mathlib.Core.List.{List, [], _∷_, map}
 use mathlib.Core.Logic.{_⊎_, inl, inr}
 use lib.ListN.{take}
-use Rattle.words.specs.Sequences.{keep}
-use Rattle.words.proofs.Booleans.{yes, no, decided}
+use Rattle.sequences.specs.Sequences.{keep}
+use Rattle.sequences.proofs.Booleans.{yes, no, decided}
 use Rattle.sparql.specs.Terms.{Vocabulary, RdfTermOver, MappingOver, sameTerm, lookup}
 use Rattle.sparql.specs.Algebra.{MultisetOver, occurrences, projectAll}
 use Rattle.sparql.specs.Ordering.{Comparator, tied, OrderBy, FirstOf}

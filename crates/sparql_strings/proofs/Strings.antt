@@ -8,12 +8,12 @@ use lib.Dec.{eqb, ltb}
 use lib.ListN.{length, getD, List·getD-eq-default}
 use borrow.Author.Tests.{lt-ltb, le-ltb, eq-eqb, ne-eqb}
 use native.Mathlib.Decide.{decLt}
-use Rattle.words.proofs.Booleans.{absurd-true, Decided, decided}
-use Rattle.words.proofs.Orders.{Three, less, same, more, three}
-use Rattle.words.proofs.Each.{Each, all-each}
-use Rattle.words.proofs.Ascending.{Ascending, neighbours-ascending}
-use Rattle.words.proofs.Somewhere.{each-at}
-use Rattle.words.proofs.SortedStrictly.{ascending-pairs}
+use Rattle.sequences.proofs.Booleans.{absurd-true, Decided, decided}
+use Rattle.sequences.proofs.Orders.{Three, less, same, more, three}
+use Rattle.sequences.proofs.Each.{Each, all-each}
+use Rattle.sequences.proofs.Ascending.{Ascending, neighbours-ascending}
+use Rattle.sequences.proofs.Somewhere.{each-at}
+use Rattle.sequences.proofs.SortedStrictly.{ascending-pairs}
 use Rattle.dictionaries.specs.Strings.{stringBefore, sameString}
 use Rattle.dictionaries.specs.Utf8.{wellFormed, codePoints}
 use Rattle.dictionaries.specs.Dictionaries.{stringsOf, RightDictionary}

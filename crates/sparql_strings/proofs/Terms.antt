@@ -4,7 +4,7 @@ use mathlib.Core.Path.{_≡_, refl, sym, ap, ap₂}
 use mathlib.Core.Bool.{true, _&&_, true≢false}
 use mathlib.Core.Option.{Option, none, some}
 use mathlib.Core.List.{List, [], _∷_, map}
-use Rattle.words.proofs.Booleans.{and-left, and-right}
+use Rattle.sequences.proofs.Booleans.{and-left, and-right}
 use Rattle.sparql.specs.Terms.{Vocabulary, RdfTermOver, iri, integer, text, sameTerm, TripleOver, sameTriple}
 use Rattle.sparql.specs.Terms.{MappingOver, lookup, isBound, sameValue, sameMapping}
 use Rattle.sparql.specs.Algebra.{occurrences, projection, projectAll}

@@ -8,8 +8,8 @@ use lib.Dec.{eqb}
 use lib.ListN.{length, getD, drop, length-drop}
 use borrow.Author.Tests.{lt-ltb, le-ltb, eq-eqb, ne-eqb}
 use Rattle.words.specs.Words.{kind, low, surveyKind, yearKind, positionKind, branchOf, depthOf}
-use Rattle.words.specs.Sequences.{all}
-use Rattle.words.proofs.Walking.{first-none}
+use Rattle.sequences.specs.Sequences.{all}
+use Rattle.sequences.proofs.Walking.{first-none}
 use Rattle.tables.specs.Tables.{Tables}
 use Rattle.plans.specs.declared.Years.{Years}
 use Rattle.plans.specs.Years.{yearsIn}

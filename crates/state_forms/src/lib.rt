@@ -7,7 +7,7 @@ ghost use mathlib.Core.Path.{_≡_};
 ghost use mathlib.Core.Bool.{true, _&&_};
 ghost use lib.Dec.{eqb};
 ghost use Rattle.words.specs.Words.{low};
-ghost use Rattle.words.specs.Sequences.{all};
+ghost use Rattle.sequences.specs.Sequences.{all};
 ghost use Rattle.tables.specs.Tables.{tablesOf};
 ghost use Rattle.tables.specs.Right.{Right};
 ghost use Rattle.plans.specs.Plans.{readPlan, hasForm, planOf};

@@ -12,7 +12,7 @@ use borrow.Author.Tests.{eqb-true, ltb-true, leb-true}
 use Rattle.words.specs.Words.{kind, number, positionKind, branchOf, depthOf}
 use Rattle.words.specs.Bindings.{Bindings}
 use Rattle.words.specs.Tests.{firstFailing}
-use Rattle.words.proofs.Booleans.{and-left, and-right}
+use Rattle.sequences.proofs.Booleans.{and-left, and-right}
 use Rattle.tables.specs.declared.Place.{Place}
 use Rattle.tables.specs.Tables.{Tables, Section, section}
 use Rattle.tables.specs.Ranges.{rangeEnd}

@@ -12,9 +12,9 @@ use borrow.Rule.Slice.PartMut.{midOf, putMid}
 use borrow.Author.Tests.{ltb-true, eqb-true, eqb-false}
 use Rattle.words.specs.Words.{lowNumbers, positionWord, placeWord}
 use Rattle.words.specs.Bindings.{Bindings}
-use Rattle.words.specs.Sequences.{all, over}
-use Rattle.words.proofs.Buffers.{over-next}
-use Rattle.words.proofs.Elements.{all-head, all-tail}
+use Rattle.sequences.specs.Sequences.{all, over}
+use Rattle.sequences.proofs.Buffers.{over-next}
+use Rattle.sequences.proofs.Elements.{all-head, all-tail}
 use Rattle.tables.specs.declared.Place.{Place}
 use Rattle.tables.specs.Tables.{Tables, section}
 use Rattle.tables.specs.Right.{Right}

@@ -10,7 +10,7 @@ use lib.Dec.{eqb}
 use lib.ListN.{length, set}
 use borrow.Author.Tests.{eqb-true, eqb-false}
 use Rattle.words.specs.Bindings.{Bindings, nothingBound}
-use Rattle.words.proofs.Booleans.{and-left, and-right}
+use Rattle.sequences.proofs.Booleans.{and-left, and-right}
 use Rattle.tables.specs.declared.Place.{Place}
 use Rattle.tables.specs.Tables.{Section}
 use Rattle.tables.specs.Ranges.{rangeEnd, inRange}

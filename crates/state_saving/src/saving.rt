@@ -5,7 +5,7 @@ use words::Term;
 ghost use mathlib.Core.Path.{_≡_};
 ghost use Prim.Native.Nat.{_≤_, _<_};
 ghost use lib.ListN.{length};
-ghost use Rattle.words.specs.Sequences.{over};
+ghost use Rattle.sequences.specs.Sequences.{over};
 ghost use Rattle.words.specs.Words.{lowNumbers};
 ghost use Rattle.steps.specs.Saved.{positionWords, mostPositionWords, stateWords, leastStateWords};
 ghost use Rattle.step_cursors.specs.Held.{positionOf, stateOf};

@@ -10,9 +10,9 @@ use mathlib.Core.List.{List, [], _∷_}
 use lib.ListN.{length}
 use borrow.Author.Tests.{ltb-true, lt-ltb}
 use Rattle.words.specs.Words.{lowNumbers}
-use Rattle.words.specs.Sequences.{all}
+use Rattle.sequences.specs.Sequences.{all}
 use Rattle.words.specs.Tests.{firstFailing}
-use Rattle.words.proofs.Elements.{all-cons}
+use Rattle.sequences.proofs.Elements.{all-cons}
 use Rattle.tables.specs.Tables.{Tables, Section, section, rowCount, mostRows, tableTests}
 use Rattle.tables.proofs.Ranges.{end-le-count}
 use Rattle.tables.proofs.RightTables.{right}

@@ -11,9 +11,9 @@ use lib.Seq.{getD-at, take-suc, take-all}
 use borrow.Author.Tests.{ltb-true, leb-true, eqb-true, lt-ltb, le-leb, eq-eqb}
 use Rattle.words.specs.Words.{kind, low, lowNumbers, depths, surveyKind, yearKind, positionKind, placeKind, surveyWord, yearWord, positionWord, placeWord}
 use Rattle.words.specs.Words.{branchOf, depthOf}
-use Rattle.words.specs.Sequences.{all}
-use Rattle.words.proofs.Booleans.{absurd-true, and-left, and-right, and-both}
-use Rattle.words.proofs.Elements.{all-at, all-append, all-tail, all-head}
+use Rattle.sequences.specs.Sequences.{all}
+use Rattle.sequences.proofs.Booleans.{absurd-true, and-left, and-right, and-both}
+use Rattle.sequences.proofs.Elements.{all-at, all-append, all-tail, all-head}
 use Rattle.tables.specs.Tables.{Tables}
 use Rattle.plans.specs.Plans.{Plan, branchAt}
 use Rattle.steps.specs.Levels.{hasLevel}

@@ -11,9 +11,9 @@ use lib.ListN.{length, getD, length-map}
 use borrow.Author.Tests.{ltb-true, lt-ltb, leb-true, le-leb, eqb-true, eqb-false, eq-eqb, ne-eqb}
 use Rattle.words.specs.Words.{kind, low, lowNumbers, surveyKind, yearKind, positionKind, placeKind, surveyWord, yearWord, positionWord, placeWord}
 use Rattle.words.specs.Words.{branchOf, depthOf}
-use Rattle.words.specs.Sequences.{all}
-use Rattle.words.proofs.Booleans.{absurd-true, and-left, and-right, and-both}
-use Rattle.words.proofs.Elements.{all-cons, all-head, all-tail}
+use Rattle.sequences.specs.Sequences.{all}
+use Rattle.sequences.proofs.Booleans.{absurd-true, and-left, and-right, and-both}
+use Rattle.sequences.proofs.Elements.{all-cons, all-head, all-tail}
 use Rattle.tables.specs.Tables.{Tables, rowCount}
 use Rattle.tables.specs.Right.{Right}
 use Rattle.tables.specs.Years.{yearAt, yearStart, hasRows}

@@ -6,7 +6,7 @@ use mathlib.Core.Bool.{true, false}
 use lib.Dec.{leb}
 use lib.ListN.{length}
 use borrow.Author.Tests.{le-leb, lt-leb, leb-true}
-use Rattle.words.proofs.Booleans.{and-left, and-right}
+use Rattle.sequences.proofs.Booleans.{and-left, and-right}
 use Rattle.tables.specs.Tables.{Tables, columnCount}
 use Rattle.table_answers.specs.Writing.{TableBuffers, tablesRoom}
 use Rattle.table_answers.specs.Counts.{tablesRoomFor, TablesCount, RowsFit, TablesFit}

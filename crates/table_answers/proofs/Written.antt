@@ -4,10 +4,10 @@ use native.Mathlib.Omega.{arith}
 use mathlib.Core.Path.{_≡_, refl, sym, _∙_, ap, subst, subst⁻¹}
 use mathlib.Core.List.{List, map}
 use lib.ListN.{length}
-use Rattle.words.specs.Buffers.{Overwritten}
-use Rattle.words.specs.Sequences.{over}
+use Rattle.sequences.specs.Buffers.{Overwritten}
+use Rattle.sequences.specs.Sequences.{over}
 use Rattle.words.specs.Tests.{Test}
-use Rattle.words.proofs.Buffers.{overwritten, take-over}
+use Rattle.sequences.proofs.Buffers.{overwritten, take-over}
 use Rattle.calls.specs.Calls.{RightCall}
 use Rattle.tables.specs.Tables.{Tables, columnCount}
 use Rattle.table_answers.specs.declared.TablesWritten.the-variants.{Words}

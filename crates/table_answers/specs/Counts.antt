@@ -4,7 +4,7 @@ use mathlib.Core.Path.{_≡_}
 use mathlib.Core.Bool.{Bool, _&&_}
 use lib.Dec.{leb}
 use lib.ListN.{length}
-use Rattle.words.specs.Buffers.{Overwritten}
+use Rattle.sequences.specs.Buffers.{Overwritten}
 use Rattle.tables.specs.Tables.{Tables, columnCount}
 use Rattle.table_answers.specs.Writing.{TableBuffers, TablesResult, tableWords}
 

@@ -5,9 +5,9 @@ use mathlib.Core.Path.{_≡_, refl, sym, _∙_, ap, subst}
 use mathlib.Core.Logic.{_⊎_, inl, inr, ⊎-elim}
 use lib.Dec.{ltb}
 use borrow.Author.Tests.{lt-ltb, le-ltb, ltb-true}
-use Rattle.words.specs.Sequences.{countBelow}
-use Rattle.words.proofs.Counting.{count-mono, count-all}
-use Rattle.words.proofs.Orders.{Three, less, same, more, three}
+use Rattle.sequences.specs.Sequences.{countBelow}
+use Rattle.sequences.proofs.Counting.{count-mono, count-all}
+use Rattle.sequences.proofs.Orders.{Three, less, same, more, three}
 
 -- how many of the first places have a number below another
 module _ (f : ℕ → ℕ) where

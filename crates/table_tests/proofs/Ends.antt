@@ -7,11 +7,11 @@ use mathlib.Core.Bool.{true, _&&_}
 use mathlib.Core.List.{List, _∷_}
 use lib.Dec.{leb, ltb}
 use borrow.Author.Tests.{lt-ltb, le-leb, eq-eqb, ltb-true, leb-true}
-use Rattle.words.specs.Sequences.{lexBefore}
+use Rattle.sequences.specs.Sequences.{lexBefore}
 use Rattle.words.specs.Words.{number, variable, mostYear, termKind, termValue}
-use Rattle.words.proofs.Booleans.{absurd-true, and-left, and-right, and-both}
-use Rattle.words.proofs.Counting.{all-at, at-all}
-use Rattle.words.proofs.Orders.{Three, less, same, more, three, lex-same, lex-more}
+use Rattle.sequences.proofs.Booleans.{absurd-true, and-left, and-right, and-both}
+use Rattle.sequences.proofs.Counting.{all-at, at-all}
+use Rattle.sequences.proofs.Orders.{Three, less, same, more, three, lex-same, lex-more}
 use Rattle.tables.specs.declared.Order.{Order}
 use Rattle.tables.specs.declared.Order.the-variants.{Spo, Pos, Osp}
 use Rattle.tables.specs.Tables.{Tables, columnCount, rowCount, rowAt, fieldOf, fieldsOf, fieldsAt, ascends}

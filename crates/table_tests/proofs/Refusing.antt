@@ -8,11 +8,11 @@ use mathlib.Core.List.{List}
 use lib.Dec.{ltb}
 use lib.ListN.{length, getD}
 use borrow.Author.Tests.{ltb-true}
-use Rattle.words.specs.Sequences.{allBelow, lexBefore}
+use Rattle.sequences.specs.Sequences.{allBelow, lexBefore}
 use Rattle.words.specs.Tests.{firstFailing, numberOf}
-use Rattle.words.proofs.Booleans.{Decided, yes, no, decided, absurd-true, and-right}
-use Rattle.words.proofs.Counting.{all-at}
-use Rattle.words.proofs.Elements.{all-below}
+use Rattle.sequences.proofs.Booleans.{Decided, yes, no, decided, absurd-true, and-right}
+use Rattle.sequences.proofs.Counting.{all-at}
+use Rattle.sequences.proofs.Elements.{all-below}
 use Rattle.tables.specs.declared.Order.{Order}
 use Rattle.tables.specs.declared.Order.the-variants.{Spo, Pos, Osp}
 use Rattle.tables.specs.Tables.{Tables, mostRows, rowCount, rowAt, fieldsAt, lengthsRight, kindsRight, yearsRight, ascends, namesRows, tableTests}

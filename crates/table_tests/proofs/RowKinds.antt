@@ -5,7 +5,7 @@ use mathlib.Core.Path.{_≡_, refl, sym, ap}
 use mathlib.Core.Bool.{Bool, true, cond, _&&_}
 use mathlib.Core.List.{List, []}
 use lib.ListN.{length, getD}
-use Rattle.words.specs.Sequences.{allBelow}
+use Rattle.sequences.specs.Sequences.{allBelow}
 use Rattle.tables.specs.Tables.{tablesOf, columnCount, yearColumn, fieldOf, rowRight, yearRight, kindsRight, yearsRight}
 use Rattle.table_tests.specs.Refusals.{rowsRefusal}
 

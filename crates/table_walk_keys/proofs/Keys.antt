@@ -8,11 +8,11 @@ use mathlib.Core.List.{List, [], _∷_}
 use lib.Dec.{ltb}
 use lib.ListN.{length}
 use borrow.Author.Tests.{lt-ltb}
-use Rattle.words.specs.Sequences.{allBelow, lexBefore}
-use Rattle.words.proofs.Booleans.{absurd-true}
-use Rattle.words.proofs.Counting.{all-at, at-all}
-use Rattle.words.proofs.Elements.{same-test}
-use Rattle.words.proofs.Orders.{Three, less, same, more, three, lex-less, lex-same, lex-more, lex-asym}
+use Rattle.sequences.specs.Sequences.{allBelow, lexBefore}
+use Rattle.sequences.proofs.Booleans.{absurd-true}
+use Rattle.sequences.proofs.Counting.{all-at, at-all}
+use Rattle.sequences.proofs.Elements.{same-test}
+use Rattle.sequences.proofs.Orders.{Three, less, same, more, three, lex-less, lex-same, lex-more, lex-asym}
 use Rattle.tables.specs.declared.Order.{Order}
 use Rattle.tables.specs.declared.Order.the-variants.{Spo, Pos, Osp}
 use Rattle.tables.specs.Tables.{Tables, columnCount, mostRows, rowCount, fieldOf, fieldsOf, fieldsAt, ascends}

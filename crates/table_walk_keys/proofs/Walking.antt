@@ -7,9 +7,9 @@ use mathlib.Core.Path.{_≡_, refl, sym, _∙_, ap, subst}
 use mathlib.Core.Bool.{Bool, true, false, _&&_}
 use lib.Dec.{ltb}
 use borrow.Author.Tests.{lt-ltb, le-ltb, ltb-true, ltb-false}
-use Rattle.words.specs.Sequences.{allBelow, lexBefore}
-use Rattle.words.proofs.Booleans.{and-left, and-right, and-both}
-use Rattle.words.proofs.Counting.{all-at, fails-below}
+use Rattle.sequences.specs.Sequences.{allBelow, lexBefore}
+use Rattle.sequences.proofs.Booleans.{and-left, and-right, and-both}
+use Rattle.sequences.proofs.Counting.{all-at, fails-below}
 use Rattle.tables.specs.declared.Order.{Order}
 use Rattle.tables.specs.declared.Order.the-variants.{Osp}
 use Rattle.tables.specs.Tables.{Tables, rowCount, rowAt}

@@ -5,7 +5,7 @@ use mathlib.Core.Bool.{Bool, true, false, cond, _&&_}
 use mathlib.Core.List.{List, [], _∷_}
 use lib.Dec.{ltb}
 use lib.ListN.{length, getD, replicate}
-use Rattle.words.specs.Sequences.{allBelow, lexBefore}
+use Rattle.sequences.specs.Sequences.{allBelow, lexBefore}
 use Rattle.tables.specs.declared.Order.{Order}
 use Rattle.tables.specs.declared.Order.the-variants.{Spo, Pos, Osp}
 use Rattle.tables.specs.Tables.{Tables, columnCount, rowCount, rowAt, fieldOf}

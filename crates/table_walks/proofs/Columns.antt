@@ -7,9 +7,9 @@ use mathlib.Core.List.{List}
 use lib.Dec.{leb, ltb}
 use lib.ListN.{length, getD, drop}
 use borrow.Author.Tests.{lt-ltb, le-ltb, le-leb, lt-leb, leb-true, leb-false}
-use Rattle.words.specs.Sequences.{lexBefore}
-use Rattle.words.proofs.Booleans.{Decided, yes, no, decided}
-use Rattle.words.proofs.Orders.{Three, less, same, more, three}
+use Rattle.sequences.specs.Sequences.{lexBefore}
+use Rattle.sequences.proofs.Booleans.{Decided, yes, no, decided}
+use Rattle.sequences.proofs.Orders.{Three, less, same, more, three}
 use Rattle.tables.proofs.Sides.{from-less, from-same, from-more}
 
 -- ---- a key against another, where it is known what the columns after it say

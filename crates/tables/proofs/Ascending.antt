@@ -4,9 +4,9 @@ use native.Mathlib.Omega.{arith}
 use mathlib.Core.Path.{_≡_, ap}
 use mathlib.Core.Bool.{Bool, true}
 use lib.ListN.{length}
-use Rattle.words.specs.Sequences.{lexBefore, countBelow}
-use Rattle.words.proofs.Pigeonhole.{Injection, Hit, all-hit}
-use Rattle.words.proofs.Permuting.{count-permuted}
+use Rattle.sequences.specs.Sequences.{lexBefore, countBelow}
+use Rattle.sequences.proofs.Pigeonhole.{Injection, Hit, all-hit}
+use Rattle.sequences.proofs.Permuting.{count-permuted}
 use Rattle.tables.specs.declared.Order.{Order}
 use Rattle.tables.specs.Tables.{Tables, columnCount, rowCount, rowAt, fieldsOf, fieldsAt}
 use Rattle.tables.specs.Right.{Right}

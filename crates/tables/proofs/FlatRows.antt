@@ -6,8 +6,8 @@ use mathlib.Core.Bool.{true}
 use mathlib.Core.List.{List, [], flatten}
 use lib.ListN.{length, getD}
 use lib.Seq.{ext-getD}
-use Rattle.words.specs.Sequences.{lexBefore}
-use Rattle.words.proofs.Flattening.{Wide, length-flatten, wide-at, flatten-at}
+use Rattle.sequences.specs.Sequences.{lexBefore}
+use Rattle.sequences.proofs.Flattening.{Wide, length-flatten, wide-at, flatten-at}
 use Rattle.tables.specs.declared.Order.the-variants.{Spo}
 use Rattle.tables.specs.Tables.{columnCount, mostRows, columnsOf, fieldOf, fieldsOf, fieldRight, yearColumn, yearRight}
 use Rattle.tables.specs.RowLists.{RowsRight}

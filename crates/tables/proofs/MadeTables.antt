@@ -6,13 +6,13 @@ use mathlib.Core.Bool.{true}
 use mathlib.Core.Option.{none}
 use mathlib.Core.List.{List}
 use lib.ListN.{length, getD}
-use Rattle.words.specs.Sequences.{lexBefore, numbers}
+use Rattle.sequences.specs.Sequences.{lexBefore, numbers}
 use Rattle.words.specs.Tests.{firstFailing}
-use Rattle.words.proofs.Booleans.{Decided, yes, no, decided}
-use Rattle.words.proofs.Ascending.{Ascending}
-use Rattle.words.proofs.Numbers.{numbers-rise}
-use Rattle.words.proofs.SortedNumbers.{totally, sort-ascends}
-use Rattle.words.proofs.Neighbours.{neighbour-same}
+use Rattle.sequences.proofs.Booleans.{Decided, yes, no, decided}
+use Rattle.sequences.proofs.Ascending.{Ascending}
+use Rattle.sequences.proofs.Numbers.{numbers-rise}
+use Rattle.sequences.proofs.SortedNumbers.{totally, sort-ascends}
+use Rattle.sequences.proofs.Neighbours.{neighbour-same}
 use Rattle.tables.specs.declared.Order.{Order}
 use Rattle.tables.specs.declared.Order.the-variants.{Spo, Pos, Osp}
 use Rattle.tables.specs.Tables.{columnCount, fieldsOf, rowAt, fieldsAt, tableTests}

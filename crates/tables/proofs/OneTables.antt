@@ -4,10 +4,10 @@ use native.Mathlib.Omega.{arith}
 use mathlib.Core.Path.{_≡_, refl, sym, _∙_, ap, subst}
 use mathlib.Core.Bool.{true, false}
 use lib.Seq.{ext-getD}
-use Rattle.words.specs.Sequences.{lexBefore, countBelow}
-use Rattle.words.proofs.Booleans.{absurd-true, yes, no, decided}
-use Rattle.words.proofs.Orders.{Three, less, same, more, three, lex-asym}
-use Rattle.words.proofs.Downward.{passes-below, fails-from}
+use Rattle.sequences.specs.Sequences.{lexBefore, countBelow}
+use Rattle.sequences.proofs.Booleans.{absurd-true, yes, no, decided}
+use Rattle.sequences.proofs.Orders.{Three, less, same, more, three, lex-asym}
+use Rattle.sequences.proofs.Downward.{passes-below, fails-from}
 use Rattle.tables.specs.declared.Order.{Order}
 use Rattle.tables.specs.declared.Order.the-variants.{Spo, Pos, Osp}
 use Rattle.tables.specs.Tables.{Tables, tablesOf, rowCount, rowAt, fieldsAt}

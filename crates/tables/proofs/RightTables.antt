@@ -8,13 +8,13 @@ use mathlib.Core.List.{List}
 use lib.Dec.{ltb, eqb}
 use lib.ListN.{length, getD}
 use borrow.Author.Tests.{ltb-true, leb-true, eqb-true, lt-ltb, le-leb, eq-eqb}
-use Rattle.words.specs.Sequences.{all, lexBefore}
+use Rattle.sequences.specs.Sequences.{all, lexBefore}
 use Rattle.words.specs.Tests.{firstFailing, numberOf}
-use Rattle.words.proofs.Booleans.{and-left, and-right, and-both}
+use Rattle.sequences.proofs.Booleans.{and-left, and-right, and-both}
 use Rattle.words.proofs.Testing.{passes-all, all-passes, testNumbered, test-passed}
 use Rattle.words.proofs.Numbering.{none-fails}
-use Rattle.words.proofs.Counting.{all-at, at-all}
-use Rattle.words.proofs.Elements.{all-element, element-all}
+use Rattle.sequences.proofs.Counting.{all-at, at-all}
+use Rattle.sequences.proofs.Elements.{all-element, element-all}
 use Rattle.tables.specs.declared.Order.{Order}
 use Rattle.tables.specs.declared.Order.the-variants.{Spo, Pos, Osp}
 use Rattle.tables.specs.Tables.{Tables, columnCount, mostRows, rowCount, fieldOf, rowAt, fieldsAt, fieldRight, rowRight, tableTests}

@@ -7,9 +7,9 @@ use mathlib.Core.Path.{_≡_, sym, subst}
 use mathlib.Core.Bool.{true}
 use mathlib.Core.List.{List}
 use lib.ListN.{length}
-use Rattle.words.specs.Sequences.{lexBefore}
-use Rattle.words.proofs.Booleans.{absurd-true}
-use Rattle.words.proofs.Orders.{Three, less, same, more, three, lex-trans, lex-asym}
+use Rattle.sequences.specs.Sequences.{lexBefore}
+use Rattle.sequences.proofs.Booleans.{absurd-true}
+use Rattle.sequences.proofs.Orders.{Three, less, same, more, three, lex-trans, lex-asym}
 
 -- so many places with a field for each of so many columns, which come before those of the next place
 pub record Sorted (columns count : ℕ) (fields : ℕ → List ℕ) : Type 0 where

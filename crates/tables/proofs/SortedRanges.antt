@@ -8,11 +8,11 @@ use mathlib.Core.List.{List}
 use lib.Dec.{leb, ltb}
 use lib.ListN.{length, take}
 use borrow.Author.Tests.{le-leb, lt-leb, lt-ltb, le-ltb, leb-true, ltb-true}
-use Rattle.words.specs.Sequences.{lexBefore}
-use Rattle.words.proofs.Booleans.{absurd-true, and-left, and-right}
-use Rattle.words.proofs.Orders.{lex-asym, lex-trans}
-use Rattle.words.proofs.Counting.{count-le, count-mono}
-use Rattle.words.proofs.Downward.{passes-below, fails-from}
+use Rattle.sequences.specs.Sequences.{lexBefore}
+use Rattle.sequences.proofs.Booleans.{absurd-true, and-left, and-right}
+use Rattle.sequences.proofs.Orders.{lex-asym, lex-trans}
+use Rattle.sequences.proofs.Counting.{count-le, count-mono}
+use Rattle.sequences.proofs.Downward.{passes-below, fails-from}
 use Rattle.tables.specs.declared.Side.{Side}
 use Rattle.tables.specs.declared.Side.the-variants.{Before, Within, After}
 use Rattle.tables.specs.Ranges.{startAmong, endAmong, between}

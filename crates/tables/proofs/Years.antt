@@ -8,9 +8,9 @@ use lib.Dec.{leb}
 use lib.ListN.{drop}
 use borrow.Author.Tests.{lt-ltb, ltb-true, leb-true, eqb-true}
 use Rattle.words.specs.Words.{termKind, numberKind, number, mostYear}
-use Rattle.words.specs.Sequences.{lexBefore}
-use Rattle.words.proofs.Booleans.{absurd-true, and-right}
-use Rattle.words.proofs.Orders.{Three, less, same, more, three, lex-less, lex-same, lex-more}
+use Rattle.sequences.specs.Sequences.{lexBefore}
+use Rattle.sequences.proofs.Booleans.{absurd-true, and-right}
+use Rattle.sequences.proofs.Orders.{Three, less, same, more, three, lex-less, lex-same, lex-more}
 use Rattle.tables.specs.declared.Order.{Order}
 use Rattle.tables.specs.declared.Order.the-variants.{Spo, Pos, Osp}
 use Rattle.tables.specs.declared.Side.the-variants.{Before, Within, After}

@@ -3,7 +3,7 @@ use Prim.Native.Nat.{ℕ, suc, _*_, _≤_, _<_}
 use mathlib.Core.Path.{_≡_}
 use mathlib.Core.Bool.{true}
 use lib.ListN.{length}
-use Rattle.words.specs.Sequences.{lexBefore}
+use Rattle.sequences.specs.Sequences.{lexBefore}
 use Rattle.tables.specs.declared.Order.{Order}
 use Rattle.tables.specs.Tables.{Tables, columnCount, mostRows, rowCount, fieldOf, rowAt, fieldsAt, fieldRight, yearColumn, yearRight}
 

@@ -6,7 +6,7 @@ use mathlib.Core.Bool.{Bool, cond, _&&_}
 use lib.ListN.{length, getD}
 use lib.Dec.{eqb, ltb, leb}
 use Rattle.words.specs.Words.{termKind, termValue, number, nameKind, numberKind, variableKind, mostYear}
-use Rattle.words.specs.Sequences.{all, allBelow, lexBefore}
+use Rattle.sequences.specs.Sequences.{all, allBelow, lexBefore}
 use Rattle.words.specs.Tests.{Test}
 use Rattle.tables.specs.declared.Order.{Order}
 use Rattle.tables.specs.declared.Order.the-variants.{Spo, Pos, Osp}

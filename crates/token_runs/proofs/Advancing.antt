@@ -7,7 +7,7 @@ use mathlib.Core.List.{List, _∷_}
 use lib.Dec.{eqb}
 use lib.ListN.{length, getD, drop, drop-of-length-le}
 use lib.Seq.{drop-cons}
-use Rattle.words.proofs.Booleans.{yes, no, decided}
+use Rattle.sequences.proofs.Booleans.{yes, no, decided}
 use Rattle.characters.specs.Sequences.{noPoint}
 use Rattle.tokens.specs.Classes.{isBlank}
 use Rattle.tokens.specs.Runs.{runLength, blanksLength}

@@ -10,7 +10,7 @@ use borrow.Author.Tests.{ltb-true, leb-true}
 use Rattle.words.specs.declared.Written.{Written}
 use Rattle.words.specs.declared.Written.the-variants.{Words, Refused}
 use Rattle.words.specs.Words.{lowNumbers}
-use Rattle.words.specs.Sequences.{all, over}
+use Rattle.sequences.specs.Sequences.{all, over}
 use Rattle.words.specs.Tests.{Test, firstFailing, numberOf}
 use Rattle.words.proofs.Testing.{passes-all, testNumbered, test-passed}
 use Rattle.plans.specs.Plans.{planOf}

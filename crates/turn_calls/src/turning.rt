@@ -11,7 +11,7 @@ ghost use mathlib.Core.Path.{_≡_};
 ghost use Prim.Native.Nat.{_≤_, _<_};
 ghost use lib.ListN.{length};
 ghost use Rattle.words.specs.Words.{lowNumbers};
-ghost use Rattle.words.specs.Sequences.{over};
+ghost use Rattle.sequences.specs.Sequences.{over};
 ghost use Rattle.steps.specs.Saved.{savedWords, leastStateWords};
 ghost use Rattle.state_saving.specs.Loading.{Storable};
 ghost use Rattle.turns.specs.declared.TurnEnding.{TurnEnding};

@@ -8,9 +8,9 @@ use lib.Dec.{leb}
 use lib.ListN.{length}
 use borrow.Author.Tests.{ltb-true, leb-true}
 use Rattle.words.specs.Words.{lowNumbers}
-use Rattle.words.specs.Sequences.{all}
+use Rattle.sequences.specs.Sequences.{all}
 use Rattle.words.specs.Tests.{Test, firstFailing, numberOf}
-use Rattle.words.proofs.Booleans.{and-left, and-right}
+use Rattle.sequences.proofs.Booleans.{and-left, and-right}
 use Rattle.words.proofs.Testing.{passes-all, testNumbered, test-passed}
 use Rattle.words.proofs.Numbering.{one-fails, none-fails, front-decides, rest-decides, both-pass}
 use Rattle.tables.specs.Tables.{Tables, tableTests}

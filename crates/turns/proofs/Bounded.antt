@@ -8,10 +8,10 @@ use mathlib.Core.Bool.{Bool, true, false, cond}
 use mathlib.Core.Option.{Option, none, some}
 use mathlib.Core.List.{List, [], _∷_, _++_}
 use lib.ListN.{length, length-append}
-use Rattle.words.specs.Sequences.{iterate}
-use Rattle.words.proofs.Booleans.{absurd-true}
+use Rattle.sequences.specs.Sequences.{iterate}
+use Rattle.sequences.proofs.Booleans.{absurd-true}
 use Rattle.words.proofs.Testing.{none-some}
-use Rattle.words.proofs.Iterating.{iterate-add, iterate-fixed}
+use Rattle.sequences.proofs.Iterating.{iterate-add, iterate-fixed}
 use Rattle.steps.specs.Machines.{Step, moves, delivers, ends, Machine, Run, stepped, runFrom}
 use Rattle.steps.proofs.MachineRuns.{from-next}
 use Rattle.turns.specs.declared.TurnEnding.{TurnEnding}

@@ -6,9 +6,9 @@ use mathlib.Core.List.{List, []}
 use lib.ListN.{length}
 use borrow.Author.Tests.{leb-true}
 use Rattle.words.specs.Answers.{wordsIn}
-use Rattle.words.specs.Sequences.{iterate}
-use Rattle.words.specs.Buffers.{Overwritten}
-use Rattle.words.proofs.Buffers.{overwritten}
+use Rattle.sequences.specs.Sequences.{iterate}
+use Rattle.sequences.specs.Buffers.{Overwritten}
+use Rattle.sequences.proofs.Buffers.{overwritten}
 use Rattle.steps.specs.Steps.{Run, after}
 use Rattle.steps.specs.Saved.{positionWords, upperWords, leastStateWords, savedWords}
 use Rattle.lists.specs.Gathering.{gathered}

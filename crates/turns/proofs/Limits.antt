@@ -3,7 +3,7 @@ use Prim.Native.Nat.{_≤_}
 use lib.ListN.{length}
 use lib.Dec.{leb}
 use borrow.Author.Tests.{leb-true}
-use Rattle.words.proofs.Booleans.{and-left, and-right}
+use Rattle.sequences.proofs.Booleans.{and-left, and-right}
 use Rattle.steps.specs.Saved.{leastStateWords}
 use Rattle.lists.specs.Gathering.{leastOutput}
 use Rattle.turns.specs.Turns.{mostSteps, TurnInput, givenPlan}

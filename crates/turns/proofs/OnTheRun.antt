@@ -9,9 +9,9 @@ use mathlib.Core.Option.{Option, none, some}
 use mathlib.Core.List.{List, _++_}
 use lib.ListN.{length}
 use lib.Dec.{leb}
-use Rattle.words.proofs.Booleans.{and-right}
+use Rattle.sequences.proofs.Booleans.{and-right}
 use Rattle.words.proofs.Testing.{none-some, all-passes, front-passes}
-use Rattle.words.proofs.Buffers.{length-over}
+use Rattle.sequences.proofs.Buffers.{length-over}
 use Rattle.tables.specs.Tables.{section, tableTests}
 use Rattle.tables.specs.Right.{Right}
 use Rattle.tables.proofs.RightTables.{right}

@@ -7,7 +7,7 @@ use lib.Dec.{leb}
 use lib.ListN.{length, take}
 use borrow.Author.Tests.{leb-true, le-leb}
 use Rattle.words.specs.Tests.{AllPass, FirstFails, testsBefore}
-use Rattle.words.proofs.Booleans.{absurd-true, and-left, and-right, and-both}
+use Rattle.sequences.proofs.Booleans.{absurd-true, and-left, and-right, and-both}
 use Rattle.words.proofs.Testing.{all-passes, front-passes, rest-passes, fails-at, passed-before, first-not-passed}
 use Rattle.tables.specs.Tables.{tableTests}
 use Rattle.tables.proofs.RightTables.{right}

@@ -4,7 +4,7 @@ use Prim.Native.Nat.{ℕ, _≤_}
 use mathlib.Core.List.{List}
 use lib.ListN.{length}
 use Rattle.words.specs.Answers.{wordsIn}
-use Rattle.words.specs.Buffers.{Overwritten}
+use Rattle.sequences.specs.Buffers.{Overwritten}
 use Rattle.plans.specs.Plans.{planOf}
 use Rattle.steps.specs.Steps.{Run, after}
 use Rattle.steps.specs.Saved.{savedWords, stateIn}

@@ -6,7 +6,7 @@ use mathlib.Core.Option.{Option, none, some}
 use lib.ListN.{length, take}
 use lib.Dec.{leb}
 use Rattle.words.specs.Bindings.{Bindings}
-use Rattle.words.specs.Sequences.{over}
+use Rattle.sequences.specs.Sequences.{over}
 use Rattle.words.specs.Tests.{Test, firstFailing}
 use Rattle.tables.specs.Tables.{Tables, tableTests}
 use Rattle.plans.specs.Endings.{Ending}

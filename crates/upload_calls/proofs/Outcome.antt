@@ -6,7 +6,7 @@ use mathlib.Core.Bool.{true, false}
 use mathlib.Core.List.{List}
 use lib.ListN.{length}
 use borrow.Author.Tests.{eq-eqb, ne-eqb, lt-leb}
-use Rattle.words.specs.Sequences.{over}
+use Rattle.sequences.specs.Sequences.{over}
 use Rattle.words.specs.Tests.{firstFailing}
 use Rattle.calls.specs.Calls.{resultOfCall}
 use Rattle.tables.specs.declared.Order.the-variants.{Pos, Osp}

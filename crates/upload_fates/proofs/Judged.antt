@@ -6,9 +6,9 @@ use mathlib.Core.Bool.{true, cond}
 use mathlib.Core.List.{List}
 use lib.ListN.{length, getD}
 use borrow.Author.Tests.{not-true}
-use Rattle.words.proofs.Booleans.{absurd-true, Decided, yes, no, decided}
-use Rattle.words.proofs.Neighbours.{neighbour-same, same-neighbour}
-use Rattle.words.proofs.Somewhere.{each-at, some-at, at-some}
+use Rattle.sequences.proofs.Booleans.{absurd-true, Decided, yes, no, decided}
+use Rattle.sequences.proofs.Neighbours.{neighbour-same, same-neighbour}
+use Rattle.sequences.proofs.Somewhere.{each-at, some-at, at-some}
 use Rattle.tables.specs.declared.Order.the-variants.{Spo}
 use Rattle.tables.specs.Tables.{columnCount, fieldsOf}
 use Rattle.tables.proofs.Columns.{fields-length}

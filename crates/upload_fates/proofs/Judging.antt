@@ -6,9 +6,9 @@ use mathlib.Core.Bool.{true}
 use mathlib.Core.List.{List, _++_}
 use lib.ListN.{length, take, drop, getD, length-append, length-drop}
 use lib.Seq.{length-take-le, take-at}
-use Rattle.words.specs.Sequences.{all}
-use Rattle.words.specs.Sorting.{sortBy}
-use Rattle.words.proofs.SortingParts.{length-sort, all-sort}
+use Rattle.sequences.specs.Sequences.{all}
+use Rattle.sequences.specs.Sorting.{sortBy}
+use Rattle.sequences.proofs.SortingParts.{length-sort, all-sort}
 use Rattle.tables.specs.declared.Order.the-variants.{Spo}
 use Rattle.tables.specs.RowLists.{inRows, numberBefore}
 use Rattle.uploads.specs.Uploads.{uploadCount}

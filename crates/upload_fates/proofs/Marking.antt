@@ -7,9 +7,9 @@ use mathlib.Core.Bool.{true, false, cond}
 use mathlib.Core.List.{List, [], _∷_, _++_, append-nil}
 use lib.ListN.{length, getD, set}
 use lib.Seq.{getD-set-same, getD-set-other}
-use Rattle.words.specs.Sequences.{keep, numbers}
-use Rattle.words.proofs.Keeping.{keep-append, keep-yes, keep-no, keep-nil}
-use Rattle.words.proofs.Orders.{Three, less, same, more, three}
+use Rattle.sequences.specs.Sequences.{keep, numbers}
+use Rattle.sequences.proofs.Keeping.{keep-append, keep-yes, keep-no, keep-nil}
+use Rattle.sequences.proofs.Orders.{Three, less, same, more, three}
 use Rattle.uploads.specs.Uploads.{keptCode, wrongCode, repeatCode, kindsGood}
 use Rattle.upload_fates.specs.Judging.{goodNumbers, Marked, follows, marked}
 

@@ -7,14 +7,14 @@ use mathlib.Core.List.{List}
 use lib.Dec.{ltb}
 use lib.ListN.{length}
 use borrow.Author.Tests.{le-leb}
-use Rattle.words.specs.Sequences.{all, keep, numbers}
-use Rattle.words.proofs.Ascending.{Ascending}
-use Rattle.words.proofs.Each.{Each, each-all, all-each, each-kept, each-keep}
-use Rattle.words.proofs.Numbers.{numbers-all, numbers-below, numbers-rise, kept-stands}
-use Rattle.words.proofs.Somewhere.{Stands}
-use Rattle.words.proofs.SortedNumbers.{totally, sort-ascends}
-use Rattle.words.proofs.SortedStrictly.{ascending-keep}
-use Rattle.words.proofs.SortingParts.{each-sort, all-sort}
+use Rattle.sequences.specs.Sequences.{all, keep, numbers}
+use Rattle.sequences.proofs.Ascending.{Ascending}
+use Rattle.sequences.proofs.Each.{Each, each-all, all-each, each-kept, each-keep}
+use Rattle.sequences.proofs.Numbers.{numbers-all, numbers-below, numbers-rise, kept-stands}
+use Rattle.sequences.proofs.Somewhere.{Stands}
+use Rattle.sequences.proofs.SortedNumbers.{totally, sort-ascends}
+use Rattle.sequences.proofs.SortedStrictly.{ascending-keep}
+use Rattle.sequences.proofs.SortingParts.{each-sort, all-sort}
 use Rattle.tables.specs.declared.Order.the-variants.{Spo}
 use Rattle.tables.specs.Tables.{columnCount, fieldsOf}
 use Rattle.tables.specs.RowLists.{inRows, numberBefore}

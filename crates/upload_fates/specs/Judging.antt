@@ -4,8 +4,8 @@ use mathlib.Core.Path.{_≡_}
 use mathlib.Core.Bool.{Bool, cond, not}
 use mathlib.Core.List.{List}
 use lib.ListN.{length, take, getD, set}
-use Rattle.words.specs.Sequences.{keep, numbers}
-use Rattle.words.specs.Sorting.{sortBy}
+use Rattle.sequences.specs.Sequences.{keep, numbers}
+use Rattle.sequences.specs.Sorting.{sortBy}
 use Rattle.tables.specs.declared.Order.the-variants.{Spo}
 use Rattle.tables.specs.Tables.{mostRows}
 use Rattle.tables.specs.RowLists.{numberBefore}

@@ -14,7 +14,7 @@ ghost use mathlib.Core.Path.{_≡_};
 ghost use mathlib.Core.Bool.{true};
 ghost use Prim.Native.Nat.{_+_, _*_, _≤_};
 ghost use lib.ListN.{length};
-ghost use Rattle.words.specs.Sequences.{all};
+ghost use Rattle.sequences.specs.Sequences.{all};
 ghost use Rattle.tables.specs.Tables.{columnCount};
 ghost use Rattle.tables.specs.RowLists.{inRows};
 ghost use Rattle.uploads.specs.Uploads.{uploadCount, kindsGood};

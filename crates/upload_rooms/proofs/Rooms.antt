@@ -4,7 +4,7 @@ use mathlib.Core.Path.{_≡_}
 use mathlib.Core.Bool.{true, false}
 use lib.Dec.{leb}
 use borrow.Author.Tests.{le-leb, lt-leb, leb-true}
-use Rattle.words.proofs.Booleans.{and-left, and-right}
+use Rattle.sequences.proofs.Booleans.{and-left, and-right}
 use Rattle.tables.specs.Tables.{columnCount}
 use Rattle.uploads.specs.Uploads.{entryWords}
 use Rattle.upload_rooms.specs.Rooms.{makeRoomFor}

@@ -5,7 +5,7 @@ use upload_writes::write_rows;
 ghost use mathlib.Core.Path.{_≡_};
 ghost use Prim.Native.Nat.{_+_, _*_, _≤_};
 ghost use lib.ListN.{length};
-ghost use Rattle.words.specs.Sequences.{over};
+ghost use Rattle.sequences.specs.Sequences.{over};
 ghost use Rattle.tables.specs.Tables.{columnCount, mostRows};
 ghost use Rattle.uploads.specs.Uploads.{madeTables};
 ghost use Rattle.upload_writes.specs.Writing.{ReadyToWrite};

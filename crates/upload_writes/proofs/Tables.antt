@@ -7,13 +7,13 @@ use mathlib.Core.List.{List, [], _∷_, map, flatten}
 use lib.Dec.{eqb, ltb}
 use lib.ListN.{length, getD}
 use borrow.Author.Tests.{ltb-true}
-use Rattle.words.specs.Sequences.{keep, numbers}
-use Rattle.words.specs.Sorting.{sortBy}
-use Rattle.words.proofs.Each.{Each, each-keep}
-use Rattle.words.proofs.EachMore.{each-weaken}
-use Rattle.words.proofs.Keeping.{keep-agree, keep-keep}
-use Rattle.words.proofs.KeepingSorted.{keep-sort}
-use Rattle.words.proofs.Numbers.{numbers-below}
+use Rattle.sequences.specs.Sequences.{keep, numbers}
+use Rattle.sequences.specs.Sorting.{sortBy}
+use Rattle.sequences.proofs.Each.{Each, each-keep}
+use Rattle.sequences.proofs.EachMore.{each-weaken}
+use Rattle.sequences.proofs.Keeping.{keep-agree, keep-keep}
+use Rattle.sequences.proofs.KeepingSorted.{keep-sort}
+use Rattle.sequences.proofs.Numbers.{numbers-below}
 use Rattle.tables.specs.declared.Order.the-variants.{Spo}
 use Rattle.tables.specs.Tables.{fieldsOf}
 use Rattle.tables.specs.RowLists.{numberBefore}

@@ -6,11 +6,11 @@ use mathlib.Core.Bool.{Bool, true, false}
 use mathlib.Core.List.{List, [], _∷_, _++_, map, flatten, append-nil}
 use lib.ListN.{length, take, drop, length-append, take-append-drop}
 use lib.Seq.{take-length, drop-drop, take-append-seam, drop-append-add, paste}
-use Rattle.words.specs.Sequences.{keep, numbers, over}
-use Rattle.words.proofs.Buffers.{length-over}
-use Rattle.words.proofs.Flattening.{flatten-append}
-use Rattle.words.proofs.Keeping.{keep-append}
-use Rattle.words.proofs.Orders.{Three, less, same, more, three}
+use Rattle.sequences.specs.Sequences.{keep, numbers, over}
+use Rattle.sequences.proofs.Buffers.{length-over}
+use Rattle.sequences.proofs.Flattening.{flatten-append}
+use Rattle.sequences.proofs.Keeping.{keep-append}
+use Rattle.sequences.proofs.Orders.{Three, less, same, more, three}
 use Rattle.upload_writes.specs.Writing.{writtenFor}
 
 -- some words more behind those over the front of a buffer

@@ -5,7 +5,7 @@ use mathlib.Core.Bool.{Bool, not}
 use mathlib.Core.List.{List, [], _∷_, map, flatten}
 use lib.Dec.{eqb}
 use lib.ListN.{length, getD}
-use Rattle.words.specs.Sequences.{keep, numbers}
+use Rattle.sequences.specs.Sequences.{keep, numbers}
 use Rattle.tables.specs.declared.Order.the-variants.{Spo}
 use Rattle.tables.specs.Tables.{mostRows, fieldsOf}
 use Rattle.uploads.specs.Uploads.{uploadCount, keptCode, keptCount}

@@ -5,7 +5,7 @@ use words::copy_in;
 ghost use mathlib.Core.Path.{_≡_};
 ghost use Prim.Native.Nat.{_≤_};
 ghost use lib.ListN.{length};
-ghost use Rattle.words.specs.Sequences.{keep, numbers, over};
+ghost use Rattle.sequences.specs.Sequences.{keep, numbers, over};
 ghost use Rattle.tables.specs.Tables.{mostRows};
 ghost use Rattle.upload_writes.specs.Writing.{isKeptIn, droppedWords};
 

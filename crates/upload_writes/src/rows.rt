@@ -9,7 +9,7 @@ ghost use mathlib.Core.Path.{_≡_};
 ghost use mathlib.Core.Bool.{true};
 ghost use Prim.Native.Nat.{_≤_};
 ghost use lib.ListN.{length};
-ghost use Rattle.words.specs.Sequences.{all, over};
+ghost use Rattle.sequences.specs.Sequences.{all, over};
 ghost use Rattle.tables.specs.RowLists.{inRows};
 ghost use Rattle.uploads.specs.Uploads.{uploadCount};
 ghost use Rattle.upload_writes.specs.Writing.{keptWords};

@@ -7,8 +7,8 @@ use mathlib.Core.List.{List}
 use lib.Dec.{ltb}
 use lib.ListN.{length, getD}
 use borrow.Author.Tests.{ltb-true}
-use Rattle.words.proofs.Numbers.{kept-stands}
-use Rattle.words.proofs.Somewhere.{each-at}
+use Rattle.sequences.proofs.Numbers.{kept-stands}
+use Rattle.sequences.proofs.Somewhere.{each-at}
 use Rattle.tables.specs.declared.Order.the-variants.{Spo}
 use Rattle.tables.specs.Tables.{mostRows, rowCount, fieldsOf}
 use Rattle.tables.specs.RowLists.{RowIn}

@@ -6,8 +6,8 @@ use mathlib.Core.Bool.{Bool, true, false, cond, not}
 use mathlib.Core.Logic.{_⊎_, inl, inr}
 use mathlib.Core.List.{List}
 use lib.Dec.{eqb}
-use Rattle.words.proofs.Booleans.{absurd-true, Decided, yes, no, decided}
-use Rattle.words.proofs.Somewhere.{some-at, at-some}
+use Rattle.sequences.proofs.Booleans.{absurd-true, Decided, yes, no, decided}
+use Rattle.sequences.proofs.Somewhere.{some-at, at-some}
 use Rattle.tables.specs.declared.Order.the-variants.{Spo}
 use Rattle.tables.specs.Tables.{fieldsOf}
 use Rattle.uploads.specs.Uploads.{keptCode, wrongCode, repeatCode, kindsGood, sameRow, isRepeat, fateOf, isKept, isDropped}

@@ -6,19 +6,19 @@ use mathlib.Core.Bool.{true}
 use mathlib.Core.List.{List, [], map}
 use lib.Dec.{ltb}
 use lib.ListN.{length, getD, length-map}
-use Rattle.words.specs.Sequences.{numbers}
-use Rattle.words.specs.Sorting.{sortBy}
-use Rattle.words.proofs.Booleans.{absurd-true, Decided, yes, no, decided}
-use Rattle.words.proofs.Ascending.{Ascending}
-use Rattle.words.proofs.Each.{Each, each-map, each-kept, each-keep}
-use Rattle.words.proofs.Flattening.{Wide}
-use Rattle.words.proofs.Keeping.{length-keep}
-use Rattle.words.proofs.Neighbours.{neighbour-same}
-use Rattle.words.proofs.Numbers.{numbers-length, numbers-below, numbers-rise}
-use Rattle.words.proofs.Somewhere.{each-at, map-at, at-some}
-use Rattle.words.proofs.SortedNumbers.{totally, sort-ascends}
-use Rattle.words.proofs.SortedStrictly.{ascending-keep}
-use Rattle.words.proofs.SortingParts.{length-sort, each-sort}
+use Rattle.sequences.specs.Sequences.{numbers}
+use Rattle.sequences.specs.Sorting.{sortBy}
+use Rattle.sequences.proofs.Booleans.{absurd-true, Decided, yes, no, decided}
+use Rattle.sequences.proofs.Ascending.{Ascending}
+use Rattle.sequences.proofs.Each.{Each, each-map, each-kept, each-keep}
+use Rattle.sequences.proofs.Flattening.{Wide}
+use Rattle.sequences.proofs.Keeping.{length-keep}
+use Rattle.sequences.proofs.Neighbours.{neighbour-same}
+use Rattle.sequences.proofs.Numbers.{numbers-length, numbers-below, numbers-rise}
+use Rattle.sequences.proofs.Somewhere.{each-at, map-at, at-some}
+use Rattle.sequences.proofs.SortedNumbers.{totally, sort-ascends}
+use Rattle.sequences.proofs.SortedStrictly.{ascending-keep}
+use Rattle.sequences.proofs.SortingParts.{length-sort, each-sort}
 use Rattle.tables.specs.declared.Order.the-variants.{Spo}
 use Rattle.tables.specs.Tables.{columnCount, mostRows, yearColumn, fieldsOf, fieldRight, yearRight}
 use Rattle.tables.specs.RowLists.{numberBefore, RowsRight}

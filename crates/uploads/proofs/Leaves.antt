@@ -4,7 +4,7 @@ use mathlib.Core.Path.{_≡_, _∙_, ap, subst⁻¹}
 use mathlib.Core.Option.{none}
 use mathlib.Core.List.{List}
 use Rattle.words.specs.Tests.{firstFailing}
-use Rattle.words.proofs.Buffers.{take-over}
+use Rattle.sequences.proofs.Buffers.{take-over}
 use Rattle.calls.specs.Calls.{NotRefused}
 use Rattle.tables.specs.Tables.{Tables, mostRows, tableTests}
 use Rattle.tables.proofs.MadeTables.{made-accepted}

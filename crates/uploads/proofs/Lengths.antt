@@ -4,12 +4,12 @@ use native.Mathlib.Omega.{arith}
 use mathlib.Core.Path.{_≡_, refl, _∙_, ap}
 use mathlib.Core.List.{List, map}
 use lib.ListN.{length, length-map}
-use Rattle.words.specs.Sequences.{numbers}
-use Rattle.words.specs.Sorting.{sortBy}
-use Rattle.words.proofs.Each.{each-map}
-use Rattle.words.proofs.Flattening.{Wide, length-flatten}
-use Rattle.words.proofs.Keeping.{length-split}
-use Rattle.words.proofs.Numbers.{numbers-length}
+use Rattle.sequences.specs.Sequences.{numbers}
+use Rattle.sequences.specs.Sorting.{sortBy}
+use Rattle.sequences.proofs.Each.{each-map}
+use Rattle.sequences.proofs.Flattening.{Wide, length-flatten}
+use Rattle.sequences.proofs.Keeping.{length-split}
+use Rattle.sequences.proofs.Numbers.{numbers-length}
 use Rattle.tables.specs.declared.Order.{Order}
 use Rattle.tables.specs.declared.Order.the-variants.{Spo}
 use Rattle.tables.specs.Tables.{columnCount, fieldsOf}

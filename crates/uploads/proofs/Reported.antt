@@ -8,12 +8,12 @@ use mathlib.Core.List.{List, [], map}
 use lib.Dec.{ltb}
 use lib.ListN.{length, getD, length-map}
 use borrow.Author.Tests.{ltb-true, ne-eqb}
-use Rattle.words.specs.Sequences.{numbers}
-use Rattle.words.proofs.Each.{each-kept, each-keep}
-use Rattle.words.proofs.Flattening.{flatten-at}
-use Rattle.words.proofs.Numbers.{numbers-below, numbers-rise, keep-stands}
-use Rattle.words.proofs.Somewhere.{each-at, map-at}
-use Rattle.words.proofs.SortedStrictly.{ascending-keep, ascending-pairs}
+use Rattle.sequences.specs.Sequences.{numbers}
+use Rattle.sequences.proofs.Each.{each-kept, each-keep}
+use Rattle.sequences.proofs.Flattening.{flatten-at}
+use Rattle.sequences.proofs.Numbers.{numbers-below, numbers-rise, keep-stands}
+use Rattle.sequences.proofs.Somewhere.{each-at, map-at}
+use Rattle.sequences.proofs.SortedStrictly.{ascending-keep, ascending-pairs}
 use Rattle.uploads.specs.Uploads.{uploadCount, keptCode, wrongCode, repeatCode, fateOf, isDropped, droppedNumbers, droppedCount}
 use Rattle.uploads.specs.Uploads.{entryWords, entryOf, droppedReport}
 use Rattle.uploads.specs.Exactness.{entryCount, entryPlaceAt, codeAt, Names, Reported}

@@ -8,8 +8,8 @@ use lib.Dec.{eqb}
 use lib.ListN.{getD}
 use lib.Seq.{ext-getD}
 use borrow.Author.Tests.{eq-eqb, eqb-true}
-use Rattle.words.proofs.Booleans.{and-left, and-right, and-both}
-use Rattle.words.proofs.Counting.{all-at, at-all}
+use Rattle.sequences.proofs.Booleans.{and-left, and-right, and-both}
+use Rattle.sequences.proofs.Counting.{all-at, at-all}
 use Rattle.tables.specs.declared.Order.the-variants.{Spo}
 use Rattle.tables.specs.Tables.{columnCount, yearColumn, fieldOf, fieldsOf, fieldRight, rowRight, yearRight}
 use Rattle.tables.proofs.Columns.{fields-length}

@@ -7,10 +7,10 @@ use mathlib.Core.List.{List}
 use lib.Dec.{eqb, leb}
 use lib.ListN.{length}
 use borrow.Author.Tests.{eq-eqb, le-leb, eqb-true, leb-true}
-use Rattle.words.specs.Buffers.{Overwritten}
-use Rattle.words.specs.Sequences.{over}
-use Rattle.words.proofs.Booleans.{and-left, and-right}
-use Rattle.words.proofs.Buffers.{overwritten}
+use Rattle.sequences.specs.Buffers.{Overwritten}
+use Rattle.sequences.specs.Sequences.{over}
+use Rattle.sequences.proofs.Booleans.{and-left, and-right}
+use Rattle.sequences.proofs.Buffers.{overwritten}
 use Rattle.words.proofs.Testing.{test-passed}
 use Rattle.calls.specs.Calls.{NotRefused}
 use Rattle.tables.specs.declared.Order.the-variants.{Pos, Osp}

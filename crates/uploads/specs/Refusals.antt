@@ -2,7 +2,7 @@
 use Prim.Native.Nat.{_*_, _%_, _≤_}
 use mathlib.Core.Path.{_≡_}
 use lib.ListN.{length}
-use Rattle.words.specs.Buffers.{Overwritten}
+use Rattle.sequences.specs.Buffers.{Overwritten}
 use Rattle.tables.specs.Tables.{columnCount, mostRows}
 use Rattle.uploads.specs.Uploads.{uploadCount, keptCount, droppedCount, entryWords, madeTables, droppedReport}
 use Rattle.uploads.specs.Making.{MakeInput, makeOf, madeWords}

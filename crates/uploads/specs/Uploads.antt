@@ -5,8 +5,8 @@ use mathlib.Core.Bool.{Bool, cond, not, _&&_}
 use mathlib.Core.List.{List, [], _∷_, map, flatten}
 use lib.Dec.{eqb}
 use lib.ListN.{length}
-use Rattle.words.specs.Sequences.{allBelow, someBelow, keep, numbers}
-use Rattle.words.specs.Sorting.{sortBy}
+use Rattle.sequences.specs.Sequences.{allBelow, someBelow, keep, numbers}
+use Rattle.sequences.specs.Sorting.{sortBy}
 use Rattle.tables.specs.declared.Order.the-variants.{Spo}
 use Rattle.tables.specs.Tables.{Tables, columnCount, yearColumn, fieldOf, fieldsOf, rowRight, yearRight}
 use Rattle.tables.specs.RowLists.{numberBefore, tablesFrom}

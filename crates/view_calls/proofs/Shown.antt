@@ -7,8 +7,8 @@ use mathlib.Core.List.{List}
 use lib.Dec.{ltb}
 use lib.ListN.{length, getD, replicate, length-replicate}
 use borrow.Author.Tests.{lt-ltb}
-use Rattle.words.specs.Sequences.{all, over}
-use Rattle.words.proofs.Elements.{element-all}
+use Rattle.sequences.specs.Sequences.{all, over}
+use Rattle.sequences.proofs.Elements.{element-all}
 use Rattle.tables.specs.declared.Order.the-variants.{Spo, Pos, Osp}
 use Rattle.tables.specs.Tables.{Tables, columnCount, rowCount}
 use Rattle.tables.specs.Right.{Right}

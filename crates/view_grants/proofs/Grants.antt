@@ -7,10 +7,10 @@ use mathlib.Core.List.{List, [], _∷_}
 use lib.Dec.{ltb}
 use lib.ListN.{length, getD, drop, length-drop}
 use lib.Seq.{drop-cons}
-use Rattle.words.specs.Sequences.{all, neighbours}
+use Rattle.sequences.specs.Sequences.{all, neighbours}
 use borrow.Author.Tests.{ltb-true, eqb-true, eq-eqb}
 use Rattle.words.specs.Words.{termKind, nameKind}
-use Rattle.words.proofs.Booleans.{and-left, and-right, Decided, yes, no, decided}
+use Rattle.sequences.proofs.Booleans.{and-left, and-right, Decided, yes, no, decided}
 use Rattle.views.specs.Viewing.{isName, grantRight}
 
 and-false : (a : Bool) → (a && false) ≡ false

@@ -7,13 +7,13 @@ use mathlib.Core.List.{List, [], _∷_}
 use lib.Dec.{eqb, ltb}
 use lib.ListN.{length, getD}
 use borrow.Author.Tests.{eq-eqb, ne-eqb, eqb-true, eqb-false, lt-ltb, le-ltb, ltb-true, ltb-false}
-use Rattle.words.specs.Sequences.{neighbours, member}
-use Rattle.words.proofs.Booleans.{Decided, yes, no, decided}
-use Rattle.words.proofs.Ascending.{neighbours-ascending}
-use Rattle.words.proofs.Counting.{count-le, count-mono}
-use Rattle.words.proofs.Downward.{passes-below, fails-from}
-use Rattle.words.proofs.Orders.{Ordered, less, same, more, three}
-use Rattle.words.proofs.SortedStrictly.{ascending-pairs}
+use Rattle.sequences.specs.Sequences.{neighbours, member}
+use Rattle.sequences.proofs.Booleans.{Decided, yes, no, decided}
+use Rattle.sequences.proofs.Ascending.{neighbours-ascending}
+use Rattle.sequences.proofs.Counting.{count-le, count-mono}
+use Rattle.sequences.proofs.Downward.{passes-below, fails-from}
+use Rattle.sequences.proofs.Orders.{Ordered, less, same, more, three}
+use Rattle.sequences.proofs.SortedStrictly.{ascending-pairs}
 use Rattle.view_grants.specs.Places.{firstFrom}
 
 -- ---- a word among others, by its place

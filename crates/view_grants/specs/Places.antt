@@ -3,7 +3,7 @@ use Prim.Native.Nat.{ℕ}
 use mathlib.Core.List.{List}
 use lib.Dec.{ltb}
 use lib.ListN.{length, getD}
-use Rattle.words.specs.Sequences.{countBelow}
+use Rattle.sequences.specs.Sequences.{countBelow}
 
 -- how many words are less: in an ascending list, the first place whose word is not
 unfoldable pub firstFrom : List ℕ → ℕ → ℕ

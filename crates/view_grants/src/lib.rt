@@ -4,7 +4,7 @@ ghost use mathlib.Core.Path.{_≡_};
 ghost use mathlib.Core.Bool.{true};
 ghost use Prim.Native.Nat.{_≤_};
 ghost use lib.Dec.{ltb};
-ghost use Rattle.words.specs.Sequences.{all, neighbours, member};
+ghost use Rattle.sequences.specs.Sequences.{all, neighbours, member};
 ghost use Rattle.views.specs.Viewing.{isName, grantRight};
 ghost use Rattle.view_grants.specs.Places.{firstFrom};
 

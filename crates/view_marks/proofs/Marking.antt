@@ -6,11 +6,11 @@ use mathlib.Core.Path.{_≡_, sym, _∙_, ap}
 use mathlib.Core.Bool.{Bool, cond}
 use mathlib.Core.List.{List, [], _∷_, _++_, map, map-append}
 use lib.ListN.{length, length-map, set}
-use Rattle.words.specs.Sequences.{numbers, over}
-use Rattle.words.proofs.Booleans.{Decided, yes, no, decided}
-use Rattle.words.proofs.Buffers.{over-next}
-use Rattle.words.proofs.Keeping.{length-keep}
-use Rattle.words.proofs.Numbers.{numbers-none, numbers-next, numbers-length}
+use Rattle.sequences.specs.Sequences.{numbers, over}
+use Rattle.sequences.proofs.Booleans.{Decided, yes, no, decided}
+use Rattle.sequences.proofs.Buffers.{over-next}
+use Rattle.sequences.proofs.Keeping.{length-keep}
+use Rattle.sequences.proofs.Numbers.{numbers-none, numbers-next, numbers-length}
 use Rattle.views.specs.Renumbered.{passedBefore}
 use Rattle.views.proofs.Renumbering.{passed-yes, passed-no}
 use Rattle.view_marks.specs.Marks.{markOf, marksOf}

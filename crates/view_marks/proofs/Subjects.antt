@@ -7,12 +7,12 @@ use mathlib.Core.Bool.{Bool, true, false, not, _&&_, _||_}
 use mathlib.Core.List.{List, [], _∷_}
 use lib.Dec.{eqb}
 use lib.ListN.{length, getD}
-use Rattle.words.specs.Sequences.{allBelow, someBelow, lexBefore, member}
-use Rattle.words.proofs.Booleans.{absurd-true, Decided, yes, no, decided}
-use Rattle.words.proofs.Counting.{at-all}
-use Rattle.words.proofs.Elements.{same-test}
-use Rattle.words.proofs.Orders.{Three, less, same, more, three, lex-same, lex-more}
-use Rattle.words.proofs.Somewhere.{Some, some-at, at-some}
+use Rattle.sequences.specs.Sequences.{allBelow, someBelow, lexBefore, member}
+use Rattle.sequences.proofs.Booleans.{absurd-true, Decided, yes, no, decided}
+use Rattle.sequences.proofs.Counting.{at-all}
+use Rattle.sequences.proofs.Elements.{same-test}
+use Rattle.sequences.proofs.Orders.{Three, less, same, more, three, lex-same, lex-more}
+use Rattle.sequences.proofs.Somewhere.{Some, some-at, at-some}
 use Rattle.tables.specs.declared.Order.the-variants.{Spo}
 use Rattle.tables.specs.Tables.{columnCount, yearColumn, subjectColumn, predicateColumn, objectColumn, fieldOf, fieldsOf}
 use Rattle.tables.specs.RowLists.{RowsRight}

@@ -5,13 +5,13 @@ use mathlib.Core.Bool.{Bool, true, false, _&&_, _||_}
 use mathlib.Core.List.{List, [], _∷_, map}
 use lib.Dec.{eqb}
 use lib.ListN.{length, getD}
-use Rattle.words.specs.Sequences.{someBelow, member, numbers}
-use Rattle.words.proofs.Booleans.{Decided, yes, no, decided}
-use Rattle.words.proofs.Each.{Each}
-use Rattle.words.proofs.EachMore.{each-always}
-use Rattle.words.proofs.Elements.{same-test}
-use Rattle.words.proofs.Keeping.{keep-agree}
-use Rattle.words.proofs.Somewhere.{some-at, at-some}
+use Rattle.sequences.specs.Sequences.{someBelow, member, numbers}
+use Rattle.sequences.proofs.Booleans.{Decided, yes, no, decided}
+use Rattle.sequences.proofs.Each.{Each}
+use Rattle.sequences.proofs.EachMore.{each-always}
+use Rattle.sequences.proofs.Elements.{same-test}
+use Rattle.sequences.proofs.Keeping.{keep-agree}
+use Rattle.sequences.proofs.Somewhere.{some-at, at-some}
 use Rattle.tables.specs.Tables.{columnCount, yearColumn, subjectColumn, fieldOf}
 use Rattle.views.specs.Views.{isOf, admits, visible}
 use Rattle.views.specs.Renumbered.{passedBefore}

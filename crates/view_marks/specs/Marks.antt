@@ -2,7 +2,7 @@
 use Prim.Native.Nat.{ℕ}
 use mathlib.Core.Bool.{Bool, cond}
 use mathlib.Core.List.{List, map}
-use Rattle.words.specs.Sequences.{numbers}
+use Rattle.sequences.specs.Sequences.{numbers}
 use Rattle.tables.specs.Tables.{mostRows}
 use Rattle.views.specs.Renumbered.{passedBefore}
 

@@ -5,7 +5,7 @@ use mathlib.Core.Bool.{Bool, false, _&&_, _||_}
 use mathlib.Core.List.{List}
 use lib.Dec.{eqb}
 use lib.ListN.{length, getD}
-use Rattle.words.specs.Sequences.{someBelow, member}
+use Rattle.sequences.specs.Sequences.{someBelow, member}
 use Rattle.tables.specs.Tables.{columnCount, yearColumn, subjectColumn, fieldOf}
 use Rattle.views.specs.Views.{isOf}
 

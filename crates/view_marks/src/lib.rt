@@ -13,7 +13,7 @@ ghost use mathlib.Core.Bool.{true, cond, _||_};
 ghost use Prim.Native.Nat.{_+_, _-_, _*_, _/_, _≤_, _<_};
 ghost use lib.Dec.{eqb, ltb};
 ghost use lib.ListN.{length};
-ghost use Rattle.words.specs.Sequences.{neighbours, over};
+ghost use Rattle.sequences.specs.Sequences.{neighbours, over};
 ghost use Rattle.tables.specs.Tables.{columnCount, mostRows, yearColumn, subjectColumn, fieldOf};
 ghost use Rattle.tables.specs.RowLists.{RowsRight};
 ghost use Rattle.views.specs.Views.{isOf};

@@ -8,9 +8,9 @@ use lib.Dec.{ltb, leb}
 use lib.ListN.{length, getD, set}
 use lib.Seq.{getD-set-same, getD-set-other}
 use borrow.Author.Tests.{lt-ltb, le-ltb, le-leb, lt-leb, ltb-true, ltb-false}
-use Rattle.words.specs.Sequences.{lexBefore, member}
-use Rattle.words.proofs.Booleans.{absurd-true}
-use Rattle.words.proofs.Orders.{Three, less, same, more, three, lex-less, lex-same, lex-more}
+use Rattle.sequences.specs.Sequences.{lexBefore, member}
+use Rattle.sequences.proofs.Booleans.{absurd-true}
+use Rattle.sequences.proofs.Orders.{Three, less, same, more, three, lex-less, lex-same, lex-more}
 use Rattle.tables.specs.declared.Order.the-variants.{Pos}
 use Rattle.tables.specs.declared.Prefix.{Prefix}
 use Rattle.tables.specs.declared.Side.{Side}

@@ -6,7 +6,7 @@ use mathlib.Core.Bool.{Bool, _&&_}
 use mathlib.Core.List.{List}
 use lib.Dec.{ltb, leb}
 use borrow.Author.Tests.{lt-ltb, le-ltb, le-leb, lt-leb}
-use Rattle.words.proofs.Orders.{Three, less, same, more, three}
+use Rattle.sequences.proofs.Orders.{Three, less, same, more, three}
 use Rattle.tables.specs.declared.Order.the-variants.{Spo}
 use Rattle.tables.specs.Tables.{Tables, yearColumn, rowCount, fieldOf}
 use Rattle.tables.specs.Right.{Right}

@@ -15,7 +15,7 @@ use view_grants::seek;
 ghost use mathlib.Core.Path.{_≡_};
 ghost use mathlib.Core.Bool.{true};
 ghost use lib.Dec.{ltb};
-ghost use Rattle.words.specs.Sequences.{neighbours};
+ghost use Rattle.sequences.specs.Sequences.{neighbours};
 ghost use Rattle.tables.specs.Tables.{tablesOf};
 ghost use Rattle.tables.specs.Right.{Right};
 ghost use Rattle.view_members.specs.Flags.{flagBy, Unflagged, Flagged, FlaggedAs, ofEarlier, notLater};

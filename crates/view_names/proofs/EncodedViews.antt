@@ -8,9 +8,9 @@ use mathlib.Core.List.{List, [], _∷_, map, flatten}
 use lib.Dec.{eqb}
 use lib.IntN.{pos}
 use lib.ListN.{length, getD}
-use Rattle.words.specs.Sequences.{someBelow, keep, member, numbers}
-use Rattle.words.proofs.Each.{Each, each-keep}
-use Rattle.words.proofs.Somewhere.{each-at}
+use Rattle.sequences.specs.Sequences.{someBelow, keep, member, numbers}
+use Rattle.sequences.proofs.Each.{Each, each-keep}
+use Rattle.sequences.proofs.Somewhere.{each-at}
 use Rattle.tables.specs.declared.Order.the-variants.{Spo}
 use Rattle.tables.specs.Tables.{columnCount, fieldOf, fieldsOf, yearColumn, subjectColumn, predicateColumn, objectColumn}
 use Rattle.views.specs.Views.{admits, visible, viewRows}

@@ -7,12 +7,12 @@ use mathlib.Core.Option.{some}
 use mathlib.Core.List.{List, [], _∷_}
 use lib.Dec.{eqb}
 use borrow.Author.Tests.{eqb-true, eq-eqb}
-use Rattle.words.specs.Sequences.{keep}
-use Rattle.words.proofs.Booleans.{absurd-true, and-left, and-right, Decided, yes, no, decided}
-use Rattle.words.proofs.Each.{Each, all-each}
-use Rattle.words.proofs.EachMore.{each-weaken, each-both, each-always}
-use Rattle.words.proofs.Elements.{same-test}
-use Rattle.words.proofs.Keeping.{keep-agree}
+use Rattle.sequences.specs.Sequences.{keep}
+use Rattle.sequences.proofs.Booleans.{absurd-true, and-left, and-right, Decided, yes, no, decided}
+use Rattle.sequences.proofs.Each.{Each, all-each}
+use Rattle.sequences.proofs.EachMore.{each-weaken, each-both, each-always}
+use Rattle.sequences.proofs.Elements.{same-test}
+use Rattle.sequences.proofs.Keeping.{keep-agree}
 use Rattle.tables.specs.Tables.{Tables}
 use Rattle.uploads.specs.Uploads.{madeTables}
 use Rattle.plans.specs.Conditions.{next}

@@ -6,10 +6,10 @@ use mathlib.Core.Bool.{Bool, _&&_, not}
 use mathlib.Core.List.{List, [], _∷_, _++_, map, map-append}
 use lib.ListN.{length, getD, take}
 use lib.Seq.{take-suc, take-length}
-use Rattle.words.specs.Sequences.{all, allBelow, someBelow, keep, numbers}
-use Rattle.words.proofs.Booleans.{Decided, yes, no, decided}
-use Rattle.words.proofs.Elements.{all-below}
-use Rattle.words.proofs.Keeping.{keep-append}
+use Rattle.sequences.specs.Sequences.{all, allBelow, someBelow, keep, numbers}
+use Rattle.sequences.proofs.Booleans.{Decided, yes, no, decided}
+use Rattle.sequences.proofs.Elements.{all-below}
+use Rattle.sequences.proofs.Keeping.{keep-append}
 use Rattle.encodings.specs.StringRows.{StringRow}
 use Rattle.view_names.specs.VisibleStrings.{someRow}
 

@@ -4,12 +4,12 @@ use mathlib.Core.Path.{_≡_, refl, sym, _∙_, ap, subst}
 use mathlib.Core.Bool.{Bool, true, false}
 use mathlib.Core.List.{List, [], _∷_, List·Memᴰ, List·Memᴰ·head, List·Memᴰ·tail}
 use borrow.Author.Tests.{eq-eqb}
-use Rattle.words.specs.Sequences.{keep}
-use Rattle.words.proofs.Booleans.{absurd-true, yes, no, decided}
-use Rattle.words.proofs.Each.{Each, each-keep, each-kept}
-use Rattle.words.proofs.EachMore.{each-weaken, each-both}
-use Rattle.words.proofs.Ascending.{Ascending}
-use Rattle.words.proofs.SortedStrictly.{ascending-keep}
+use Rattle.sequences.specs.Sequences.{keep}
+use Rattle.sequences.proofs.Booleans.{absurd-true, yes, no, decided}
+use Rattle.sequences.proofs.Each.{Each, each-keep, each-kept}
+use Rattle.sequences.proofs.EachMore.{each-weaken, each-both}
+use Rattle.sequences.proofs.Ascending.{Ascending}
+use Rattle.sequences.proofs.SortedStrictly.{ascending-keep}
 use Rattle.views.proofs.Equal.{ascending-equal}
 use Rattle.dictionaries.proofs.Strings.{same-self}
 use Rattle.sparql_strings.proofs.Terms.{term-self}

@@ -6,7 +6,7 @@ use mathlib.Core.Bool.{Bool, true, false, _&&_, _||_, not}
 use mathlib.Core.Option.{Option, some}
 use mathlib.Core.List.{List, [], _∷_}
 use lib.Dec.{eqb}
-use Rattle.words.specs.Sequences.{all, keep}
+use Rattle.sequences.specs.Sequences.{all, keep}
 use Rattle.tables.specs.Tables.{Tables}
 use Rattle.plans.specs.Conditions.{next}
 use Rattle.uploads.specs.Uploads.{madeTables}

@@ -8,14 +8,14 @@ use lib.Dec.{ltb}
 use lib.ListN.{length, getD, drop, List·getD-append}
 use lib.Seq.{getD-at}
 use borrow.Author.Tests.{lt-ltb, ltb-true}
-use Rattle.words.specs.Sequences.{keep, numbers, over, all}
-use Rattle.words.proofs.Booleans.{Decided, yes, no, decided}
-use Rattle.words.proofs.Each.{Each, each-keep, each-kept, all-each}
-use Rattle.words.proofs.EachMore.{each-weaken, each-both}
-use Rattle.words.proofs.Keeping.{keep-agree}
-use Rattle.words.proofs.Numbers.{numbers-below, numbers-length, numbers-next}
-use Rattle.words.proofs.Orders.{Three, less, same, more, three}
-use Rattle.words.proofs.Somewhere.{map-at}
+use Rattle.sequences.specs.Sequences.{keep, numbers, over, all}
+use Rattle.sequences.proofs.Booleans.{Decided, yes, no, decided}
+use Rattle.sequences.proofs.Each.{Each, each-keep, each-kept, all-each}
+use Rattle.sequences.proofs.EachMore.{each-weaken, each-both}
+use Rattle.sequences.proofs.Keeping.{keep-agree}
+use Rattle.sequences.proofs.Numbers.{numbers-below, numbers-length, numbers-next}
+use Rattle.sequences.proofs.Orders.{Three, less, same, more, three}
+use Rattle.sequences.proofs.Somewhere.{map-at}
 use Rattle.tables.specs.declared.Order.the-variants.{Spo}
 use Rattle.tables.specs.Tables.{columnCount, mostRows, fieldsOf}
 use Rattle.views.specs.Views.{visible, visibleNumbers, viewCount, viewRows}

@@ -7,8 +7,8 @@ use mathlib.Core.Bool.{Bool, true, false, cond}
 use mathlib.Core.List.{List, [], _∷_, _++_, append-nil}
 use lib.ListN.{length, getD, take, drop, set, length-append, take-append-drop}
 use lib.Seq.{take-suc, take-suc-set, take-set-le, take-all}
-use Rattle.words.proofs.Booleans.{Decided, yes, no, decided}
-use Rattle.words.proofs.Orders.{Three, less, same, more, three}
+use Rattle.sequences.proofs.Booleans.{Decided, yes, no, decided}
+use Rattle.sequences.proofs.Orders.{Three, less, same, more, three}
 use Rattle.upload_writes.specs.Writing.{writtenFor}
 use Rattle.upload_writes.proofs.Written.{written-append, written-yes, written-no}
 use Rattle.view_writes.specs.Writing.{shownBy, shownNumbers}

@@ -7,12 +7,12 @@ use mathlib.Core.Bool.{Bool, true, false, cond}
 use mathlib.Core.List.{List, [], _∷_, _++_, map}
 use lib.ListN.{length, take, drop, length-map}
 use lib.Seq.{take-take, take-at, drop-drop, take-append-le, take-length, length-take-le, paste, take-paste, drop-paste}
-use Rattle.words.specs.Sequences.{keep, numbers}
-use Rattle.words.proofs.Booleans.{Decided, yes, no, decided}
-use Rattle.words.proofs.Each.{each-map}
-use Rattle.words.proofs.Flattening.{length-flatten}
-use Rattle.words.proofs.Numbers.{numbers-none, numbers-next, numbers-length}
-use Rattle.words.proofs.Orders.{Three, less, same, more, three}
+use Rattle.sequences.specs.Sequences.{keep, numbers}
+use Rattle.sequences.proofs.Booleans.{Decided, yes, no, decided}
+use Rattle.sequences.proofs.Each.{each-map}
+use Rattle.sequences.proofs.Flattening.{length-flatten}
+use Rattle.sequences.proofs.Numbers.{numbers-none, numbers-next, numbers-length}
+use Rattle.sequences.proofs.Orders.{Three, less, same, more, three}
 use Rattle.tables.specs.declared.Order.the-variants.{Spo}
 use Rattle.tables.specs.Tables.{columnCount, fieldsOf}
 use Rattle.tables.proofs.Columns.{fields-length}

@@ -11,7 +11,7 @@ ghost use Prim.Native.Nat.{_+_, _*_, _/_, _≤_};
 ghost use lib.Dec.{ltb};
 ghost use lib.ListN.{length};
 ghost use lib.Seq.{paste};
-ghost use Rattle.words.specs.Sequences.{all, over};
+ghost use Rattle.sequences.specs.Sequences.{all, over};
 ghost use Rattle.tables.specs.Tables.{columnCount, mostRows, fieldsOf};
 ghost use Rattle.tables.specs.declared.Order.the-variants.{Spo};
 ghost use Rattle.views.specs.Renumbered.{passedBefore};

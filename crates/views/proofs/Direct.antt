@@ -6,10 +6,10 @@ use mathlib.Core.List.{List, map, flatten}
 use lib.Dec.{eqb}
 use lib.ListN.{length}
 use borrow.Author.Tests.{not-true}
-use Rattle.words.specs.Sequences.{allBelow, member, numbers}
-use Rattle.words.proofs.Counting.{all-at, at-all}
-use Rattle.words.proofs.EachMore.{each-always}
-use Rattle.words.proofs.Keeping.{keep-agree}
+use Rattle.sequences.specs.Sequences.{allBelow, member, numbers}
+use Rattle.sequences.proofs.Counting.{all-at, at-all}
+use Rattle.sequences.proofs.EachMore.{each-always}
+use Rattle.sequences.proofs.Keeping.{keep-agree}
 use Rattle.tables.specs.declared.Order.the-variants.{Spo}
 use Rattle.tables.specs.Tables.{columnCount, yearColumn, subjectColumn, predicateColumn, objectColumn, fieldOf, fieldsOf}
 use Rattle.views.specs.Views.{isOf, admits, visible, viewRows}

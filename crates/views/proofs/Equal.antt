@@ -3,10 +3,10 @@ use mathlib.Core.Path.{_≡_, refl, sym, ap₂, subst}
 use mathlib.Core.Bool.{Bool, true, false}
 use mathlib.Core.Logic.{_⊎_, inl, inr}
 use mathlib.Core.List.{List, [], _∷_, map, List·Memᴰ, List·Memᴰ·head, List·Memᴰ·tail, List·Memᴰ·not-nil, List·Memᴰ·cases-cons}
-use Rattle.words.proofs.Booleans.{absurd-true}
-use Rattle.words.proofs.Each.{Each}
-use Rattle.words.proofs.EachMore.{each-weaken, each-both, each-member}
-use Rattle.words.proofs.Ascending.{Ahead, Ascending}
+use Rattle.sequences.proofs.Booleans.{absurd-true}
+use Rattle.sequences.proofs.Each.{Each}
+use Rattle.sequences.proofs.EachMore.{each-weaken, each-both, each-member}
+use Rattle.sequences.proofs.Ascending.{Ahead, Ascending}
 
 -- each element of a list made from another
 pub each-in-map : {A B : Type 0} (f : A → B) (xs : List A) → Each (λ x. List·Memᴰ (f x) (map f xs)) xs

@@ -7,7 +7,7 @@ use mathlib.Core.List.{List}
 use lib.Dec.{ltb}
 use lib.ListN.{getD}
 use borrow.Author.Tests.{ltb-true}
-use Rattle.words.proofs.Somewhere.{each-at}
+use Rattle.sequences.proofs.Somewhere.{each-at}
 use Rattle.tables.specs.declared.Order.the-variants.{Spo}
 use Rattle.tables.specs.Tables.{Tables, rowCount, fieldsOf}
 use Rattle.tables.specs.RowLists.{RowIn}

@@ -10,15 +10,15 @@ use mathlib.Core.List.{List, [], _∷_, map, flatten, List·Memᴰ}
 use lib.Dec.{ltb}
 use lib.ListN.{length}
 use borrow.Author.Tests.{ltb-true}
-use Rattle.words.specs.Sequences.{member, lexBefore, numbers}
+use Rattle.sequences.specs.Sequences.{member, lexBefore, numbers}
 use Rattle.words.specs.Tests.{firstFailing}
-use Rattle.words.proofs.Booleans.{absurd-true, Decided, yes, no, decided}
-use Rattle.words.proofs.Orders.{Three, less, same, more, three, lex-asym, lex-equal}
-use Rattle.words.proofs.Ascending.{Ascending}
-use Rattle.words.proofs.Each.{Each}
-use Rattle.words.proofs.EachMore.{each-weaken, each-both, each-mapped}
-use Rattle.words.proofs.Numbers.{numbers-below, kept-numbers}
-use Rattle.words.proofs.SortedStrictly.{ascending-keep, ascending-snoc}
+use Rattle.sequences.proofs.Booleans.{absurd-true, Decided, yes, no, decided}
+use Rattle.sequences.proofs.Orders.{Three, less, same, more, three, lex-asym, lex-equal}
+use Rattle.sequences.proofs.Ascending.{Ascending}
+use Rattle.sequences.proofs.Each.{Each}
+use Rattle.sequences.proofs.EachMore.{each-weaken, each-both, each-mapped}
+use Rattle.sequences.proofs.Numbers.{numbers-below, kept-numbers}
+use Rattle.sequences.proofs.SortedStrictly.{ascending-keep, ascending-snoc}
 use Rattle.tables.specs.declared.Order.the-variants.{Spo}
 use Rattle.tables.specs.Tables.{Tables, columnCount, rowCount, fieldOf, fieldsOf, tableTests}
 use Rattle.tables.specs.Tables.{yearColumn, subjectColumn, predicateColumn, objectColumn}

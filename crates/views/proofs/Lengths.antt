@@ -4,11 +4,11 @@ use native.Mathlib.Omega.{arith}
 use mathlib.Core.Path.{_≡_, _∙_, ap}
 use mathlib.Core.List.{List, map}
 use lib.ListN.{length, length-map}
-use Rattle.words.specs.Sequences.{numbers}
-use Rattle.words.proofs.Each.{each-map}
-use Rattle.words.proofs.Flattening.{Wide, length-flatten}
-use Rattle.words.proofs.Keeping.{length-keep}
-use Rattle.words.proofs.Numbers.{numbers-length}
+use Rattle.sequences.specs.Sequences.{numbers}
+use Rattle.sequences.proofs.Each.{each-map}
+use Rattle.sequences.proofs.Flattening.{Wide, length-flatten}
+use Rattle.sequences.proofs.Keeping.{length-keep}
+use Rattle.sequences.proofs.Numbers.{numbers-length}
 use Rattle.tables.specs.declared.Order.{Order}
 use Rattle.tables.specs.declared.Order.the-variants.{Spo}
 use Rattle.tables.specs.Tables.{columnCount, fieldsOf}

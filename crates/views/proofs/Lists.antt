@@ -4,11 +4,11 @@ use mathlib.Core.Path.{_≡_, sym, _∙_, ap, ap₂}
 use mathlib.Core.Bool.{true}
 use mathlib.Core.List.{List, map}
 use borrow.Author.Tests.{ltb-true}
-use Rattle.words.specs.Sequences.{keep, numbers, lexBefore}
-use Rattle.words.specs.Sorting.{sortBy}
-use Rattle.words.proofs.EachMore.{each-both}
-use Rattle.words.proofs.KeepingSorted.{keep-sort}
-use Rattle.words.proofs.SortedMaps.{sort-map}
+use Rattle.sequences.specs.Sequences.{keep, numbers, lexBefore}
+use Rattle.sequences.specs.Sorting.{sortBy}
+use Rattle.sequences.proofs.EachMore.{each-both}
+use Rattle.sequences.proofs.KeepingSorted.{keep-sort}
+use Rattle.sequences.proofs.SortedMaps.{sort-map}
 use Rattle.tables.specs.declared.Order.{Order}
 use Rattle.tables.specs.declared.Order.the-variants.{Spo, Pos, Osp}
 use Rattle.tables.specs.Tables.{Tables, rowCount, fieldsOf}

@@ -6,11 +6,11 @@ use mathlib.Core.Bool.{Bool, true, false}
 use mathlib.Core.List.{[], _∷_, _++_, map, append-nil, map-append}
 use lib.ListN.{length, getD, length-append, List·getD-append}
 use lib.Seq.{getD-append-seam}
-use Rattle.words.specs.Sequences.{keep, numbers}
-use Rattle.words.proofs.Booleans.{Decided, yes, no, decided}
-use Rattle.words.proofs.Keeping.{keep-nil, keep-yes, keep-no, keep-append}
-use Rattle.words.proofs.Numbers.{numbers-none, numbers-next}
-use Rattle.words.proofs.Orders.{Three, less, same, more, three}
+use Rattle.sequences.specs.Sequences.{keep, numbers}
+use Rattle.sequences.proofs.Booleans.{Decided, yes, no, decided}
+use Rattle.sequences.proofs.Keeping.{keep-nil, keep-yes, keep-no, keep-append}
+use Rattle.sequences.proofs.Numbers.{numbers-none, numbers-next}
+use Rattle.sequences.proofs.Orders.{Three, less, same, more, three}
 use Rattle.views.specs.Renumbered.{passedBefore}
 
 -- ---- numbers that pass a test

@@ -7,12 +7,12 @@ use mathlib.Core.List.{List, [], map}
 use lib.Dec.{ltb}
 use lib.ListN.{length, getD, length-map}
 use borrow.Author.Tests.{ltb-true}
-use Rattle.words.specs.Sequences.{numbers}
-use Rattle.words.proofs.Ascending.{Ascending}
-use Rattle.words.proofs.Each.{Each, each-kept, each-keep}
-use Rattle.words.proofs.Numbers.{numbers-below, numbers-rise}
-use Rattle.words.proofs.Somewhere.{each-at, map-at}
-use Rattle.words.proofs.SortedStrictly.{ascending-keep, ascending-pairs}
+use Rattle.sequences.specs.Sequences.{numbers}
+use Rattle.sequences.proofs.Ascending.{Ascending}
+use Rattle.sequences.proofs.Each.{Each, each-kept, each-keep}
+use Rattle.sequences.proofs.Numbers.{numbers-below, numbers-rise}
+use Rattle.sequences.proofs.Somewhere.{each-at, map-at}
+use Rattle.sequences.proofs.SortedStrictly.{ascending-keep, ascending-pairs}
 use Rattle.tables.specs.declared.Order.the-variants.{Spo}
 use Rattle.tables.specs.Tables.{Tables, rowCount, yearColumn, fieldsOf, fieldRight, yearRight}
 use Rattle.tables.specs.Right.{Right}

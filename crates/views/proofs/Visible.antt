@@ -7,10 +7,10 @@ use mathlib.Core.List.{List}
 use lib.Dec.{eqb}
 use lib.ListN.{length}
 use borrow.Author.Tests.{eq-eqb, ne-eqb, eqb-true, eqb-false}
-use Rattle.words.specs.Sequences.{member}
-use Rattle.words.proofs.Booleans.{and-left, and-right, Decided, yes, no, decided}
-use Rattle.words.proofs.Counting.{at-all}
-use Rattle.words.proofs.Somewhere.{Some, some-at, at-some}
+use Rattle.sequences.specs.Sequences.{member}
+use Rattle.sequences.proofs.Booleans.{and-left, and-right, Decided, yes, no, decided}
+use Rattle.sequences.proofs.Counting.{at-all}
+use Rattle.sequences.proofs.Somewhere.{Some, some-at, at-some}
 use Rattle.tables.specs.Tables.{columnCount, yearColumn, subjectColumn, predicateColumn, objectColumn, fieldOf}
 use Rattle.views.specs.Views.{isOf, admits, belongs, visible}
 

@@ -3,7 +3,7 @@ use Prim.Native.Nat.{ℕ}
 use mathlib.Core.Bool.{Bool}
 use mathlib.Core.List.{List}
 use lib.ListN.{length}
-use Rattle.words.specs.Sequences.{keep, numbers}
+use Rattle.sequences.specs.Sequences.{keep, numbers}
 use Rattle.views.specs.Views.{visible}
 
 -- how many numbers before one pass a test

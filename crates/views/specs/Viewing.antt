@@ -4,7 +4,7 @@ use mathlib.Core.Bool.{Bool, _&&_}
 use mathlib.Core.List.{List, [], _∷_, _++_}
 use lib.Dec.{eqb, ltb}
 use Rattle.words.specs.Words.{termKind, nameKind}
-use Rattle.words.specs.Sequences.{all, neighbours}
+use Rattle.sequences.specs.Sequences.{all, neighbours}
 use Rattle.words.specs.Tests.{Test}
 use Rattle.calls.specs.Calls.{CallSchema, resultOfCall}
 use Rattle.tables.specs.Tables.{Tables, tablesOf, tableTests}

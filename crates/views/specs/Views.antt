@@ -5,7 +5,7 @@ use mathlib.Core.Bool.{Bool, _&&_, _||_}
 use mathlib.Core.List.{List, map, flatten}
 use lib.Dec.{eqb}
 use lib.ListN.{length}
-use Rattle.words.specs.Sequences.{someBelow, keep, member, numbers}
+use Rattle.sequences.specs.Sequences.{someBelow, keep, member, numbers}
 use Rattle.tables.specs.declared.Order.the-variants.{Spo}
 use Rattle.tables.specs.Tables.{Tables, columnCount, yearColumn, subjectColumn, predicateColumn, objectColumn, fieldOf, fieldsOf}
 use Rattle.tables.specs.RowLists.{tablesFrom}

@@ -4,8 +4,8 @@ use native.Mathlib.Omega.{arith}
 use native.Mathlib.Numerals.{add-one}
 use mathlib.Core.Path.{_≡_, refl, sym, _∙_, ap}
 use mathlib.Core.List.{[], _∷_, _++_, flatten}
-use Rattle.words.specs.Sequences.{iterate}
-use Rattle.words.proofs.Flattening.{flatten-append}
+use Rattle.sequences.specs.Sequences.{iterate}
+use Rattle.sequences.proofs.Flattening.{flatten-append}
 use Rattle.woods.specs.Woods.{nextDraw, standRow, diameterRow, woodRows}
 use Rattle.wood_rows.specs.Drawn.{stemWords}
 

@@ -8,7 +8,7 @@ ghost use mathlib.Core.List.{flatten};
 ghost use Prim.Native.Nat.{_*_, _≤_, _<_};
 ghost use lib.ListN.{length};
 ghost use Rattle.words.specs.Words.{mostYear};
-ghost use Rattle.words.specs.Sequences.{over};
+ghost use Rattle.sequences.specs.Sequences.{over};
 ghost use Rattle.tables.specs.Tables.{columnCount};
 ghost use Rattle.woods.specs.Woods.{nextDraw, woodRows};
 ghost use Rattle.woods.specs.Growing.{mostStems};

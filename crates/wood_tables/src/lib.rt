@@ -6,7 +6,7 @@ ghost use mathlib.Core.Path.{_≡_};
 ghost use Prim.Native.Nat.{_+_, _*_, _≤_};
 ghost use lib.ListN.{length};
 ghost use Rattle.words.specs.Words.{mostYear};
-ghost use Rattle.words.specs.Sequences.{over};
+ghost use Rattle.sequences.specs.Sequences.{over};
 ghost use Rattle.tables.specs.Tables.{columnCount, mostRows};
 ghost use Rattle.woods.specs.Woods.{woodOf};
 ghost use Rattle.woods.specs.Growing.{mostStems};

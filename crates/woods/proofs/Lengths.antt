@@ -4,7 +4,7 @@ use native.Mathlib.Omega.{arith}
 use mathlib.Core.Path.{_≡_, _∙_, ap}
 use mathlib.Core.List.{flatten}
 use lib.ListN.{length}
-use Rattle.words.proofs.Flattening.{length-flatten}
+use Rattle.sequences.proofs.Flattening.{length-flatten}
 use Rattle.tables.specs.declared.Order.{Order}
 use Rattle.tables.specs.Tables.{columnCount}
 use Rattle.tables.specs.RowLists.{rowNumbers}

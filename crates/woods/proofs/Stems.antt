@@ -8,10 +8,10 @@ use lib.ListN.{length, getD, length-append, List·getD-append}
 use lib.Seq.{getD-append-add}
 use borrow.Author.Tests.{eq-eqb, le-leb, lt-ltb}
 use Rattle.words.specs.Words.{mostYear, nameKind, numberKind, variableKind, termKind, termValue, number}
-use Rattle.words.specs.Sequences.{lexBefore}
-use Rattle.words.proofs.Each.{each-append}
-use Rattle.words.proofs.Flattening.{Wide}
-use Rattle.words.proofs.Orders.{Three, less, same, more, three, lex-less, lex-same}
+use Rattle.sequences.specs.Sequences.{lexBefore}
+use Rattle.sequences.proofs.Each.{each-append}
+use Rattle.sequences.proofs.Flattening.{Wide}
+use Rattle.sequences.proofs.Orders.{Three, less, same, more, three, lex-less, lex-same}
 use Rattle.tables.specs.Tables.{columnCount, yearColumn, fieldRight, yearRight}
 use Rattle.tables.specs.RowLists.{RowsRight}
 use Rattle.tables.proofs.FlatRows.{flat-right}

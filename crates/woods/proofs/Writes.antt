@@ -6,7 +6,7 @@ use mathlib.Core.Bool.{true}
 use lib.Dec.{leb}
 use borrow.Author.Tests.{le-leb, leb-true}
 use Rattle.words.specs.Words.{mostYear}
-use Rattle.words.proofs.Booleans.{and-left, and-right}
+use Rattle.sequences.proofs.Booleans.{and-left, and-right}
 use Rattle.words.proofs.Testing.{test-passed}
 use Rattle.calls.specs.Calls.{NotRefused}
 use Rattle.tables.specs.declared.Order.the-variants.{Pos, Osp}

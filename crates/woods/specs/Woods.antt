@@ -2,7 +2,7 @@
 use Prim.Native.Nat.{ℕ, zero, suc, _+_, _*_, _/_, _%_}
 use mathlib.Core.List.{List, [], _∷_, _++_, flatten}
 use Rattle.words.specs.Words.{name, number}
-use Rattle.words.specs.Sequences.{iterate}
+use Rattle.sequences.specs.Sequences.{iterate}
 use Rattle.tables.specs.Tables.{Tables}
 use Rattle.tables.specs.RowLists.{tablesFrom}
 

@@ -9,7 +9,7 @@ use borrow.Author.Tests.{eqb-true, eqb-false, lt-ltb, le-ltb, le-leb, lt-leb, lt
 use Rattle.words.specs.Words.{numberKind, halfValues, termValues, termKind, termValue, isNumber, isVariable}
 use Rattle.words.specs.Words.{numberValue, valueRank, keyRank}
 use Rattle.words.specs.Former.{formerRank, formerKeyRank, Former}
-use Rattle.words.proofs.Orders.{less, same, more, three}
+use Rattle.sequences.proofs.Orders.{less, same, more, three}
 use Rattle.words.proofs.Signed.{pos-sub, signed-low}
 use Rattle.words.proofs.Ranks.{number-rank, other-rank, rank-below}
 

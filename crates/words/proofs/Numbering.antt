@@ -8,9 +8,9 @@ use mathlib.Core.Option.{Option, none, some}
 use mathlib.Core.List.{List, [], _∷_, _++_}
 use lib.Dec.{ltb}
 use borrow.Author.Tests.{ltb-true}
-use Rattle.words.specs.Sequences.{all}
+use Rattle.sequences.specs.Sequences.{all}
 use Rattle.words.specs.Tests.{Test, firstFailing, numberOf}
-use Rattle.words.proofs.Elements.{all-head, all-tail}
+use Rattle.sequences.proofs.Elements.{all-head, all-tail}
 use Rattle.words.proofs.Testing.{none-some, orElse, first-append}
 
 -- a number that is not 0 is that of the first that fails

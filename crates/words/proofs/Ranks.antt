@@ -9,7 +9,7 @@ use lib.Dec.{leb}
 use borrow.Author.Tests.{eqb-true, eqb-false, eq-eqb, ne-eqb, le-leb, lt-leb}
 use Rattle.words.specs.Words.{termValues, halfValues, numberKind, variableKind, termKind, termValue, unbound, isNumber, isValue}
 use Rattle.words.specs.Words.{valueRank, keyRank}
-use Rattle.words.proofs.Orders.{less, same, more, three}
+use Rattle.sequences.proofs.Orders.{less, same, more, three}
 
 -- ---- among the terms of a kind
 pub number-rank : (w : ℕ) → termKind w ≡ numberKind → valueRank w ≡ (termValue w + halfValues) % termValues

@@ -1,7 +1,7 @@
--- One name that opens every definition of this crate, for proofs that compute.
+-- One name that opens every definition of this crate and of sequences, for proofs that compute.
 use Rattle.words.specs.Words.{signed}
-use Rattle.words.specs.Sequences.{allBelow, countBelow, numbers, all, keep, neighbours, member, distinct, parts, lexBefore, iterate}
-use Rattle.words.specs.Sorting.{insertBy, insertAllBy, sortBy, bestBy}
+use Rattle.sequences.specs.Sequences.{allBelow, countBelow, numbers, all, keep, neighbours, member, distinct, parts, lexBefore, iterate}
+use Rattle.sequences.specs.Sorting.{insertBy, insertAllBy, sortBy, bestBy}
 use Rattle.words.specs.Tests.{firstFailing}
 
 unfoldable pub computing : Unit {0}

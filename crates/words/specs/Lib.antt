@@ -1,9 +1,6 @@
 pub mod Words
 pub mod Former
 pub mod Bindings
-pub mod Sequences
-pub mod Sorting
 pub mod Tests
-pub mod Buffers
 pub mod Answers
 pub mod Computing

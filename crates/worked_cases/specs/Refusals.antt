@@ -5,7 +5,7 @@ use lib.ListN.{replicate, set}
 use Rattle.words.specs.declared.Written.the-variants.{Words}
 use Rattle.words.specs.Words.{name, number, text, variable, unbound, word, surveyWord, yearWord, positionWord, placeWord, headKind, branchKind, trueKind}
 use Rattle.words.specs.Words.{notKind, comparisonKind, atLeast, rowsKind, topKind, fallingKind, groupKind, placeKind}
-use Rattle.words.specs.Sequences.{over}
+use Rattle.sequences.specs.Sequences.{over}
 use Rattle.turns.specs.declared.TurnEnding.the-variants.{Done}
 use Rattle.worked_cases.specs.Wood.{i2026, wood, withRows, withOsp, always, rows01, topFalling, planWith, planA}
 use Rattle.worked_cases.specs.Wood.{planTop, planGroup, stateAt, startOfA, stem}

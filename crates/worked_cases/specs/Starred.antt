@@ -6,7 +6,7 @@ use mathlib.Core.Option.{none, some}
 use lib.ListN.{length, take, replicate}
 use Rattle.words.specs.declared.Written.the-variants.{Words}
 use Rattle.words.specs.Words.{name, number, text, word, notKind}
-use Rattle.words.specs.Sequences.{over}
+use Rattle.sequences.specs.Sequences.{over}
 use Rattle.steps.specs.Steps.{inYear}
 use Rattle.turns.specs.declared.TurnEnding.the-variants.{Done, Spent, Full}
 use Rattle.worked_cases.specs.Wood.{wood, noRows, withOsp, notError, orError, rows01, planWith, planA, planTwice, planTop, planGroup}

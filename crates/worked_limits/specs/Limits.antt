@@ -4,7 +4,7 @@ use Prim.Native.Nat.{ℕ, zero, suc}
 use mathlib.Core.List.{List, [], _∷_, _++_, flatten}
 use mathlib.Core.Option.{Option, none, some}
 use lib.ListN.{replicate}
-use Rattle.words.specs.Sequences.{over}
+use Rattle.sequences.specs.Sequences.{over}
 use Rattle.turns.specs.declared.TurnEnding.the-variants.{Done, Full}
 use Rattle.worked_cases.specs.Calls.{testing, tested, Case, surveyed, turnCall, turnCase, notOpened, notTurned}
 use Rattle.worked_cases.specs.Literals.{stems, stem1, stem2, stem3, ending0, ending01, allDiameters, atPlace}

@@ -3,7 +3,7 @@ use Prim.Native.Nat.{ℕ, _-_}
 use mathlib.Core.List.{List, [], _∷_, _++_}
 use lib.ListN.{length, replicate}
 use Rattle.words.specs.declared.Written.the-variants.{Words}
-use Rattle.words.specs.Sequences.{over}
+use Rattle.sequences.specs.Sequences.{over}
 use Rattle.registers.specs.Reporting.{ReportInput}
 use Rattle.worked_cases.specs.Calls.{reporting, reported, Case, keptBuffer, notReported}
 use Rattle.worked_registers.specs.Registers.{untouched, ofDiameters, first, last}

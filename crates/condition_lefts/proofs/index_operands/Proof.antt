@@ -4,7 +4,7 @@ use Prim.Native.Nat.{_-_, _≤_}
 use native.Mathlib.Omega.{arith}
 use mathlib.Core.Path.{_≡_, refl, _∙_}
 use lib.ListN.{length, take, drop, length-set}
-use Rattle.words.proofs.Walking.{rest-length}
+use Rattle.sequences.proofs.Walking.{rest-length}
 use Rattle.conditions.specs.Values.{leftsOf}
 use Rattle.conditions.proofs.Places.{left-fits, lefts-next, lefts-whole}
 use Rattle.condition_lefts.proofs.index_operands.Statement.{statement}

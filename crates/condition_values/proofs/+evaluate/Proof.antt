@@ -8,7 +8,7 @@ use mathlib.Core.Path.{_≡_, refl, sym, _∙_, ap}
 use mathlib.Core.List.{List}
 use lib.ListN.{length, take, drop}
 use Rattle.words.specs.Bindings.{Bindings}
-use Rattle.words.proofs.Walking.{rest-of, rest-length}
+use Rattle.sequences.proofs.Walking.{rest-of, rest-length}
 use Rattle.words.proofs.wide.Reads as wide-reads
 use Rattle.plans.specs.declared.Node.the-variants.{Pair}
 use Rattle.plans.specs.Conditions.{readCondition, mostDepth}

@@ -2,7 +2,7 @@
 use borrow.Author.Needs.{needs}
 use native.Mathlib.Omega.{arith}
 use mathlib.Core.Path.{refl}
-use Rattle.words.proofs.Booleans.{absurd-true}
+use Rattle.sequences.proofs.Booleans.{absurd-true}
 use Rattle.conditions.proofs.Evaluating.{begins-at, starts-inside, is-always}
 use Rattle.condition_values.proofs.always.Statement.{statement}
 use Rattle.condition_values.proofs.always.Tie as tie

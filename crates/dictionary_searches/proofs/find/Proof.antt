@@ -11,7 +11,7 @@ use Rattle.dictionaries.specs.Lookups.{precedence}
 use Rattle.dictionaries.proofs.Strings.{before-ordered}
 use Rattle.dictionaries.proofs.Searching.{Between, between-start, between-up, between-down, means-before}
 use Rattle.dictionaries.proofs.Searching.{means-same, means-after, lookup-none, lookup-at, strings-length}
-use Rattle.words.proofs.Ascending.{Ascending, neighbours-ascending}
+use Rattle.sequences.proofs.Ascending.{Ascending, neighbours-ascending}
 use Rattle.dictionary_searches.proofs.find.Statement.{statement}
 use Rattle.dictionary_searches.proofs.find.Tie as tie
 

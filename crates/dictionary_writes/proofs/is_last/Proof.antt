@@ -7,8 +7,8 @@ use mathlib.Core.Bool.{true}
 use mathlib.Core.List.{List}
 use lib.ListN.{length, getD}
 use borrow.Author.Tests.{eq-eqb, ne-eqb, ltb-true}
-use Rattle.words.specs.Sequences.{all}
-use Rattle.words.proofs.Elements.{all-at}
+use Rattle.sequences.specs.Sequences.{all}
+use Rattle.sequences.proofs.Elements.{all-at}
 use Rattle.dictionaries.specs.Dictionaries.{hasString, placeBefore}
 use Rattle.dictionary_writes.proofs.is_last.Statement.{statement}
 use Rattle.dictionary_writes.proofs.is_last.Tie as tie

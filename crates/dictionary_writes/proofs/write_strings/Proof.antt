@@ -8,7 +8,7 @@ use mathlib.Core.List.{List, [], _∷_}
 use lib.Dec.{eqb}
 use lib.ListN.{length, getD, set, drop, length-map}
 use borrow.Author.Tests.{ltb-true}
-use Rattle.words.proofs.Elements.{all-at}
+use Rattle.sequences.proofs.Elements.{all-at}
 use Rattle.dictionaries.specs.Dictionaries.{stringsOf, hasString, placeBefore}
 use Rattle.dictionary_numberings.specs.Sorted.{lastOfEach, stringsAt}
 use Rattle.dictionary_writes.proofs.Writing.{one-taken, one-left, none-left, last-told, string-at}

@@ -4,8 +4,8 @@ use mathlib.Core.Path.{_≡_, refl, sym, _∙_}
 use native.Mathlib.Omega.{arith}
 use lib.ListN.{length, drop}
 use borrow.Author.Tests.{not-true, not-false}
-use Rattle.words.specs.Sequences.{all}
-use Rattle.words.proofs.Walking.{all-goes, all-stops, all-end}
+use Rattle.sequences.specs.Sequences.{all}
+use Rattle.sequences.proofs.Walking.{all-goes, all-stops, all-end}
 use Rattle.plans.specs.Branches.{binds}
 use Rattle.plans.specs.Reading.{branchesIn}
 use Rattle.plan_ending_variables.proofs.all_bound.Statement.{statement}

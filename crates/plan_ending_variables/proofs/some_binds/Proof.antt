@@ -4,7 +4,7 @@ use native.Mathlib.Omega.{arith}
 use lib.ListN.{drop}
 use Rattle.plans.specs.Branches.{binds}
 use Rattle.plans.specs.Reading.{branchesIn}
-use Rattle.words.specs.Sequences.{member}
+use Rattle.sequences.specs.Sequences.{member}
 use Rattle.plans.proofs.BranchWalk.{BranchesWalked, walk-start, walk-read, walk-words, walk-next, binds-stops, binds-goes, binds-end}
 use Rattle.plan_ending_variables.proofs.some_binds.Statement.{statement}
 use Rattle.plan_ending_variables.proofs.some_binds.Tie as tie

@@ -3,7 +3,7 @@ use borrow.Author.Needs.{needs}
 use mathlib.Core.Path.{ap, _∙_}
 use native.Mathlib.Omega.{arith}
 use lib.ListN.{length, drop}
-use Rattle.words.proofs.Walking.{rest-of}
+use Rattle.sequences.proofs.Walking.{rest-of}
 use Rattle.plans.proofs.PlanRead.{plan-words}
 use Rattle.plan_parts.proofs.body_part.Statement.{statement}
 use Rattle.plan_parts.proofs.body_part.Tie as tie

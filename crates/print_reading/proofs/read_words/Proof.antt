@@ -3,7 +3,7 @@ use Prim.Native.Nat.{_-_, _/_, _≤_}
 use native.Mathlib.Omega.{arith}
 use mathlib.Core.Path.{_≡_, refl, _∙_}
 use lib.ListN.{length-set, length, take}
-use Rattle.words.specs.Sequences.{over}
+use Rattle.sequences.specs.Sequences.{over}
 use Rattle.print_reading.specs.Files.{fileWords, wordBytes}
 use Rattle.print_reading.proofs.FileWords.{length-words, word-in, over-more, over-all}
 use Rattle.print_reading.proofs.read_words.Statement.{statement}

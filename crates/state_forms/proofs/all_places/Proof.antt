@@ -5,9 +5,9 @@ use native.Mathlib.Omega.{arith}
 use lib.ListN.{length, drop}
 use lib.Dec.{eqb}
 use borrow.Author.Tests.{eq-eqb, ne-eqb}
-use Rattle.words.specs.Sequences.{all}
+use Rattle.sequences.specs.Sequences.{all}
 use Rattle.words.specs.Words.{placeKind}
-use Rattle.words.proofs.Walking.{all-end, all-goes, all-stops}
+use Rattle.sequences.proofs.Walking.{all-end, all-goes, all-stops}
 use Rattle.steps.specs.Saved.{isPlace}
 use Rattle.state_forms.proofs.all_places.Statement.{statement}
 use Rattle.state_forms.proofs.all_places.Tie as tie

@@ -3,7 +3,7 @@ use borrow.Author.Needs.{needs}
 use mathlib.Core.Path.{_≡_, sym, ap, _∙_}
 use native.Mathlib.Omega.{arith}
 use borrow.Author.Tests.{not-true, not-false}
-use Rattle.words.proofs.Walking.{rest-of}
+use Rattle.sequences.proofs.Walking.{rest-of}
 use Rattle.tables.specs.Tables.{Tables, tablesOf}
 use Rattle.plans.specs.Plans.{Plan, planOf}
 use Rattle.steps.specs.Years.{isYearRead}

@@ -3,8 +3,8 @@ use borrow.Author.Needs.{needs}
 use mathlib.Core.Path.{sym, ap, _∙_}
 use native.Mathlib.Omega.{arith}
 use borrow.Author.Tests.{not-true, not-false}
-use Rattle.words.specs.Sequences.{all}
-use Rattle.words.proofs.Walking.{rest-of}
+use Rattle.sequences.specs.Sequences.{all}
+use Rattle.sequences.proofs.Walking.{rest-of}
 use Rattle.plans.specs.Plans.{Plan, planOf}
 use Rattle.steps.specs.Saved.{isPlace}
 use Rattle.state_forms.proofs.ShapeCases.{shape-none, shape-elsewhere, shape-longer, shape-places}

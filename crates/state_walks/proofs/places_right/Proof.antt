@@ -1,7 +1,7 @@
 -- `state_walks::places_right` meets its contract.
 use borrow.Author.Needs.{needs}
 use mathlib.Core.Path.{refl, sym, _∙_}
-use Rattle.words.proofs.Booleans.{absurd-true}
+use Rattle.sequences.proofs.Booleans.{absurd-true}
 use Rattle.tables.specs.Tables.{Section, sectionOf}
 use Rattle.state_saving.proofs.WalkedLevels.{upper-fails, upper-passes}
 use Rattle.state_walks.proofs.places_right.Statement.{statement}

@@ -5,7 +5,7 @@ use mathlib.Core.Path.{_≡_, refl, sym, _∙_, subst}
 use native.Mathlib.Omega.{arith}
 use lib.ListN.{length, length-set}
 use borrow.Author.Tests.{not-true, not-false}
-use Rattle.words.proofs.Booleans.{absurd-true}
+use Rattle.sequences.proofs.Booleans.{absurd-true}
 use Rattle.tables.specs.Tables.{Section, sectionOf}
 use Rattle.step_cursors.specs.Held.{EndsAbove}
 use Rattle.state_saving.proofs.WalkedLevels.{Walked, walked-none, walked-next, walked-fails, ends-next}

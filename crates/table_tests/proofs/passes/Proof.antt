@@ -1,7 +1,7 @@
 -- `table_tests::passes` meets its contract.
 use mathlib.Core.Path.{refl, sym, _∙_}
 use borrow.Author.Tests.{not-false}
-use Rattle.words.proofs.Booleans.{absurd-true}
+use Rattle.sequences.proofs.Booleans.{absurd-true}
 use Rattle.table_tests.proofs.passes.Statement.{statement}
 use Rattle.table_tests.proofs.passes.Tie as tie
 

@@ -8,7 +8,7 @@ use native.Mathlib.Omega.{arith}
 use lib.Dec.{leb, ltb}
 use lib.ListN.{length, drop, getD}
 use borrow.Author.Tests.{not-true, not-false}
-use Rattle.words.specs.Sequences.{lexBefore}
+use Rattle.sequences.specs.Sequences.{lexBefore}
 use Rattle.tables.specs.declared.Order.{Order}
 use Rattle.tables.specs.Tables.{Tables, tablesOf, rowCount, rowAt}
 use Rattle.tables.proofs.Sides.{from-end}

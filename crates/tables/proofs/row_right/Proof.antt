@@ -1,6 +1,6 @@
 -- `tables::row_right` meets its contract: of each field, whether its column may have its kind.
 use borrow.Author.Needs.{needs}
-use Rattle.words.specs.Sequences.{allBelow}
+use Rattle.sequences.specs.Sequences.{allBelow}
 use Rattle.tables.specs.Tables.{rowRight}
 use Rattle.tables.proofs.row_right.Statement.{statement}
 use Rattle.tables.proofs.row_right.Tie as tie

@@ -5,7 +5,7 @@ use mathlib.Core.Path.{_≡_, refl, sym, _∙_}
 use mathlib.Core.List.{List}
 use lib.ListN.{length, getD, length-set}
 use borrow.Author.Tests.{leb-true}
-use Rattle.words.proofs.Elements.{all-at}
+use Rattle.sequences.proofs.Elements.{all-at}
 use Rattle.tables.specs.Tables.{columnCount}
 use Rattle.tables.specs.RowLists.{inRows}
 use Rattle.upload_fates.specs.Judging.{marked}

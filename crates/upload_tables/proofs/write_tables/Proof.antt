@@ -5,8 +5,8 @@ use mathlib.Core.Path.{_≡_, sym, _∙_, ap}
 use mathlib.Core.List.{List, _++_}
 use lib.ListN.{length, take, drop}
 use lib.Seq.{length-take-le}
-use Rattle.words.specs.Sequences.{over}
-use Rattle.words.proofs.Buffers.{take-over, length-over}
+use Rattle.sequences.specs.Sequences.{over}
+use Rattle.sequences.proofs.Buffers.{take-over, length-over}
 use Rattle.tables.specs.declared.Order.{Order}
 use Rattle.tables.specs.declared.Order.the-variants.{Pos, Osp}
 use Rattle.tables.specs.Tables.{columnCount, mostRows}

@@ -6,7 +6,7 @@ use native.Mathlib.Omega.{arith}
 use lib.ListN.{length, getD, drop}
 use lib.Dec.{ltb}
 use borrow.Author.Tests.{lt-ltb, le-ltb}
-use Rattle.words.specs.Sequences.{neighbours}
+use Rattle.sequences.specs.Sequences.{neighbours}
 use Rattle.view_grants.proofs.Grants.{neighbours-end, neighbours-step}
 use Rattle.view_grants.proofs.ascends.Statement.{statement}
 use Rattle.view_grants.proofs.ascends.Tie as tie

@@ -3,7 +3,7 @@ use borrow.Author.Needs.{needs}
 use Prim.Native.Nat.{_≤_}
 use mathlib.Core.Path.{sym, ap, _∙_, subst}
 use native.Mathlib.Omega.{arith}
-use Rattle.words.specs.Sequences.{member}
+use Rattle.sequences.specs.Sequences.{member}
 use Rattle.view_grants.specs.Places.{firstFrom}
 use Rattle.view_marks.proofs.Subjects.{seen-is}
 use Rattle.view_marks.proofs.first_seen.Statement.{statement}

@@ -7,7 +7,7 @@ use native.Mathlib.Omega.{arith}
 use lib.ListN.{length}
 use mathlib.Core.Path.{ap₂}
 use lib.ListN.{set, length-set}
-use Rattle.words.specs.Sequences.{over}
+use Rattle.sequences.specs.Sequences.{over}
 use Rattle.tables.specs.Tables.{columnCount, yearColumn, subjectColumn, fieldOf}
 use Rattle.views.specs.Renumbered.{passedBefore}
 use Rattle.views.proofs.Renumbering.{passed-none}

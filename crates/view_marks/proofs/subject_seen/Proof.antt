@@ -7,7 +7,7 @@ use native.Mathlib.Omega.{arith}
 use lib.ListN.{length, getD}
 use lib.Dec.{eqb}
 use borrow.Author.Tests.{not-true, not-false}
-use Rattle.words.specs.Sequences.{someBelow}
+use Rattle.sequences.specs.Sequences.{someBelow}
 use Rattle.tables.specs.Tables.{columnCount, yearColumn, subjectColumn, fieldOf}
 use Rattle.views.specs.Views.{isOf}
 use Rattle.view_marks.specs.Told.{told}

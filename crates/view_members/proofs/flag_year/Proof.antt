@@ -4,7 +4,7 @@ use mathlib.Core.Path.{_≡_, refl, sym, ap, _∙_, subst}
 use mathlib.Core.List.{List}
 use native.Mathlib.Omega.{arith}
 use lib.ListN.{length, set, length-set}
-use Rattle.words.specs.Sequences.{member}
+use Rattle.sequences.specs.Sequences.{member}
 use Rattle.tables.specs.declared.Order.the-variants.{Pos}
 use Rattle.tables.specs.Tables.{Tables, tablesOf, rowCount, rowAt, fieldOf, objectColumn}
 use Rattle.tables.specs.Ranges.{rangeStart, rangeEnd}

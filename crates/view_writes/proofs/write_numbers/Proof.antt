@@ -10,7 +10,7 @@ use lib.Dec.{ltb}
 use lib.ListN.{set, length-set, take-append-drop}
 use lib.Seq.{drop-set-lt}
 use borrow.Author.Tests.{ltb-true}
-use Rattle.words.proofs.Elements.{all-at}
+use Rattle.sequences.proofs.Elements.{all-at}
 use Rattle.upload_writes.proofs.Written.{written-none, written-part}
 use Rattle.view_marks.specs.Marks.{hiddenMark}
 use Rattle.view_writes.specs.Writing.{shownBy, shownNumbers}

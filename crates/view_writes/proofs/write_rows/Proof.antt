@@ -9,9 +9,9 @@ use mathlib.Core.Bool.{cond}
 use lib.Dec.{ltb}
 use lib.ListN.{take-append-drop}
 use lib.Seq.{length-paste}
-use Rattle.words.specs.Sequences.{numbers}
-use Rattle.words.proofs.Numbers.{numbers-none}
-use Rattle.words.proofs.Orders.{less, same, more, three}
+use Rattle.sequences.specs.Sequences.{numbers}
+use Rattle.sequences.proofs.Numbers.{numbers-none}
+use Rattle.sequences.proofs.Orders.{less, same, more, three}
 use Rattle.tables.specs.declared.Order.the-variants.{Spo}
 use Rattle.tables.specs.Tables.{columnCount, mostRows, fieldsOf}
 use Rattle.tables.proofs.Columns.{fields-length}

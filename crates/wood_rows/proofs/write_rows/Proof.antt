@@ -6,7 +6,7 @@ use mathlib.Core.List.{flatten}
 use native.Mathlib.Omega.{arith}
 use lib.ListN.{length}
 use lib.Seq.{paste}
-use Rattle.words.specs.Sequences.{iterate, over}
+use Rattle.sequences.specs.Sequences.{iterate, over}
 use Rattle.tables.specs.Tables.{columnCount}
 use Rattle.woods.specs.Woods.{nextDraw, woodRows}
 use Rattle.woods.specs.Refusals.{rowsFor}

@@ -2,7 +2,7 @@
 use native.Mathlib.Omega.{arith}
 use mathlib.Core.Path.{refl, sym}
 use borrow.Author.Tests.{lt-ltb, ne-eqb}
-use Rattle.words.specs.Sequences.{member}
+use Rattle.sequences.specs.Sequences.{member}
 use Rattle.dictionaries.specs.Checking.{iriCharacter}
 use Rattle.dictionary_tests.proofs.Walking.{low-out, one-out}
 use Rattle.dictionary_tests.proofs.names.iri_byte.Statement.{statement}

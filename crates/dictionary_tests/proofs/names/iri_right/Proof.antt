@@ -7,7 +7,7 @@ use mathlib.Core.Bool.{_&&_}
 use lib.Dec.{ltb}
 use lib.ListN.{length, drop}
 use borrow.Author.Tests.{lt-ltb, le-ltb, not-true, not-false}
-use Rattle.words.specs.Sequences.{all}
+use Rattle.sequences.specs.Sequences.{all}
 use Rattle.dictionaries.specs.Checking.{iriCharacter}
 use Rattle.dictionary_tests.proofs.Walking.{all-step, all-stop, all-end, and-false}
 use Rattle.dictionary_tests.proofs.names.iri_right.Statement.{statement}

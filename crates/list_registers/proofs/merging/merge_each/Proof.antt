@@ -4,7 +4,7 @@ use Prim.Native.Nat.{_-_, _≤_, max}
 use native.Mathlib.Omega.{arith}
 use mathlib.Core.Path.{_≡_, refl, _∙_, ap}
 use lib.ListN.{length, getD, set, length-set}
-use Rattle.words.specs.Sequences.{over}
+use Rattle.sequences.specs.Sequences.{over}
 use Rattle.list_registers.proofs.Merged.{mergedTo, merged-none, next-read, merged-over, merged-whole}
 use Rattle.list_registers.proofs.merging.merge_each.Statement.{statement}
 use Rattle.list_registers.proofs.merging.merge_each.Tie as tie

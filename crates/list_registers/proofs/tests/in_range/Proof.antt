@@ -4,8 +4,8 @@ use native.Mathlib.Omega.{arith}
 use mathlib.Core.Path.{_≡_, refl, sym, _∙_}
 use lib.ListN.{length, drop, getD}
 use borrow.Author.Tests.{le-leb, lt-leb}
-use Rattle.words.specs.Sequences.{all}
-use Rattle.words.proofs.Walking.{all-end, all-goes, all-stops}
+use Rattle.sequences.specs.Sequences.{all}
+use Rattle.sequences.proofs.Walking.{all-end, all-goes, all-stops}
 use Rattle.registers.specs.Registers.{isRank, mostRank}
 use Rattle.list_registers.proofs.tests.in_range.Statement.{statement}
 use Rattle.list_registers.proofs.tests.in_range.Tie as tie

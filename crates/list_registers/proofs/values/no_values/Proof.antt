@@ -4,7 +4,7 @@ use native.Mathlib.Omega.{arith}
 use native.Mathlib.Numerals.{add-one}
 use mathlib.Core.Path.{_≡_, refl, sym, _∙_, ap}
 use lib.ListN.{length, set, length-set}
-use Rattle.words.specs.Sequences.{over}
+use Rattle.sequences.specs.Sequences.{over}
 use Rattle.registers.specs.Registers.{registerCount}
 use Rattle.list_registers.proofs.Raising.{zeros, zeros-over, registers-none}
 use Rattle.list_registers.proofs.values.no_values.Statement.{statement}

@@ -2,7 +2,7 @@
 use borrow.Author.Needs.{needs}
 use mathlib.Core.Path.{_∙_, ap}
 use lib.ListN.{take}
-use Rattle.words.specs.Sequences.{over}
+use Rattle.sequences.specs.Sequences.{over}
 use Rattle.registers.specs.Registers.{registerCount}
 use Rattle.lists.specs.Delivering.{withValue}
 use Rattle.list_registers.proofs.Counting.{counted-taken}

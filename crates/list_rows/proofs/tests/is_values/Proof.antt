@@ -5,8 +5,8 @@ use native.Mathlib.Omega.{arith}
 use lib.ListN.{length, drop}
 use borrow.Author.Tests.{not-true, not-false}
 use Rattle.words.specs.Words.{isValue}
-use Rattle.words.specs.Sequences.{all}
-use Rattle.words.proofs.Walking.{all-end, all-goes, all-stops}
+use Rattle.sequences.specs.Sequences.{all}
+use Rattle.sequences.proofs.Walking.{all-end, all-goes, all-stops}
 use Rattle.list_rows.proofs.tests.is_values.Statement.{statement}
 use Rattle.list_rows.proofs.tests.is_values.Tie as tie
 

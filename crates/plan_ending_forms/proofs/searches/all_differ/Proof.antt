@@ -3,8 +3,8 @@ use Prim.Native.Nat.{_-_, _≤_}
 use mathlib.Core.Path.{_≡_, refl, sym, _∙_}
 use native.Mathlib.Omega.{arith}
 use lib.ListN.{length, drop}
-use Rattle.words.specs.Sequences.{distinct}
-use Rattle.words.proofs.Walking.{distinct-goes, distinct-stops, distinct-end}
+use Rattle.sequences.specs.Sequences.{distinct}
+use Rattle.sequences.proofs.Walking.{distinct-goes, distinct-stops, distinct-end}
 use Rattle.plan_ending_forms.proofs.searches.all_differ.Statement.{statement}
 use Rattle.plan_ending_forms.proofs.searches.all_differ.Tie as tie
 

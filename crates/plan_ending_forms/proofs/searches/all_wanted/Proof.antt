@@ -4,8 +4,8 @@ use mathlib.Core.Path.{_≡_, refl, sym, _∙_}
 use native.Mathlib.Omega.{arith}
 use lib.ListN.{length, drop}
 use borrow.Author.Tests.{not-true, not-false}
-use Rattle.words.specs.Sequences.{all}
-use Rattle.words.proofs.Walking.{all-goes, all-stops, all-end}
+use Rattle.sequences.specs.Sequences.{all}
+use Rattle.sequences.proofs.Walking.{all-goes, all-stops, all-end}
 use Rattle.plan_ending_forms.specs.Wanting.{isWanted}
 use Rattle.plan_ending_forms.proofs.searches.all_wanted.Statement.{statement}
 use Rattle.plan_ending_forms.proofs.searches.all_wanted.Tie as tie

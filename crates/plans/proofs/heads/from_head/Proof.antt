@@ -1,7 +1,7 @@
 -- `from_head` meets its contract: a year's word is passed over.
 use borrow.Author.Needs.{needs}
 use mathlib.Core.Path.{sym, _∙_}
-use Rattle.words.proofs.Walking.{rest-of}
+use Rattle.sequences.proofs.Walking.{rest-of}
 use Rattle.plans.proofs.YearWords.{head-none, head-first, head-second}
 use Rattle.plans.proofs.heads.from_head.Statement.{statement}
 use Rattle.plans.proofs.heads.from_head.Tie as tie

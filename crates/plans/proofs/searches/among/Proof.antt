@@ -3,8 +3,8 @@ use Prim.Native.Nat.{_-_, _≤_}
 use mathlib.Core.Path.{_≡_, refl, sym, _∙_}
 use native.Mathlib.Omega.{arith}
 use lib.ListN.{length, drop}
-use Rattle.words.specs.Sequences.{member}
-use Rattle.words.proofs.Walking.{member-goes, member-stops, member-end}
+use Rattle.sequences.specs.Sequences.{member}
+use Rattle.sequences.proofs.Walking.{member-goes, member-stops, member-end}
 use Rattle.plans.proofs.searches.among.Statement.{statement}
 use Rattle.plans.proofs.searches.among.Tie as tie
 

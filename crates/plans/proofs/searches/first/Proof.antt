@@ -2,7 +2,7 @@
 use borrow.Author.Needs.{needs}
 use mathlib.Core.Path.{sym}
 use native.Mathlib.Omega.{arith}
-use Rattle.words.proofs.Walking.{first-none}
+use Rattle.sequences.proofs.Walking.{first-none}
 use Rattle.plans.proofs.searches.first.Statement.{statement}
 use Rattle.plans.proofs.searches.first.Tie as tie
 

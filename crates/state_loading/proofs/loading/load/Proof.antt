@@ -7,7 +7,7 @@ use mathlib.Core.List.{List}
 use native.Mathlib.Omega.{arith}
 use borrow.Author.Tests.{not-true, not-false}
 use Rattle.words.specs.Words.{number}
-use Rattle.words.proofs.Walking.{rest-of}
+use Rattle.sequences.proofs.Walking.{rest-of}
 use Rattle.tables.specs.Tables.{Tables, tablesOf, sectionOf}
 use Rattle.plans.specs.Plans.{Plan, planOf}
 use Rattle.steps.specs.Saved.{yearIn, shapeBehind, shapeRight, positionIn}

@@ -5,7 +5,7 @@ use mathlib.Core.Path.{_≡_, refl, ap, _∙_}
 use native.Mathlib.Omega.{arith}
 use lib.ListN.{length, getD, set, length-set}
 use Rattle.words.specs.Words.{lowNumbers, placeWord}
-use Rattle.words.specs.Sequences.{over}
+use Rattle.sequences.specs.Sequences.{over}
 use Rattle.step_cursors.specs.Carried.{placeAt}
 use Rattle.state_saving.proofs.Storing.{wordsAbove, above-none, above-write, saved}
 use Rattle.state_saving.proofs.saving.save_behind.Statement.{statement}

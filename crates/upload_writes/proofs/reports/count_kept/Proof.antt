@@ -6,9 +6,9 @@ use mathlib.Core.Path.{_≡_, sym, _∙_, ap}
 use mathlib.Core.List.{List, [], _∷_}
 use lib.ListN.{length, getD, length-append}
 use borrow.Author.Tests.{eq-eqb, ne-eqb}
-use Rattle.words.specs.Sequences.{keep, numbers}
-use Rattle.words.proofs.Keeping.{keep-append, keep-yes, keep-no, keep-nil}
-use Rattle.words.proofs.Numbers.{numbers-none, numbers-next}
+use Rattle.sequences.specs.Sequences.{keep, numbers}
+use Rattle.sequences.proofs.Keeping.{keep-append, keep-yes, keep-no, keep-nil}
+use Rattle.sequences.proofs.Numbers.{numbers-none, numbers-next}
 use Rattle.upload_writes.specs.Writing.{isKeptIn}
 use Rattle.upload_writes.proofs.reports.count_kept.Statement.{statement}
 use Rattle.upload_writes.proofs.reports.count_kept.Tie as tie

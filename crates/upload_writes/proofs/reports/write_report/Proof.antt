@@ -7,8 +7,8 @@ use mathlib.Core.Bool.{true, false, not}
 use mathlib.Core.List.{List, [], _∷_, _++_}
 use lib.ListN.{length, getD, length-append}
 use borrow.Author.Tests.{eq-eqb, ne-eqb}
-use Rattle.words.specs.Sequences.{numbers, over}
-use Rattle.words.proofs.Numbers.{numbers-none, numbers-next}
+use Rattle.sequences.specs.Sequences.{numbers, over}
+use Rattle.sequences.proofs.Numbers.{numbers-none, numbers-next}
 use Rattle.upload_writes.specs.Writing.{writtenFor, isKeptIn, droppedWords}
 use Rattle.upload_writes.proofs.Written.{written-none, written-yes, written-no, numbers-part, grow-whole, grow-count, grow-length}
 use Rattle.upload_writes.proofs.reports.write_report.Statement.{statement}

@@ -8,8 +8,8 @@ use mathlib.Core.List.{List, [], _∷_, _++_}
 use lib.ListN.{length, take, getD, length-append}
 use lib.Seq.{take-suc, take-length, paste}
 use borrow.Author.Tests.{leb-true, eq-eqb, ne-eqb}
-use Rattle.words.specs.Sequences.{over}
-use Rattle.words.proofs.Elements.{all-at}
+use Rattle.sequences.specs.Sequences.{over}
+use Rattle.sequences.proofs.Elements.{all-at}
 use Rattle.tables.specs.declared.Order.the-variants.{Spo}
 use Rattle.tables.specs.Tables.{columnCount, fieldsOf}
 use Rattle.tables.proofs.Columns.{fields-length}

@@ -7,7 +7,7 @@ use mathlib.Core.Bool.{true}
 use native.Mathlib.Omega.{arith}
 use lib.ListN.{length}
 use borrow.Author.Tests.{not-true, not-false}
-use Rattle.words.specs.Sequences.{over}
+use Rattle.sequences.specs.Sequences.{over}
 use Rattle.tables.specs.Tables.{Tables, tablesOf, columnCount, rowCount, mostRows}
 use Rattle.tables.proofs.RightTables.{accepted}
 use Rattle.table_answers.specs.Counts.{tablesRoomFor, RowsFit}

@@ -1,0 +1,4 @@
+pub mod Sequences
+pub mod Sorting
+pub mod Buffers
+pub mod Halves
