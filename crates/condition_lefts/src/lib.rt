@@ -11,7 +11,7 @@ ghost use Rattle.plans.specs.Plans.{mostPlanWords};
 ghost use Rattle.plans.specs.Reading.{wordsRead};
 ghost use Rattle.conditions.specs.Values.{leftWords, leftsOf};
 
-// The words of the condition that p starts with, or 0 where it starts with none. No comparison is made.
+// The words of the condition that `p` starts with, or 0 where it starts with none. No comparison is made.
 fn condition_words(p: &[u32]) -> usize
     ensures { λ r. ⌜ r ≡ wordsRead (readCondition mostDepth (now (p .entry))) ⌝ }
 {
@@ -25,7 +25,7 @@ fn condition_words(p: &[u32]) -> usize
     }
 }
 
-// The words of the left operand of the pair that p starts with, or 0 where it starts with none.
+// The words of the left operand of the pair that `p` starts with, or 0 where it starts with none.
 fn left_words(p: &[u32]) -> usize
     ensures { λ r. ⌜ r ≡ leftWords (now (p .entry)) ⌝ }
 {
@@ -41,7 +41,7 @@ fn left_words(p: &[u32]) -> usize
     }
 }
 
-// The same from each place of a plan on, at the front of a list with room for it.
+// Writes to the front of `lefts`, for each place of `plan`, the words of the left operand of the pair that starts there, or 0.
 pub fn index_operands(plan: &[u32], lefts: &mut [u32])
     requires { ⌜ (length (now plan) ≤ mostPlanWords) × (length (now plan) ≤ length (now lefts)) ⌝ }
     ensures { λ _. ⌜ take (length (now (plan .entry))) (now (lefts .exit)) ≡ leftsOf (now (plan .entry)) ⌝ }

@@ -50,14 +50,14 @@ pub fn last_of(word: u32) -> EndingKind
     }
 }
 
-// The variables of the kind 8 part that p starts with, or 0 where it starts with none.
+// How many variables the kind 8 part has that `p` starts with, or 0 where it starts with none.
 pub fn row_width(p: &[u32]) -> usize
     ensures { λ r. ⌜ (r ≡ rowWidth (getD (now (p .entry)) 0 0)) × (r ≤ mostRowVariables) ⌝ }
 {
     words::wide(count_in(p, PlanWord::ROWS, MOST_ROW_VARIABLES))
 }
 
-// The kind of an ending.
+// The kind of the ending `e`.
 pub fn ending_kind(e: &[u32]) -> EndingKind
     requires { ⌜ endingForm (now e) ≡ true ⌝ }
     ensures { λ r. ⌜ r ≡ lastIn (endingAt (now (e .entry))) ⌝ }
@@ -65,7 +65,7 @@ pub fn ending_kind(e: &[u32]) -> EndingKind
     last_of(first(e))
 }
 
-// How many rows a best-of ending keeps.
+// How many rows the best-of ending `e` keeps.
 pub fn best_count(e: &[u32]) -> usize
     requires { ⌜ (endingForm (now e) ≡ true) × (lastIn (endingAt (now e)) ≡ EndingKind.Top) ⌝ }
     ensures { λ r. ⌜ r ≡ bestIn (endingAt (now (e .entry))) ⌝ }

@@ -10,7 +10,7 @@ ghost use Rattle.plans.specs.Endings.{rowVariables, afterRows, rowsForm, ending
 ghost use Rattle.plans.specs.Reading.{lastIn, variablesIn, keysIn, measuredIn};
 ghost use Rattle.plans.specs.declared.EndingKind.{EndingKind};
 
-// The variables of the kind 8 part that p starts with.
+// The variables of the kind 8 part that `p` starts with.
 fn row_variables(p: &[u32]) -> &[u32]
     requires { ⌜ rowsForm (now p) ≡ true ⌝ }
     ensures { λ r. ⌜ now r ≡ rowVariables (now (p .entry)) ⌝ }
@@ -19,7 +19,7 @@ fn row_variables(p: &[u32]) -> &[u32]
     &p[1..end]
 }
 
-// What follows the kind 8 part that p starts with.
+// What follows the kind 8 part that `p` starts with.
 fn after_rows(p: &[u32]) -> &[u32]
     requires { ⌜ rowsForm (now p) ≡ true ⌝ }
     ensures { λ r. ⌜ now r ≡ afterRows (now (p .entry)) ⌝ }
@@ -28,7 +28,7 @@ fn after_rows(p: &[u32]) -> &[u32]
     &p[end..]
 }
 
-// The rows' variables, the group variables, or the one that registers count, of an ending.
+// The variables of the ending `e`: those of its rows, those of its groups, or the one that its registers count.
 pub fn variables(e: &[u32]) -> &[u32]
     requires { ⌜ endingForm (now e) ≡ true ⌝ }
     ensures { λ r. ⌜ now r ≡ variablesIn (endingAt (now (e .entry))) ⌝ }
@@ -45,7 +45,7 @@ pub fn variables(e: &[u32]) -> &[u32]
     }
 }
 
-// The keys of an ending: none but a best-of ending has any.
+// The keys of the ending `e`: none but a best-of ending has any.
 pub fn keys(e: &[u32]) -> &[u32]
     requires { ⌜ endingForm (now e) ≡ true ⌝ }
     ensures { λ r. ⌜ now r ≡ keysIn (endingAt (now (e .entry))) ⌝ }
@@ -59,7 +59,7 @@ pub fn keys(e: &[u32]) -> &[u32]
     }
 }
 
-// The variable that a group ending measures.
+// The variable that the group ending `e` measures.
 pub fn measured(e: &[u32]) -> u32
     requires { ⌜ (endingForm (now e) ≡ true) × (lastIn (endingAt (now e)) ≡ EndingKind.Group) ⌝ }
     ensures { λ r. ⌜ r ≡ measuredIn (endingAt (now (e .entry))) ⌝ }
@@ -68,7 +68,7 @@ pub fn measured(e: &[u32]) -> u32
     e[at]
 }
 
-// The variable that registers count.
+// The variable that the registers of the ending `e` count.
 pub fn counted(e: &[u32]) -> u32
     requires { ⌜ (endingForm (now e) ≡ true) × (lastIn (endingAt (now e)) ≡ EndingKind.Registers) ⌝ }
     ensures { λ r. ⌜ r ≡ measuredIn (endingAt (now (e .entry))) ⌝ }
