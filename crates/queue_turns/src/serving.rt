@@ -36,7 +36,7 @@ fn lists_right(seen: Seen) -> bool
     seen.rested
 }
 
-// The most steps of a turn: those of the call, and no more than are left.
+// The most steps of a turn: `quantum`, and no more than `allowance`, which are left.
 fn least_steps(quantum: u32, allowance: u64) -> u32
     ensures { λ r. ⌜ r ≡ min quantum allowance ⌝ }
 {
@@ -46,7 +46,7 @@ fn least_steps(quantum: u32, allowance: u64) -> u32
     quantum
 }
 
-// The number of the first test that fails, or 0: those of the front entry, or of an empty line; then the number of both lists.
+// The number of the first test that fails, or 0: those of the front entry `e`, or of an empty line; then `late`, the number of both lists.
 fn serve_number(
     rows: &[u32],
     pos: &[u32],
@@ -71,7 +71,7 @@ fn serve_number(
     )
 }
 
-// How both lists change by a turn of the front entry, and what serving answers. The tables are checked once: where no test of both lists
+// How both lists change by a turn of the front entry `e`, and what serving answers. The tables are checked once: where no test of both lists
 // and of the quantum fails, by the turn.
 pub fn serve(
     rows: &[u32],
