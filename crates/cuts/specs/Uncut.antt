@@ -23,7 +23,7 @@ use Rattle.cuts.specs.Premises.{listsIn}
 abbrev pub runList : Ending → Run → List ℕ
 runList e r = listAt e [] (isOver (r .state)) (r .delivered)
 
--- what is kept of the uncut run's lists up to so many steps: nothing before the first step, for then no list is taken yet
+-- what is kept of the uncut run's lists after a number of steps: nothing before the first step, for then no list is taken yet
 abbrev pub keptAfter : Tables → Plan → ℕ → List ℕ
 keptAfter t q zero = []
 keptAfter t q (suc n) = runList (q .ending) (after t q (suc n))
@@ -37,7 +37,7 @@ pub record EndsAt (t : Tables) (q : Plan) (n : ℕ) : Type 0 where
   pub over : after t q n .state ≡ none
   pub not-before : (m : ℕ) → m < n → after t q m .state ≡ none → ⊥
 
--- why the list of a turn, which ends after so many steps of the uncut run, is not taken into a buffer of so many words. By 13: a total of
+-- why the list of a turn, which ends after `steps` steps of the uncut run, is not taken into a buffer of `room` words. By 13: a total of
 -- the run's groups up to there leaves its range, whatever those before and after do. By 14: none does, and the run's list up to there is longer
 -- than the buffer
 pub data NotTaken (t : Tables) (q : Plan) (steps room : ℕ) : ℕ → Type 0 where
@@ -99,8 +99,8 @@ pub record AsUncut (v : Survey) (q : Plan) (h : Phone) : Type 0 where
   pub finished : doneIn (servedIn h) ≡ true → h .waiting ≡ []
       → EndsAt (v .tables) q upto × (h .kept ≡ runList (q .ending) (after (v .tables) q upto))
 
--- why the earliest list that is not taken yet was left by a merge into a buffer of so many words, by its number: where the turn takes the uncut
--- run from the end of the last list taken to
+-- why the earliest list that is not taken yet was left by a merge into a buffer of `room` words, by its number `y`: where the turn takes the
+-- uncut run from the end of the last list taken to
 pub record NotTakenAt (v : Survey) (q : Plan) (h : Phone) (x : ServedTurn) (room y : ℕ) : Type 0 where
   pub upto : ℕ
   pub taken : Placed v q 0 (h .taken) upto

@@ -26,7 +26,7 @@ unfoldable pub endsRight : ℕ → ℕ → List ℕ → Bool
 endsRight n a [] = eqb a n
 endsRight n a (e ∷ es) = leb a e && endsRight n e es
 
--- so many that the number after the last is a value too
+-- the most strings of a dictionary: the number after the last is a value too
 abbrev pub mostStrings : ℕ
 mostStrings = 0x3FFF_FFFF
 

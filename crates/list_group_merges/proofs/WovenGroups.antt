@@ -97,7 +97,7 @@ group-left : (a b c : Group) → keysBefore (together a b) c ≡ keysBefore a c
 unfolding keysBefore
 group-left a b c = refl
 
--- ---- the kept list is the first words, so many, of a buffer
+-- ---- the kept list is the first `used` words of `kept`
 module _ (vs : List ℕ) (m : ℕ) (kept : List ℕ) (used : ℕ) (list : List ℕ) (u : used ≤ length kept)
     (wk : Words kept) (wl : Words list) where
   abbrev g : ℕ

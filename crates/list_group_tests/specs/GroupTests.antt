@@ -10,7 +10,7 @@ use Rattle.lists.specs.Gathering.{extremesRight}
 use Rattle.list_group_totals.specs.GroupTotals.{groupWith}
 use Rattle.list_groups.specs.Keys.{keysFirst}
 
--- the totals of a record that counts so many rows at least
+-- the totals of a record that counts `least` rows or more
 abbrev pub totalsRight : ℕ → Totals → Bool
 totalsRight least t = leb least (t .rows) && (leb (t .numbers) (t .rows) && extremesRight (groupWith [] t))
 

@@ -84,7 +84,7 @@ extremesRight g =
     (isZero (g .sum) && (eqb (g .least) unbound && eqb (g .greatest) unbound))
     (isNumber (g .least) && (isNumber (g .greatest) && leb (valueRank (g .least)) (valueRank (g .greatest))))
 
--- the rows that a record with so many keys counts at least: with no key there is one group always, even of no rows
+-- the fewest rows that a record counts, by the number of its keys: with no key there is one group always, even of no rows
 abbrev pub leastRows : ℕ → ℕ
 leastRows zero = 0
 leastRows (suc n) = 1

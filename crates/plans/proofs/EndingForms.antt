@@ -19,7 +19,7 @@ and-false : (a : Bool) → (a && false) ≡ false
 and-false true = refl
 and-false false = refl
 
--- ---- a kind 8 part of so many variables
+-- ---- a kind 8 part of `n` variables
 module _ (ws : List ℕ) (n : ℕ) (en : n ≡ rowWidth (getD ws 0 0)) where
   pub rows-none : n ≡ 0 → rowsForm ws ≡ false
   unfolding rowsForm

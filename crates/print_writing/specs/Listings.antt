@@ -22,7 +22,7 @@ listingOf e = record { kind = lastIn e; width = width e }
 abbrev pub ListsOf : List ℕ → Listing → Type 0
 ListsOf plan lists = (hasForm (readPlan plan) ≡ true) × (lists ≡ listingOf (planOf plan .ending))
 
--- the words of a row or record with so many variables, or of all registers
+-- the words of a row or record with `n` variables, or of all registers
 abbrev pub widthOf : EndingKind → ℕ → ℕ
 widthOf Rows n = n
 widthOf Top n = n

@@ -30,7 +30,7 @@ standing waiting [] others = true
 standing waiting (e ∷ es) others =
     (stepsRight waiting e && (not (member (e .owner) (ownersIn es)) && not (member (e .owner) others))) && standing waiting es others
 
--- so many entries move up by one, each over the one before it, the first over the one at a place
+-- a number of entries move up by one, each over the one before it, the first over the one at the place `at`
 abbrev pub movedUp : List Entry → ℕ → ℕ → List Entry
 movedUp ys at zero = ys
 movedUp ys at (suc k) = set (movedUp ys at k) (at + k) (getD (movedUp ys at k) (at + k + 1) nobody)

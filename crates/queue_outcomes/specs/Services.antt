@@ -22,7 +22,7 @@ use Rattle.queue_outcomes.specs.declared.ServeChanges.{ServeChanges}
 abbrev pub plannedIn : Entry → ℕ
 plannedIn e = cond (leb (e .planned) entryPlanRoom) (e .planned) 0
 
--- an entry after so many steps, with the words of its new state
+-- `e` after `steps` steps, with its new state, the first `saved` words of `state`
 abbrev pub entryWith : Entry → ℕ → ℕ → List ℕ → Entry
 entryWith e steps saved state =
     record { allowance = e .allowance - steps; owner = e .owner; planned = e .planned; saved = saved; plan = e .plan; state = state }
@@ -43,7 +43,7 @@ servingRefused x =
       entry = nobody;
     }
 
--- an answer, with so many entries in each list
+-- an answer, with `n` entries in the line and `m` set aside
 abbrev pub answeredBy : Ended → ℕ → ℕ → Service
 answeredBy x n m = record { turned = x .turned; owner = x .entry .owner; left = x .entry .allowance; waiting = n; resting = m }
 
@@ -65,7 +65,7 @@ goesBy ending.Full x n m = backBy x n m
 goesBy (ending.Refused y) x n m = servingRefused y
 
 -- ---- a whole call
--- the tests before those of both lists, where so many wait and this one is at the front
+-- the tests before those of both lists, where `waiting` entries are in the line and `e` is at its front
 abbrev pub frontBy : Survey → Serving → ℕ → Entry → List Test
 frontBy v s waiting e = cond (eqb waiting 0) (frontTests v s []) (frontTests v s (e ∷ []))
 

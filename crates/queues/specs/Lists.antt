@@ -69,7 +69,7 @@ abbrev pub entriesRight : LentLists → Bool
 entriesRight l = distinct (owners l) && (all hasSteps (lineOf l) && all hasNone (asideOf l))
 
 -- ---- test 18
--- each buffer has room for the most entries, and with so many more there are not too many. So no count passes its buffer
+-- each buffer has room for the most entries, and with `more` there are not too many. So no count passes its buffer
 abbrev pub spaceRight : ℕ → LentLists → Bool
 spaceRight more l =
     leb mostEntries (length (l .line)) && (leb mostEntries (length (l .aside)) && leb (l .waiting + l .resting + more) mostEntries)

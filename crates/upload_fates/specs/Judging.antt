@@ -17,7 +17,7 @@ pub record Fits (up : List ℕ) (list fates : ℕ) : Type 0 where
   pub listed : uploadCount up ≤ list
   pub judged : uploadCount up ≤ fates
 
--- some numbers are the first so many of a list
+-- `numbers` are the first `count` of `list`
 pub record NumbersListed (count : ℕ) (list numbers : List ℕ) : Type 0 where
   pub fits : count ≤ length list
   pub front : take count list ≡ numbers
