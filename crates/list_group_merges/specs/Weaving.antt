@@ -43,7 +43,7 @@ walked side v (suc i) j = walkedIn (side (suc i)) v (walked side v i) i j
 abbrev pub recordAt : ℕ → List ℕ → ℕ → List ℕ
 recordAt g ws x = take (g + totalsWidth) (drop x ws)
 
--- the record of a that ends at x against the one of b that ends at y; no record comes before all
+-- the record of `a` that ends at `x` against the one of `b` that ends at `y`; before it, where `a` has none left
 unfoldable pub pickAt : ℕ → List ℕ → ℕ → List ℕ → ℕ → Comes
 pickAt g a x b y =
     cond (eqb x 0) Before (sideBy keysFirst (take g (drop (x - (g + totalsWidth)) a)) (take g (drop (y - (g + totalsWidth)) b)))

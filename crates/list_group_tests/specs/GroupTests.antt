@@ -14,7 +14,7 @@ use Rattle.list_groups.specs.Keys.{keysFirst}
 abbrev pub totalsRight : ℕ → Totals → Bool
 totalsRight least t = leb least (t .rows) && (leb (t .numbers) (t .rows) && extremesRight (groupWith [] t))
 
--- the keys of the record at a word come after those of the one before it, if there is one
+-- the keys of the record at `at` come after those of the one before it, if there is one
 abbrev pub followsAt : ℕ → List ℕ → ℕ → Bool
 followsAt g list at =
     cond (eqb at 0) true (keysFirst (take g (drop (at - (g + totalsWidth)) list)) (take g (drop at list)))

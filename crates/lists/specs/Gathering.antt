@@ -30,7 +30,7 @@ width (top k vs keys) = length vs
 width (group vs m) = length vs + totalsWidth
 width (registers v) = registerCount
 
--- a list cut into rows or records
+-- a list cut into rows or records of `w` words
 unfoldable pub recordsIn : ℕ → List ℕ → List (List ℕ)
 recordsIn w ws = parts w (length ws / w) ws
 

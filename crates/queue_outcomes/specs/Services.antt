@@ -27,7 +27,7 @@ abbrev pub entryWith : Entry → ℕ → ℕ → List ℕ → Entry
 entryWith e steps saved state =
     record { allowance = e .allowance - steps; owner = e .owner; planned = e .planned; saved = saved; plan = e .plan; state = state }
 
--- a turn of an entry, with this result, leaves this answer, this entry and this output
+-- a turn of `e` with the result `r` leaves the answer and the entry of `x`, and the output `written`
 pub record EndedBy (r : TurnResult) (e : Entry) (x : Ended) (written : List ℕ) : Type 0 where
   pub turned : x .turned ≡ r .answer
   pub entry : x .entry ≡ entryAfter e r
@@ -51,7 +51,7 @@ answeredBy x n m = record { turned = x .turned; owner = x .entry .owner; left = 
 abbrev pub leavesBy : Ended → ℕ → ℕ → ServeChanges
 leavesBy x n m = record { answer = answeredBy x (n - 1) m; line = removed 0 n; aside = unchanged; entry = x .entry }
 
--- unfinished, it goes to the back of the line, and to the end of the list set aside with no steps left
+-- unfinished, it goes to the back of the line, or to the end of the list set aside if it has no steps left
 abbrev pub backBy : Ended → ℕ → ℕ → ServeChanges
 backBy x n m =
     cond (eqb (x .entry .allowance) 0)
@@ -79,7 +79,7 @@ servedBy l d written =
       output = written;
     }
 
--- a decision of serving, with this output, leaves what its definition does
+-- the decision `d` of serving, with the output `written`, leaves what its definition does
 pub record Settles (l : LentLists) (d : ServeChanges) (written : List ℕ) (r : ServeResult) : Type 0 where
   pub line : ChangeFits (d .line) (l .line)
   pub aside : ChangeFits (d .aside) (l .aside)

@@ -39,7 +39,7 @@ asideOf l = take (l .resting) (l .aside)
 abbrev pub entryPlan : Entry → List ℕ
 entryPlan e = cond (leb (e .planned) (length (e .plan))) (take (e .planned) (e .plan)) []
 
--- some words, and 0 in the rest of an array
+-- the words `ws`, and 0 in the rest of an array of `n`
 abbrev pub filled : ℕ → List ℕ → List ℕ
 filled n ws = ws ++ replicate (n - length ws) 0
 

@@ -11,7 +11,7 @@ use Rattle.tables.specs.Tables.{mostRows, fieldsOf}
 use Rattle.uploads.specs.Uploads.{uploadCount, keptCode, keptCount}
 use Rattle.upload_fates.specs.Judging.{rightNumbers, Judged}
 
--- the words that some numbers make, of those that pass a test
+-- the words that `g` makes of those numbers of `ns` that pass `f`
 unfoldable pub writtenFor : (ℕ → Bool) → (ℕ → List ℕ) → List ℕ → List ℕ
 writtenFor f g ns = flatten (map g (keep f ns))
 
