@@ -14,7 +14,7 @@ use Rattle.plans.specs.Endings.{group}
 use Rattle.lists.specs.Groups.{totalsWidth}
 use Rattle.lists.specs.Gathering.{merged, listRight, totalsFit}
 use Rattle.lists.specs.Putting.{putOver}
-use Rattle.list_group_merges.specs.Weaving.{bySide, recordAt, joinWords, joinFits}
+use Rattle.list_group_merges.specs.MergingBackwards.{bySide, recordAt, joinWords, joinFits}
 
 -- by whether the totals fit and by the merged list
 abbrev pub groupsMergedAs : Bool → List ℕ → List ℕ → Merged
@@ -43,7 +43,7 @@ lastRecord g a x b y s =
     (recordAt g a (x - (g + totalsWidth)))
 
 -- it can be put at the word `to`, above the records that are left
-pub record Lays (g : ℕ) (a : List ℕ) (x : ℕ) (b : List ℕ) (y to : ℕ) (s : Comes) : Type 0 where
+pub record CanPut (g : ℕ) (a : List ℕ) (x : ℕ) (b : List ℕ) (y to : ℕ) (s : Comes) : Type 0 where
   pub new-there : g + totalsWidth ≤ y
   pub new-inside : y ≤ length b
   pub room : to + (g + totalsWidth) ≤ length a

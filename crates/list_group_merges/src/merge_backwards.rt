@@ -17,8 +17,8 @@ ghost use lib.ListN.{length, take, drop};
 ghost use Rattle.plans.specs.Endings.{mostGroupVariables};
 ghost use Rattle.list_group_merges.specs.declared.Union.the-variants.{Records};
 ghost use Rattle.lists.specs.Groups.{totalsWidth};
-ghost use Rattle.list_group_merges.specs.Weaving.{recordAt, pickAt, joinWords, joinFits, woven, unionOf};
-ghost use Rattle.list_group_merges.specs.MergingGroups.{BothGroups, AddsGroups, lastRecord, Lays};
+ghost use Rattle.list_group_merges.specs.MergingBackwards.{recordAt, pickAt, joinWords, joinFits, mergedRecords, unionOf};
+ghost use Rattle.list_group_merges.specs.MergingGroups.{BothGroups, AddsGroups, lastRecord, CanPut};
 
 // Where the kept record that ends at `x` stands against the record of `list` that ends at `y`; before it, where no kept record is left.
 fn pick(g: usize, kept: &[u32], x: usize, list: &[u32], y: usize) -> Comes
@@ -93,7 +93,7 @@ fn move_record(kept: &mut [u32], from: usize, to: usize, w: usize)
 }
 
 // Moves the record at `from` up to `to` in `kept`, and adds `more` to it, a record of the same group.
-fn lay_both(g: usize, kept: &mut [u32], from: usize, to: usize, more: &[u32])
+fn merge_record(g: usize, kept: &mut [u32], from: usize, to: usize, more: &[u32])
     requires { ⌜ (g ≤ mostGroupVariables) × (from ≤ to) × (to + (g + totalsWidth) ≤ length (now kept))
         × (length (now more) ≡ g + totalsWidth) × (joinFits g (recordAt g (now kept) from) (now more) ≡ true) ⌝ }
     ensures { λ _. ⌜ now (kept .exit) ≡ take to (now (kept .entry))
@@ -108,7 +108,7 @@ fn lay_both(g: usize, kept: &mut [u32], from: usize, to: usize, more: &[u32])
 
 // Puts at `to` the last of the records that end at `x` and at `y`, or the two added up if they are of the same group, as `side` says.
 fn put_record(g: usize, kept: &mut [u32], x: usize, list: &[u32], y: usize, to: usize, side: Comes)
-    requires { ⌜ (g ≤ mostGroupVariables) × Lays g (now kept) x (now list) y to side ⌝ }
+    requires { ⌜ (g ≤ mostGroupVariables) × CanPut g (now kept) x (now list) y to side ⌝ }
     ensures { λ _. ⌜ now (kept .exit) ≡ take to (now (kept .entry))
         ++ (lastRecord g (now (kept .entry)) x (now (list .entry)) y side ++ drop (to + (g + totalsWidth)) (now (kept .entry))) ⌝ }
 {
@@ -119,7 +119,7 @@ fn put_record(g: usize, kept: &mut [u32], x: usize, list: &[u32], y: usize, to: 
             copy_in(kept, to, &list[new..y]);
         }
         Comes::Same => {
-            lay_both(g, kept, x - w, to, &list[new..y]);
+            merge_record(g, kept, x - w, to, &list[new..y]);
         }
         Comes::After => {
             move_record(kept, x - w, to, w);
@@ -135,7 +135,7 @@ fn merge_backwards(g: usize, kept: &mut [u32], used: usize, list: &[u32], words:
         ≡ Records (words / (g + totalsWidth)))
         × (words % (g + totalsWidth) ≡ 0) ⌝ }
     ensures { λ _. ⌜ now (kept .exit)
-        ≡ woven g (now (kept .entry)) (now (list .entry)) (used / (g + totalsWidth)) (length (now (list .entry)) / (g + totalsWidth))
+        ≡ mergedRecords g (now (kept .entry)) (now (list .entry)) (used / (g + totalsWidth)) (length (now (list .entry)) / (g + totalsWidth))
         ++ drop words (now (kept .entry)) ⌝ }
 {
     let w = g + TOTALS;

@@ -1,7 +1,7 @@
 // The form of an ending, in test 5.
 use crate::Wanted;
 use crate::searches::all_wanted;
-use plan_ending_kinds::last_of;
+use plan_ending_kinds::ending_kind_of;
 use plan_ending_kinds::row_width;
 use plans::EndingKind;
 use plans::first;
@@ -46,7 +46,7 @@ pub fn keys_form(p: &[u32]) -> bool
 pub fn ending_form(p: &[u32]) -> bool
     ensures { λ r. ⌜ r ≡ endingForm (now (p .entry)) ⌝ }
 {
-    match last_of(first(p)) {
+    match ending_kind_of(first(p)) {
         EndingKind::Rows => {
             if rows_form(p) {
                 return p.len() == 1 + row_width(p);

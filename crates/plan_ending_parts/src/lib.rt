@@ -1,5 +1,5 @@
 // Endings: what stands in one that has the form.
-use plan_ending_kinds::last_of;
+use plan_ending_kinds::ending_kind_of;
 use plan_ending_kinds::row_width;
 use plans::EndingKind;
 use plans::first;
@@ -7,7 +7,7 @@ use words::PlanWord;
 ghost use mathlib.Core.Path.{_≡_};
 ghost use mathlib.Core.Bool.{true};
 ghost use Rattle.plans.specs.Endings.{rowVariables, afterRows, rowsForm, endingForm, endingAt};
-ghost use Rattle.plans.specs.Reading.{lastIn, variablesIn, keysIn, measuredIn};
+ghost use Rattle.plans.specs.Reading.{endingKindIn, variablesIn, keysIn, measuredIn};
 ghost use Rattle.plans.specs.declared.EndingKind.{EndingKind};
 
 // The variables of the kind 8 part that `p` starts with.
@@ -33,7 +33,7 @@ pub fn variables(e: &[u32]) -> &[u32]
     requires { ⌜ endingForm (now e) ≡ true ⌝ }
     ensures { λ r. ⌜ now r ≡ variablesIn (endingAt (now (e .entry))) ⌝ }
 {
-    match last_of(first(e)) {
+    match ending_kind_of(first(e)) {
         EndingKind::Rows => row_variables(e),
         EndingKind::Top => row_variables(&e[1..]),
         EndingKind::Group => {
@@ -50,7 +50,7 @@ pub fn keys(e: &[u32]) -> &[u32]
     requires { ⌜ endingForm (now e) ≡ true ⌝ }
     ensures { λ r. ⌜ now r ≡ keysIn (endingAt (now (e .entry))) ⌝ }
 {
-    match last_of(first(e)) {
+    match ending_kind_of(first(e)) {
         EndingKind::Top => after_rows(&e[1..]),
         EndingKind::Rows => &e[..0],
         EndingKind::Group => &e[..0],
@@ -61,7 +61,7 @@ pub fn keys(e: &[u32]) -> &[u32]
 
 // The variable that the group ending `e` measures.
 pub fn measured(e: &[u32]) -> u32
-    requires { ⌜ (endingForm (now e) ≡ true) × (lastIn (endingAt (now e)) ≡ EndingKind.Group) ⌝ }
+    requires { ⌜ (endingForm (now e) ≡ true) × (endingKindIn (endingAt (now e)) ≡ EndingKind.Group) ⌝ }
     ensures { λ r. ⌜ r ≡ measuredIn (endingAt (now (e .entry))) ⌝ }
 {
     let at = 1 + words::wide(PlanWord(first(e)).low());
@@ -70,7 +70,7 @@ pub fn measured(e: &[u32]) -> u32
 
 // The variable that the registers of the ending `e` count.
 pub fn counted(e: &[u32]) -> u32
-    requires { ⌜ (endingForm (now e) ≡ true) × (lastIn (endingAt (now e)) ≡ EndingKind.Registers) ⌝ }
+    requires { ⌜ (endingForm (now e) ≡ true) × (endingKindIn (endingAt (now e)) ≡ EndingKind.Registers) ⌝ }
     ensures { λ r. ⌜ r ≡ measuredIn (endingAt (now (e .entry))) ⌝ }
 {
     e[1]

@@ -79,11 +79,11 @@ abbrev pub branchStart : ℕ → List ℕ → ℕ
 branchStart i ws = yearWords ws + (1 + wordsRead (readBranches i (bodyOf ws)))
 
 -- ---- the pieces of an ending
-abbrev pub lastIn : Ending → EndingKind
-lastIn (rows vs) = Rows
-lastIn (top k vs keys) = Top
-lastIn (group vs m) = Group
-lastIn (registers v) = Registers
+abbrev pub endingKindIn : Ending → EndingKind
+endingKindIn (rows vs) = Rows
+endingKindIn (top k vs keys) = Top
+endingKindIn (group vs m) = Group
+endingKindIn (registers v) = Registers
 
 -- the rows' variables, the group variables, or the one that registers count
 abbrev pub variablesIn : Ending → List ℕ

@@ -48,21 +48,21 @@ abbrev pub answeredBy : Ended → ℕ → ℕ → Service
 answeredBy x n m = record { turned = x .turned; owner = x .entry .owner; left = x .entry .allowance; waiting = n; resting = m }
 
 -- done, it leaves
-abbrev pub leavesBy : Ended → ℕ → ℕ → ServeChanges
-leavesBy x n m = record { answer = answeredBy x (n - 1) m; line = removed 0 n; aside = unchanged; entry = x .entry }
+abbrev pub dequeuedBy : Ended → ℕ → ℕ → ServeChanges
+dequeuedBy x n m = record { answer = answeredBy x (n - 1) m; line = removed 0 n; aside = unchanged; entry = x .entry }
 
 -- unfinished, it goes to the back of the line, or to the end of the list set aside if it has no steps left
-abbrev pub backBy : Ended → ℕ → ℕ → ServeChanges
-backBy x n m =
+abbrev pub requeuedBy : Ended → ℕ → ℕ → ServeChanges
+requeuedBy x n m =
     cond (eqb (x .entry .allowance) 0)
     (record { answer = answeredBy x (n - 1) (m + 1); line = removed 0 n; aside = appended m; entry = x .entry })
     (record { answer = answeredBy x n m; line = rotated n; aside = unchanged; entry = x .entry })
 
-abbrev pub goesBy : TurnEnding → Ended → ℕ → ℕ → ServeChanges
-goesBy ending.Done x n m = leavesBy x n m
-goesBy ending.Spent x n m = backBy x n m
-goesBy ending.Full x n m = backBy x n m
-goesBy (ending.Refused y) x n m = servingRefused y
+abbrev pub turnOutcomeBy : TurnEnding → Ended → ℕ → ℕ → ServeChanges
+turnOutcomeBy ending.Done x n m = dequeuedBy x n m
+turnOutcomeBy ending.Spent x n m = requeuedBy x n m
+turnOutcomeBy ending.Full x n m = requeuedBy x n m
+turnOutcomeBy (ending.Refused y) x n m = servingRefused y
 
 -- ---- a whole call
 -- the tests before those of both lists, where `waiting` entries are in the line and `e` is at its front
@@ -80,7 +80,7 @@ servedBy l d written =
     }
 
 -- the decision `d` of serving, with the output `written`, leaves what its definition does
-pub record Settles (l : LentLists) (d : ServeChanges) (written : List ℕ) (r : ServeResult) : Type 0 where
+pub record DecidesServing (l : LentLists) (d : ServeChanges) (written : List ℕ) (r : ServeResult) : Type 0 where
   pub line : ChangeFits (d .line) (l .line)
   pub aside : ChangeFits (d .aside) (l .aside)
   pub result : servedBy l d written ≡ r

@@ -13,7 +13,7 @@ use turns::Turned;
 ghost use mathlib.Core.Path.{_≡_};
 ghost use Prim.Native.Nat.{_+_, _≤_};
 ghost use Rattle.queues.specs.Lists.{mostEntries};
-ghost use Rattle.queue_outcomes.specs.Services.{entryWith, servingRefused, answeredBy, leavesBy, backBy, goesBy};
+ghost use Rattle.queue_outcomes.specs.Services.{entryWith, servingRefused, answeredBy, dequeuedBy, requeuedBy, turnOutcomeBy};
 
 // `e` after `steps` steps, with its new state, the first `saved` words of `state`.
 pub fn entry_with(e: Entry, steps: u32, saved: u32, state: [u32; 11]) -> Entry
@@ -66,9 +66,9 @@ fn answered(ended: Ended, waiting: usize, resting: usize) -> Service
 }
 
 // Done, the entry of the turn `ended` leaves.
-fn leaves(ended: Ended, given: usize, kept: usize) -> ServeChanges
+fn dequeued(ended: Ended, given: usize, kept: usize) -> ServeChanges
     requires { ⌜ 1 ≤ given ⌝ }
-    ensures { λ r. ⌜ r ≡ leavesBy ended given kept ⌝ }
+    ensures { λ r. ⌜ r ≡ dequeuedBy ended given kept ⌝ }
 {
     let entry = ended.entry;
     ServeChanges {
@@ -80,9 +80,9 @@ fn leaves(ended: Ended, given: usize, kept: usize) -> ServeChanges
 }
 
 // Unfinished, it goes to the back of the line, or to the end of the list set aside if it has no steps left.
-fn goes_back(ended: Ended, given: usize, kept: usize) -> ServeChanges
+fn requeued(ended: Ended, given: usize, kept: usize) -> ServeChanges
     requires { ⌜ (1 ≤ given) × (given + kept ≤ mostEntries) ⌝ }
-    ensures { λ r. ⌜ r ≡ backBy ended given kept ⌝ }
+    ensures { λ r. ⌜ r ≡ requeuedBy ended given kept ⌝ }
 {
     let entry = ended.entry;
     if entry.allowance == 0 {
@@ -102,16 +102,16 @@ fn goes_back(ended: Ended, given: usize, kept: usize) -> ServeChanges
 }
 
 // Where the entry of the turn `ended` goes, by how it ended.
-pub fn goes(ended: Ended, given: usize, kept: usize) -> ServeChanges
+pub fn turn_outcome(ended: Ended, given: usize, kept: usize) -> ServeChanges
     requires { ⌜ (1 ≤ given) × (given + kept ≤ mostEntries) ⌝ }
-    ensures { λ r. ⌜ r ≡ goesBy (ended .turned .ending) ended given kept ⌝ }
+    ensures { λ r. ⌜ r ≡ turnOutcomeBy (ended .turned .ending) ended given kept ⌝ }
 {
     let turned = ended.turned;
     let ending = turned.ending;
     match ending {
-        TurnEnding::Done => leaves(ended, given, kept),
-        TurnEnding::Spent => goes_back(ended, given, kept),
-        TurnEnding::Full => goes_back(ended, given, kept),
+        TurnEnding::Done => dequeued(ended, given, kept),
+        TurnEnding::Spent => requeued(ended, given, kept),
+        TurnEnding::Full => requeued(ended, given, kept),
         TurnEnding::Refused(number) => refused(number),
     }
 }
