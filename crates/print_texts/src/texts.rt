@@ -41,7 +41,7 @@ pub fn put_number(line: &mut [u8], at: usize, x: u64) -> usize
     put_decimal(line, next, x)
 }
 
-// Puts `bits` in decimal: in two's complement, where the values from zero up are `half` of all.
+// Puts `bits` in decimal, in two's complement with `half` values from zero up.
 pub fn put_signed(line: &mut [u8], at: usize, bits: u64, half: u64) -> usize
     requires { ⌜ (bits < half + half) × (at + length (integerText (signed half bits)) ≤ length (now line)) ⌝ }
     ensures { λ r. ⌜ PlacedText (integerText (signed half bits)) at (now (line .entry)) (now (line .exit)) r ⌝ }

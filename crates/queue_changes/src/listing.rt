@@ -20,7 +20,7 @@ pub fn join_right(seen: Seen) -> bool
     seen.found >= seen.resting
 }
 
-// Test 17 of a top-up with `amount` steps: both lists are right, and the owner has an entry that is set aside.
+// Test 17 of a top-up with `amount` steps: both lists are right, `amount` is not 0, and the owner has an entry that is set aside.
 pub fn top_up_right(seen: Seen, amount: u64) -> bool
     ensures { λ r. ⌜ r ≡ (seen .lined && seen .rested) && (leb 1 amount && ltb (seen .found) (seen .resting)) ⌝ }
 {

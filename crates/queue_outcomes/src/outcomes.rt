@@ -65,7 +65,7 @@ fn answered(ended: Ended, waiting: usize, resting: usize) -> Service
     }
 }
 
-// Done, the entry of the turn `ended` leaves.
+// Done, the entry of the turn `ended` leaves the line.
 fn dequeued(ended: Ended, given: usize, kept: usize) -> ServeChanges
     requires { ⌜ 1 ≤ given ⌝ }
     ensures { λ r. ⌜ r ≡ dequeuedBy ended given kept ⌝ }
