@@ -41,7 +41,7 @@ resultByNumber c i none = record { answer = c .serves i; buffers = c .leaves i }
 unfoldable pub resultOfCall : {I A E B W : Type 0} → CallSchema I A E B W → I → CallResult A B
 resultOfCall c i = resultByNumber c i (firstFailing (c .tests i))
 
--- of what a call counts where all its tests pass, what it counts: nothing where one fails
+-- what a call counts: `w` where all its tests pass, `nothing` where one fails
 abbrev pub countsBy : {W : Type 0} → Option ℕ → W → W → W
 countsBy none w nothing = w
 countsBy (some x) w nothing = nothing

@@ -9,7 +9,7 @@ ghost use Rattle.characters.specs.Escapes.{hexDigit, hexFrom, escapeTo, escapeO
 
 const NO_POINT: u32 = 0x110000;
 
-// What a hexadecimal digit counts for, and 16 where it is none.
+// What `b` counts for as a hexadecimal digit, or 16 where it is none.
 fn hex_digit(b: u8) -> u32
     ensures { λ r. ⌜ r ≡ hexDigit b ⌝ }
 {
@@ -25,7 +25,7 @@ fn hex_digit(b: u8) -> u32
     16
 }
 
-// The number of so many digits from a place on.
+// The code point that `digits` hexadecimal digits from `from` on write, or a number from `NO_POINT` on where they write none.
 fn hex_number(text: &[u8], from: usize, digits: usize) -> u32
     requires { ⌜ from ≤ length (now text) ⌝ }
     ensures { λ r. ⌜ r ≡ hexFrom digits (drop from (now (text .entry))) 0 ⌝ }
@@ -51,7 +51,7 @@ fn hex_number(text: &[u8], from: usize, digits: usize) -> u32
     v
 }
 
-// An escape of a number, or the backslash alone.
+// The character with the number `v`, written with `more` bytes after the backslash; the backslash alone where there is no such character.
 fn escape_to(v: u32, more: usize) -> Character
     ensures { λ r. ⌜ r ≡ escapeTo v more ⌝ }
 {
@@ -79,7 +79,7 @@ fn escape_to(v: u32, more: usize) -> Character
     }
 }
 
-// What a backslash is, by what stands behind it from a place on.
+// The character that a backslash begins, by what stands behind it, from `from` on.
 pub fn escape(text: &[u8], from: usize) -> Character
     requires { ⌜ from ≤ length (now text) ⌝ }
     ensures { λ r. ⌜ r ≡ escapeOf (drop from (now (text .entry))) ⌝ }

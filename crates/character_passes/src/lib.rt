@@ -12,7 +12,7 @@ ghost use Rattle.characters.specs.Characters.{characterAt, leavesBackslash, Wri
 
 const BACKSLASH: u8 = 0x5C;
 
-// The character at a place, which may be behind the first of two backslashes.
+// The character at `at`. A backslash there begins no escape if it is `behind` another, as the second of two.
 fn character(text: &[u8], at: usize, behind: bool) -> Character
     requires { ⌜ at < length (now text) ⌝ }
     ensures { λ r. ⌜ r ≡ characterAt behind (getD (now (text .entry)) at 0) (drop (at + 1) (now (text .entry))) ⌝ }
@@ -26,7 +26,7 @@ fn character(text: &[u8], at: usize, behind: bool) -> Character
     escape(text, at + 1)
 }
 
-// Whether it is a backslash that may be the first of two.
+// Whether the byte `a`, read as the character `c`, is a backslash that may be the first of two: no escape, and not `behind` another.
 fn leaves_backslash(behind: bool, a: u8, c: Character) -> bool
     ensures { λ r. ⌜ r ≡ leavesBackslash behind a c ⌝ }
 {
@@ -39,7 +39,7 @@ fn leaves_backslash(behind: bool, a: u8, c: Character) -> bool
     c.more == 0
 }
 
-// The code points of a text and their places, each list at the front of its buffer; how many code points there are.
+// Writes the code points of `text` to `points` and where each begins to `places`, with the end of the text last; answers how many they are.
 pub fn read_characters(text: &[u8], points: &mut [u32], places: &mut [u32]) -> usize
     requires { ⌜ (length (now text) < 4294967296) × (length (now text) ≤ length (now points)) × (length (now text) < length (now places)) ⌝ }
     ensures { λ r. ⌜ WrittenCharacters (now (text .entry)) (now (points .entry)) (now (points .exit)) (now (places .entry)) (now (places .exit)) r ⌝ }

@@ -11,7 +11,7 @@ ghost use Rattle.dictionaries.specs.Utf8.{firstBits};
 ghost use Rattle.dictionary_checks.specs.Steps.{spansIn};
 ghost use Rattle.characters.specs.Sequences.{sequenceFrom, sequenceOf};
 
-// What is left of a byte where another is taken off, or nothing.
+// `b` less `less`, or 0 where `b` is smaller.
 pub fn left_of(b: u8, less: u8) -> u32
     ensures { λ r. ⌜ (r ≡ b - less) × (r < 256) ⌝ }
 {
@@ -21,7 +21,7 @@ pub fn left_of(b: u8, less: u8) -> u32
     (b - less) as u32
 }
 
-// The bits of a first byte.
+// The bits of its character that the first byte `a` has, where `rest` is still to come.
 fn first_bits(rest: Rest, a: u8) -> u32
     ensures { λ r. ⌜ (r ≡ firstBits (spansIn rest) a) × (r < 256) ⌝ }
 {
@@ -37,7 +37,7 @@ fn first_bits(rest: Rest, a: u8) -> u32
     }
 }
 
-// The bytes after the first, from a place on.
+// The character whose first byte has the bits `bits` and leaves `first` to come, from `from` on; or a bad byte.
 fn sequence_rest(text: &[u8], from: usize, first: Rest, bits: u32) -> Character
     requires { ⌜ (from ≤ length (now text)) × (bits < 256) ⌝ }
     ensures { λ r. ⌜ r ≡ sequenceFrom (drop from (now (text .entry))) (spansIn first) bits 0 ⌝ }
@@ -74,7 +74,7 @@ fn sequence_rest(text: &[u8], from: usize, first: Rest, bits: u32) -> Character
     }
 }
 
-// The character at a place, or a bad byte.
+// The character at `at`, or a bad byte.
 pub fn sequence(text: &[u8], at: usize) -> Character
     requires { ⌜ at < length (now text) ⌝ }
     ensures { λ r. ⌜ r ≡ sequenceOf (getD (now (text .entry)) at 0) (drop (at + 1) (now (text .entry))) ⌝ }

@@ -14,7 +14,7 @@ hexDigit b =
     (cond (isIn (span 0x41 0x46) b) (b - 0x37)
     (cond (isIn (span 0x61 0x66) b) (b - 0x57) 16))
 
--- the number that so many digits come to, behind some that came to v; no code point where one is no digit, or where it is past the last
+-- the number that the next `k` digits come to, behind some that came to `v`; no code point where one is no digit, or where it is past the last
 unfoldable pub hexFrom : ℕ → List ℕ → ℕ → ℕ
 hexFrom zero bs v = v
 hexFrom (suc k) [] v = noPoint
@@ -27,7 +27,7 @@ isScalar v = ltb v 0xD800 || (leb 0xE000 v && ltb v noPoint)
 abbrev pub backslash : ℕ
 backslash = 0x5C
 
--- an escape with its number and so many bytes after the backslash; one that names no character stays as it is
+-- the escape with the number `v` and `n` bytes after the backslash; one that names no character stays as it is
 unfoldable pub escapeTo : ℕ → ℕ → Character
 escapeTo v n = cond (isScalar v) (character v n) (character backslash 0)
 

@@ -14,21 +14,21 @@ ghost use Rattle.plans.specs.Conditions.{comparisonWords};
 ghost use Rattle.conditions.specs.Truth.{kindsAre, equality, inequality, comparison};
 ghost use Rattle.conditions.specs.Values.{haveOrder, areMixed, comparisonRead};
 
-// Whether two terms are of two kinds, in that order.
+// Whether `a` is of the kind `j` and `b` of the kind `k`.
 fn kinds_are(j: u32, k: u32, a: u32, b: u32) -> bool
     ensures { λ r. ⌜ r ≡ kindsAre j k a b ⌝ }
 {
     Term(a).kind() == j && Term(b).kind() == k
 }
 
-// Whether two terms are two numbers or two texts.
+// Whether `a` and `b` are two numbers or two texts.
 fn have_order(a: u32, b: u32) -> bool
     ensures { λ r. ⌜ r ≡ haveOrder a b ⌝ }
 {
     kinds_are(Term::NUMBER, Term::NUMBER, a, b) || kinds_are(Term::TEXT, Term::TEXT, a, b)
 }
 
-// Whether two terms are a number and a text.
+// Whether one of `a` and `b` is a number and the other a text.
 fn are_mixed(a: u32, b: u32) -> bool
     ensures { λ r. ⌜ r ≡ areMixed a b ⌝ }
 {
@@ -47,7 +47,7 @@ fn equality(a: u32, b: u32) -> Truth
     Truth::False
 }
 
-// Of two terms of one kind, the places in the order of keys are in the order of the values.
+// Whether `a` is less than `b`: the ranks that two terms of one kind have as keys are in the order of their values.
 fn less(a: u32, b: u32) -> Truth
     ensures { λ r. ⌜ r ≡ inequality ltb a b ⌝ }
 {
@@ -66,7 +66,7 @@ fn at_most(a: u32, b: u32) -> Truth
     Truth::Error
 }
 
-// The comparison with a number, of two values.
+// The comparison of `a` and `b` by the operator with the number `operator`.
 fn compare(operator: u32, a: u32, b: u32) -> Truth
     ensures { λ r. ⌜ r ≡ comparison operator a b ⌝ }
 {
@@ -81,7 +81,7 @@ fn compare(operator: u32, a: u32, b: u32) -> Truth
     }
 }
 
-// The comparison at the start of p evaluated: one comparison is read.
+// The comparison that `p` starts with, evaluated with the values in `bound`: one comparison is read.
 pub fn compared(p: &[u32], bound: &[u32; 16]) -> Evaluated
     requires { ⌜ comparisonWords ≤ length (now p) ⌝ }
     ensures { λ r. ⌜ r ≡ comparisonRead (now (bound .entry)) (now (p .entry)) ⌝ }

@@ -7,7 +7,7 @@ ghost use mathlib.Core.Path.{_≡_};
 ghost use Rattle.conditions.specs.Evaluated.{negatedRead, pairRead};
 ghost use Rattle.conditions.specs.Values.{joinedBy, Few, isShort};
 
-// A condition under "not".
+// The condition `v` under "not".
 pub fn negated(v: Evaluated) -> Evaluated
     ensures { λ r. ⌜ r ≡ negatedRead v ⌝ }
 {
@@ -18,7 +18,7 @@ pub fn negated(v: Evaluated) -> Evaluated
     }
 }
 
-// Two conditions under a word, both read.
+// The conditions `first` and `second`, both read, joined by `word`.
 pub fn joined(word: u32, first: Evaluated, second: Evaluated) -> Evaluated
     requires { ⌜ Few first × Few second ⌝ }
     ensures { λ r. ⌜ r ≡ pairRead (joinedBy word) first second ⌝ }
@@ -31,7 +31,7 @@ pub fn joined(word: u32, first: Evaluated, second: Evaluated) -> Evaluated
     }
 }
 
-// Whether the right operand of a pair, which starts with another word, is its short side: a comparison under "and".
+// Whether the right operand, which starts with `other`, of the pair that starts with `word` is its short side: a comparison under "and".
 pub fn is_short(word: u32, other: u32) -> bool
     ensures { λ r. ⌜ r ≡ isShort word other ⌝ }
 {

@@ -50,7 +50,7 @@ pub fn of_test(passes: bool) -> Truth
     if passes { Truth::True } else { Truth::False }
 }
 
-// Two truths joined by a word: kind 4 is and, another or.
+// `a` and `b` joined by `word`: by "and" if it is of kind 4, else by "or".
 pub fn join(word: u32, a: Truth, b: Truth) -> Truth
     ensures { λ r. ⌜ r ≡ joinedBy word a b ⌝ }
 {

@@ -15,7 +15,7 @@ ghost use Rattle.conditions.specs.Evaluated.{evaluated};
 ghost use Rattle.conditions.specs.Values.{Readable, conditionIn, leftsOf};
 ghost use Rattle.plans.specs.Conditions.{always};
 
-// The condition that p starts with, evaluated, with the words of every pair's left operand at hand. A lone comparison on the right of an "and" is
+// The condition that `p` starts with, evaluated, with the words of every pair's left operand in `lefts`. A lone comparison on the right of an "and" is
 // read first, and where it is false the left operand is skipped: nothing of it is looked at. Both orders are written out, and each call is handed parts
 // of both lists: an operand chosen by its number, or a list handed on as it is, would have each call wait for memory.
 pub fn evaluate(p: &[u32], lefts: &[u32], bound: &[u32; 16]) -> Evaluated
@@ -51,7 +51,7 @@ pub fn evaluate(p: &[u32], lefts: &[u32], bound: &[u32; 16]) -> Evaluated
     }
 }
 
-// Whether p starts with the condition that keeps every row: most plans have it.
+// Whether `p` starts with the condition that keeps every row: most plans have it.
 fn always(p: &[u32]) -> bool
     requires { ⌜ Readable (now p) ⌝ }
     ensures { λ r. ⌜ (r ≡ true → conditionIn (now (p .entry)) ≡ always) ⌝ }
@@ -65,7 +65,7 @@ fn always(p: &[u32]) -> bool
     }
 }
 
-// Whether the condition that p starts with is true: only then is a row kept.
+// Whether the condition that `p` starts with is true: only then is a row kept.
 pub fn keeps(p: &[u32], lefts: &[u32], bound: &[u32; 16]) -> bool
     requires { ⌜ Readable (now p) ⌝ }
     requires { ⌜ now lefts ≡ leftsOf (now p) ⌝ }

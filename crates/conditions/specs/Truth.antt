@@ -46,7 +46,7 @@ unfoldable pub inequality : (ℕ → ℕ → Bool) → ℕ → ℕ → Truth
 inequality test a b =
     cond (kindsAre numberKind numberKind a b || kindsAre textKind textKind a b) (ofTest (test (valueRank a) (valueRank b))) Error
 
--- the comparison with a number
+-- the comparison of `a` and `b` by the operator with the number `o`
 unfoldable pub comparison : ℕ → ℕ → ℕ → Truth
 comparison o a b =
     cond (eqb o equalTo) (equality a b)

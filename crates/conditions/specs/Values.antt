@@ -37,7 +37,7 @@ abbrev pub comparisonRead : Bindings → List ℕ → Evaluated
 comparisonRead b ws = record { truth = comparison (low (getD ws 0 0)) (valueOf b (getD ws 1 0)) (valueOf b (getD ws 2 0)); reads = 1 }
 
 -- ---- pairs
--- two truths joined by a word: kind 4 is and, another or
+-- `a` and `b` joined by the word `w`: by "and" if it is of kind 4, else by "or"
 abbrev pub joinedBy : ℕ → Truth → Truth → Truth
 joinedBy w a b = cond (eqb (kind w) andKind) (conjunction a b) (disjunction a b)
 
@@ -45,7 +45,7 @@ joinedBy w a b = cond (eqb (kind w) andKind) (conjunction a b) (disjunction a b)
 abbrev pub Few : Evaluated → Type 0
 Few x = x .reads < 0x2000_0000_0000_0000
 
--- the words of the left operand, where some words start with a pair; 0 where they do not
+-- the words of the left operand of the pair that words start with; 0 where they start with none
 abbrev pub leftUnder : Node → ℕ → ℕ
 leftUnder Always m = 0
 leftUnder Pair m = m
@@ -57,12 +57,12 @@ abbrev pub leftWords : List ℕ → ℕ
 leftWords [] = 0
 leftWords (w ∷ ws) = leftUnder (nodeOf w) (wordsRead (readCondition mostDepth ws))
 
--- the same from each place of some words on: what a turn finds once in its plan
+-- the same for each place of words: what a turn finds once in its plan
 unfoldable pub leftsOf : List ℕ → List ℕ
 leftsOf [] = []
 leftsOf (w ∷ ws) = leftWords (w ∷ ws) ∷ leftsOf ws
 
--- whether the right operand of a pair, which starts with another word, is its short side: a comparison under "and"
+-- whether the right operand, which starts with `other`, of the pair that starts with `w` is its short side: a comparison under "and"
 abbrev pub isShort : ℕ → ℕ → Bool
 isShort w other = eqb (kind w) andKind && eqb (kind other) comparisonKind
 

@@ -22,7 +22,7 @@ module _ (v : Survey) (plan : List ℕ) (a : Accepted (v .tables) plan) where
   abbrev q : Plan
   q = planOf plan
 
-  -- so many steps are not past the run's end
+  -- `n` steps are not past the run's end
   abbrev Going : ℕ → Type 0
   Going n = (m : ℕ) → m < n → after t q m .state ≡ none → ⊥
 

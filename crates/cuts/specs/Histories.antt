@@ -87,7 +87,7 @@ afterTurn h x ending.Spent = afterServed h x
 afterTurn h x ending.Full = afterServed h x
 afterTurn h x (ending.Refused y) = h
 
--- the earliest list that is not taken is taken, and the kept list is now another
+-- the earliest list that is not taken is taken, and the kept list is now `kept`
 abbrev pub afterTaking : Phone → ServedTurn → List ServedTurn → List ℕ → Phone
 afterTaking h x rest kept =
     record { saved = h .saved; taken = h .taken ++ (x ∷ []); waiting = rest; kept = kept }

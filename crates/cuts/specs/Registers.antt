@@ -12,7 +12,7 @@ use Rattle.registers.specs.Registers.{mostRank, registersOf, registersIn, keptR
 use Rattle.lists.specs.Rows.{boundValues}
 use Rattle.cuts.specs.Histories.{Phone, stepsIn}
 
--- the registers of the values that a variable has in the rows of the uncut run's first steps, so many
+-- the registers of the values that the variable `x` has in the rows of the uncut run's first `n` steps
 abbrev pub runRegisters : Tables → Plan → ℕ → ℕ → List ℕ
 runRegisters t q x n = registersOf (boundValues x (after t q n .delivered))
 

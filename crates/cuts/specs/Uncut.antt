@@ -23,7 +23,7 @@ use Rattle.cuts.specs.Premises.{listsIn}
 abbrev pub runList : Ending → Run → List ℕ
 runList e r = listAt e [] (isOver (r .state)) (r .delivered)
 
--- what is kept of the uncut run's lists up to so many steps: nothing before the first step, for then no list is taken yet
+-- what is kept of the uncut run's lists after a number of steps: nothing before the first step, for then no list is taken yet
 abbrev pub keptAfter : Tables → Plan → ℕ → List ℕ
 keptAfter t q zero = []
 keptAfter t q (suc n) = runList (q .ending) (after t q (suc n))
@@ -37,7 +37,7 @@ pub record EndsAt (t : Tables) (q : Plan) (n : ℕ) : Type 0 where
   pub over : after t q n .state ≡ none
   pub not-before : (m : ℕ) → m < n → after t q m .state ≡ none → ⊥
 
--- why the list of a turn, which ends after so many steps of the uncut run, is not taken into a buffer of so many words. By 13: a total of
+-- why the list of a turn, which ends after `steps` steps of the uncut run, is not taken into a buffer of `room` words. By 13: a total of
 -- the run's groups up to there leaves its range, whatever those before and after do. By 14: none does, and the run's list up to there is longer
 -- than the buffer
 pub data NotTaken (t : Tables) (q : Plan) (steps room : ℕ) : ℕ → Type 0 where
@@ -67,7 +67,7 @@ pub record Takes (v : Survey) (q : Plan) (from to : ℕ) (x : ServedTurn) : Type
   pub no-further : from + x .steps ≤ to
   pub as-far : x .sent ≡ [] → from + x .steps ≡ to
 
--- some of them, one behind the other, from a position to a position
+-- served turns, one behind the other, from the position `from` to the position `end`
 abbrev pub Placed : Survey → Plan → ℕ → List ServedTurn → ℕ → Type 0
 Placed v q from [] end = from ≡ end
 Placed v q from (x ∷ xs) end = (to : ℕ) × (Takes v q from to x × Placed v q to xs end)
@@ -92,15 +92,15 @@ pub record AsUncut (v : Survey) (q : Plan) (h : Phone) : Type 0 where
   pub list : h .kept ≡ keptAfter (v .tables) q upto
   -- whose totals are in their range
   pub fits : runFits (q .ending) (after (v .tables) q upto) ≡ true
-  -- for a row query, to which no threshold is sent, the first lists of any number make its rows up to where the last of them ended
+  -- for a row query, to which no threshold is sent, the first `k` lists make its rows up to where the last of them ended
   pub prefixes : (vs : List ℕ) → q .ending ≡ rows vs → (k : ℕ)
       → joinedLists (take k (servedIn h)) ≡ runList (q .ending) (after (v .tables) q (stepsIn (take k (servedIn h))))
   -- a finished query, done answered and every list taken: its list is the whole uncut run's
   pub finished : doneIn (servedIn h) ≡ true → h .waiting ≡ []
       → EndsAt (v .tables) q upto × (h .kept ≡ runList (q .ending) (after (v .tables) q upto))
 
--- why the earliest list that is not taken yet was left by a merge into a buffer of so many words, by its number: where the turn takes the uncut
--- run from the end of the last list taken to
+-- why a merge into a buffer of `room` words left the earliest list that is not taken yet, by the number `y`: its turn takes the uncut run from
+-- `upto`, where the last list taken ended, to `to`, and the run's list up to there is not taken
 pub record NotTakenAt (v : Survey) (q : Plan) (h : Phone) (x : ServedTurn) (room y : ℕ) : Type 0 where
   pub upto : ℕ
   pub taken : Placed v q 0 (h .taken) upto

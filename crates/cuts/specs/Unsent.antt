@@ -43,7 +43,7 @@ pub record StepForStep (v : Survey) (q : Plan) (h : Phone) : Type 0 where
   pub quantum : WithinQuantum (servedIn h)
   -- the lists taken so far make its rows, its best-of list, its groups or its registers up to where the last of them ended
   pub list : h .kept ≡ keptAfter (v .tables) q (stepsIn (h .taken))
-  -- for a row query, the first lists of any number make its rows up to where the last of them ended
+  -- for a row query, the first `k` lists make its rows up to where the last of them ended
   pub prefixes : (vs : List ℕ) → q .ending ≡ rows vs → (k : ℕ)
       → joinedLists (take k (servedIn h)) ≡ runList (q .ending) (after (v .tables) q (stepsIn (take k (servedIn h))))
   -- a finished query, done answered and every list taken: its steps and its list are the whole uncut run's

@@ -9,11 +9,11 @@ use Rattle.sequences.specs.Sequences.{all, neighbours}
 use Rattle.dictionaries.specs.Strings.{stringBefore, sameString}
 use Rattle.dictionaries.specs.Utf8.{wellFormed}
 
--- the part of some bytes from a place up to another
+-- the part of `bytes` from `a` up to `e`
 abbrev pub byteRange : List ℕ → ℕ → ℕ → List ℕ
 byteRange bytes a e = take (e - a) (drop a bytes)
 
--- the strings that the ends cut off, from a place on
+-- the strings that the ends cut off, from `a` on
 unfoldable pub stringsFrom : List ℕ → ℕ → List ℕ → List (List ℕ)
 stringsFrom bytes a [] = []
 stringsFrom bytes a (e ∷ es) = byteRange bytes a e ∷ stringsFrom bytes e es
@@ -21,12 +21,12 @@ stringsFrom bytes a (e ∷ es) = byteRange bytes a e ∷ stringsFrom bytes e es
 abbrev pub stringsOf : List ℕ → List ℕ → List (List ℕ)
 stringsOf bytes ends = stringsFrom bytes 0 ends
 
--- the ends do not fall from a place on, and the last is the number of bytes
+-- the ends do not fall from `a` on, and the last is `n`, the number of bytes
 unfoldable pub endsRight : ℕ → ℕ → List ℕ → Bool
 endsRight n a [] = eqb a n
 endsRight n a (e ∷ es) = leb a e && endsRight n e es
 
--- so many that the number after the last is a value too
+-- the most strings of a dictionary: the number after the last is a value too
 abbrev pub mostStrings : ℕ
 mostStrings = 0x3FFF_FFFF
 

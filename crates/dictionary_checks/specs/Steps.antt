@@ -59,7 +59,7 @@ nothingLeft AfterEd = false
 nothingLeft AfterF0 = false
 nothingLeft AfterF4 = false
 
--- whether the bytes after one are formed, by what it made
+-- whether the bytes `bs` behind a byte are well formed, by what that byte leaves to come
 abbrev pub formedAfter : List ℕ → ByteStep → Bool
 formedAfter bs (More r) = formedFrom bs (spansIn r)
 formedAfter bs Wrong = false

@@ -15,7 +15,7 @@ pub enum Rest {
     AfterF4,
 }
 
-// What a byte makes of it.
+// What a byte leaves to come, or that it may not stand there.
 pub enum ByteStep {
     More(Rest),
     Wrong,

@@ -67,7 +67,7 @@ findCall =
     }
 
 -- ---- what the answers say, of a right dictionary
--- a string stands at a place
+-- the string `s` stands at the place `n`
 pub record HoldsString (bytes ends s : List ℕ) (n : ℕ) : Type 0 where
   pub within : n < length ends
   pub is : getD (stringsOf bytes ends) n [] ≡ s

@@ -24,7 +24,7 @@ abbrev pub stringInput : StringKind → List ℕ → List ℕ → ℕ → String
 stringInput kind bytes ends n = record { kind = kind; bytes = bytes; ends = ends; number = n }
 
 -- ---- an answer
--- from where to where the string of a number goes: it starts where the one before it ends
+-- from where to where the string with the number `n` goes: it starts where the one before it ends
 abbrev pub boundsIn : List ℕ → ℕ → StringBounds
 boundsIn ends n = cond (ltb n (length ends)) (Part (getD (0 ∷ ends) n 0) (getD ends n 0)) Past
 
@@ -52,7 +52,7 @@ stringCall =
     }
 
 -- ---- what the answers say, of a right dictionary
--- the part of the bytes from a place up to another, inside of them, is the string of a number
+-- the bytes from `a` up to `e`, inside of those lent, are the string of the number that is asked
 pub record LentString (i : StringInput) (a e : ℕ) : Type 0 where
   pub numbered : i .number < length (i .ends)
   pub ordered : a ≤ e

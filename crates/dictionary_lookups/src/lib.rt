@@ -18,14 +18,14 @@ pub enum StringFound {
     Refused(u32),
 }
 
-// What a number's string is: the bytes from a place up to another, none past the last number, or the number of the test that refused the call.
+// What a number's string is: where its bytes start and end, that it is past the last number, or the number of the test that refused the call.
 pub enum StringBounds {
     Part(usize, usize),
     Past,
     Refused(u32),
 }
 
-// Looks for a string in a dictionary of names or of texts.
+// Looks for `sought` in a dictionary of names or of texts, as `kind` says.
 pub fn find(kind: StringKind, bytes: &[u8], ends: &[u32], sought: &[u8]) -> StringFound
     ensures { λ r. ⌜ record { answer = r; buffers = tt }
         ≡ resultOfCall findCall (findInput kind (now (bytes .entry)) (now (ends .entry)) (now (sought .entry))) ⌝ }
@@ -41,7 +41,7 @@ pub fn find(kind: StringKind, bytes: &[u8], ends: &[u32], sought: &[u8]) -> Stri
     }
 }
 
-// The part of the lent bytes that a number stands for, by where it starts and where it ends.
+// Where the string with the number `n` starts in `bytes`, and where it ends.
 pub fn string(kind: StringKind, bytes: &[u8], ends: &[u32], n: usize) -> StringBounds
     ensures { λ r. ⌜ record { answer = r; buffers = tt } ≡ resultOfCall stringCall (stringInput kind (now (bytes .entry)) (now (ends .entry)) n) ⌝ }
     ensures number { λ r. ⌜ AnswersRight stringCall (stringInput kind (now (bytes .entry)) (now (ends .entry)) n) r ⌝ }

@@ -19,7 +19,7 @@ ghost use Rattle.dictionaries.specs.Checking.{stringRight, dictionaryRight};
 // The most strings of a dictionary, so that the number after the last is a value too.
 const MOST_STRINGS: usize = 0x3FFF_FFFF;
 
-// Whether a string is one of a kind.
+// Whether `s` is a string as `kind` wants it.
 pub fn string_right(kind: StringKind, s: &[u8]) -> bool
     ensures { λ r. ⌜ r ≡ stringRight kind (now (s .entry)) ⌝ }
 {
@@ -32,7 +32,7 @@ pub fn string_right(kind: StringKind, s: &[u8]) -> bool
     }
 }
 
-// Whether the ends do not fall and the last is the number of bytes.
+// Whether `ends` do not fall and the last of them is `count`, the number of bytes.
 pub fn ends_right(count: usize, ends: &[u32]) -> bool
     ensures { λ r. ⌜ r ≡ endsRight count 0 (now (ends .entry)) ⌝ }
 {
@@ -49,7 +49,7 @@ pub fn ends_right(count: usize, ends: &[u32]) -> bool
     last == count
 }
 
-// Whether the string at a place is the last, or comes before the next.
+// Whether the string with the number `i` is the last, or comes before the next.
 fn next_right(bytes: &[u8], ends: &[u32], i: usize) -> bool
     requires { ⌜ endsRight (length (now bytes)) 0 (now ends) ≡ true ⌝ }
     requires { ⌜ i < length (now ends) ⌝ }
@@ -61,7 +61,7 @@ fn next_right(bytes: &[u8], ends: &[u32], i: usize) -> bool
     is_before(bytes, ends, i, i + 1)
 }
 
-// Whether each string is one of the kind, and comes before the next.
+// Whether each string is as `kind` wants it, and comes before the next.
 fn strings_right(kind: StringKind, bytes: &[u8], ends: &[u32]) -> bool
     requires { ⌜ endsRight (length (now bytes)) 0 (now ends) ≡ true ⌝ }
     ensures { λ r. ⌜ r ≡ all (stringRight kind) (stringsOf (now (bytes .entry)) (now (ends .entry)))
@@ -80,7 +80,7 @@ fn strings_right(kind: StringKind, bytes: &[u8], ends: &[u32]) -> bool
     true
 }
 
-// Whether a dictionary is right.
+// Whether a dictionary is right for the strings that `kind` names.
 pub fn dictionary_right(kind: StringKind, bytes: &[u8], ends: &[u32]) -> bool
     ensures { λ r. ⌜ r ≡ dictionaryRight kind (now (bytes .entry)) (now (ends .entry)) ⌝ }
 {

@@ -1,8 +1,8 @@
-// Whether an IRI in <> may have some bytes.
+// Whether bytes may stand in an IRI, between < and >.
 ghost use mathlib.Core.Path.{_≡_};
 ghost use Rattle.dictionaries.specs.Checking.{iriCharacter, isIri};
 
-// Whether it may have a byte.
+// Whether `b` may stand in an IRI.
 fn iri_byte(b: u8) -> bool
     ensures { λ r. ⌜ r ≡ iriCharacter b ⌝ }
 {
@@ -23,7 +23,7 @@ fn iri_byte(b: u8) -> bool
     }
 }
 
-// Whether there is a byte, and it may have each.
+// Whether `s` has a byte, and each of its bytes may stand in an IRI.
 pub fn iri_right(s: &[u8]) -> bool
     ensures { λ r. ⌜ r ≡ isIri (now (s .entry)) ⌝ }
 {

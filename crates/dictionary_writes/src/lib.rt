@@ -1,4 +1,4 @@
-// Strings written to a dictionary: those at some places, where each is left out that is the same as the next.
+// Strings written to a dictionary: those at a list of places, without each that is the same as the next.
 use dictionary_searches::is_before;
 use dictionary_searches::string;
 ghost use mathlib.Core.Path.{_≡_};
@@ -13,7 +13,7 @@ ghost use Rattle.dictionaries.specs.Dictionaries.{endsRight, hasString, placeBe
 ghost use Rattle.dictionary_numberings.specs.Numbering.{endsAfter};
 ghost use Rattle.dictionary_numberings.specs.Sorted.{lastOfEach, stringsAt};
 
-// Copies some bytes to a buffer from a place on.
+// Copies `bytes` to `buf`, from `a` on.
 fn copy_bytes(buf: &mut [u8], a: usize, bytes: &[u8])
     requires { ⌜ a + length (now bytes) ≤ length (now buf) ⌝ }
     ensures { λ _. ⌜ now (buf .exit) ≡ paste (now (buf .entry)) a (now (bytes .entry)) (length (now (bytes .entry))) ⌝ }
@@ -26,7 +26,7 @@ fn copy_bytes(buf: &mut [u8], a: usize, bytes: &[u8])
     }
 }
 
-// Whether the string of an entry of a list of places is the last, or comes before the next.
+// Whether the string at `places[k]` is the last, or comes before the next.
 fn is_last(bytes: &[u8], ends: &[u32], places: &[u32], k: usize) -> bool
     requires { ⌜ endsRight (length (now bytes)) 0 (now ends) ≡ true ⌝ }
     requires { ⌜ all (hasString (now ends)) (now places) ≡ true ⌝ }
@@ -45,7 +45,7 @@ fn is_last(bytes: &[u8], ends: &[u32], places: &[u32], k: usize) -> bool
     )
 }
 
-// Writes the strings one behind the other, and their ends; answers how many they are.
+// Writes the strings at `places` one behind the other to `out`, and their ends to `cuts`; answers how many they are.
 pub fn write_strings(
     bytes: &[u8],
     ends: &[u32],

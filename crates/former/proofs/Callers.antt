@@ -16,7 +16,7 @@ use Rattle.plans.specs.declared.Years.{Years}
 use Rattle.plans.specs.Conditions.{Read}
 use Rattle.plans.specs.Years.{yearsIn, yearWords, headOf, bodyOf}
 use Rattle.plans.specs.Branches.{Branch, readBranches}
-use Rattle.plans.specs.Endings.{mostBest, lastOf, formAs, endingForm, endingAs, endingAt}
+use Rattle.plans.specs.Endings.{mostBest, endingKindOf, formAs, endingForm, endingAs, endingAt}
 use Rattle.plans.specs.Plans.{Plan, mostPlanWords, branchCount, withEnding, readPlan, hasForm, planOr, planOf}
 use Rattle.plans.specs.Reading.{wordsRead}
 use Rattle.plans.specs.Former.{written}
@@ -41,8 +41,8 @@ module _ (k : ℕ) (few : k ≤ mostBest) where
   k-of : (kind (word topKind k) ≡ topKind) × (low (word topKind k) ≡ k)
   k-of = (omega arith, omega arith)
 
-  begins-top : lastOf (word topKind k) ≡ Top
-  unfolding lastOf
+  begins-top : endingKindOf (word topKind k) ≡ Top
+  unfolding endingKindOf
   begins-top =
       rw (k-of .0, k-of .1) (rw (le-leb k mostBest few))
 

@@ -10,7 +10,7 @@ use Rattle.tables.specs.Tables.{Tables}
 use Rattle.plans.specs.declared.EndingKind.{EndingKind}
 use Rattle.plans.specs.declared.EndingKind.the-variants.{Rows, Top, Group, Registers, Invalid}
 use Rattle.plans.specs.Years.{headOf}
-use Rattle.plans.specs.Endings.{Ending, top, rowVariables, afterRows, lastOf, endingAs}
+use Rattle.plans.specs.Endings.{Ending, top, rowVariables, afterRows, endingKindOf, endingAs}
 use Rattle.plans.specs.Plans.{Plan, branchCount, planOf}
 use Rattle.plans.specs.Reading.{branchStart}
 use Rattle.plans.specs.Former.{formerCount, written}
@@ -37,7 +37,7 @@ formerEndingAs Registers ws = endingAs Registers ws
 formerEndingAs Invalid ws = endingAs Invalid ws
 
 abbrev pub formerEndingAt : List ℕ → Ending
-formerEndingAt ws = formerEndingAs (lastOf (getD ws 0 0)) ws
+formerEndingAt ws = formerEndingAs (endingKindOf (getD ws 0 0)) ws
 
 -- the plan that words stood for
 abbrev pub formerPlanOf : List ℕ → Plan

@@ -23,7 +23,7 @@ pub record BestList (k : ℕ) (vs keys ws : List ℕ) : Type 0 where
   pub few : length ws / length vs ≤ k
   pub rising : neighbours (λ x y. not (rowBefore vs keys y x)) (recordsIn (length vs) ws) ≡ true
 
--- a row may be put in among the best k that are the first words of a buffer, so many: the buffer has room for the list with it
+-- `row` may be put in among the best `k` that are the first `used` words of `buffer`, which has room for the list with it
 pub record Insertable (k : ℕ) (vs keys row buffer : List ℕ) (used : ℕ) : Type 0 where
   pub parts : TopParts k vs keys
   pub width : length row ≡ length vs

@@ -15,8 +15,7 @@ ghost use Rattle.lists.specs.Delivering.{isAhead, withBest, withRow};
 ghost use Rattle.lists.specs.Putting.{Listed};
 ghost use Rattle.list_best.specs.BestLists.{Insertable, Deliverable, Mergeable};
 
-// Puts a row in among the best k that are the first words of a buffer, so many, behind those equal to it; answers the words of the
-// list with it.
+// Puts `row` in among the best `k`, the first `used` words of `list`, behind those equal to it; answers the words of the list with it.
 fn insert_best(
     vars: &[u32],
     keys: &[u32],
@@ -43,7 +42,7 @@ fn insert_best(
     used
 }
 
-// Whether a row comes strictly before a threshold row, or there is none.
+// Whether `row` comes strictly before `threshold`, or there is no threshold.
 fn is_ahead(vars: &[u32], keys: &[u32], threshold: &[u32], row: &[u32]) -> bool
     requires { ⌜ (all (keyAmong (now vars)) (now keys) ≡ true) × (length (now vars) ≤ length (now row))
         × (0 < length (now threshold) → length (now vars) ≤ length (now threshold)) ⌝ }
@@ -55,8 +54,7 @@ fn is_ahead(vars: &[u32], keys: &[u32], threshold: &[u32], row: &[u32]) -> bool
     comes_before(vars, keys, row, threshold)
 }
 
-// Takes a delivered row up into the best k that are the first words of the output, so many, if it is ahead of the threshold; answers
-// the words of the list.
+// Takes the row in `bound` up into the best `k`, the first `used` words of `out`, if it is ahead of `threshold`; answers the words of the list.
 pub fn put_best(
     vars: &[u32],
     keys: &[u32],
@@ -78,8 +76,7 @@ pub fn put_best(
     used
 }
 
-// Merges a turn's list into the kept one, which is the first words of a buffer, so many: the best k of both, kept rows first among
-// equals; answers the words of the merged list.
+// Merges `list` into the first `used` words of `kept`: the best `k` rows of both, kept ones first among equals; answers the words of the merged list.
 pub fn merge_best(
     vars: &[u32],
     keys: &[u32],

@@ -10,7 +10,7 @@ ghost use Rattle.list_best_places.specs.Places.{Searchable, placeIn, row
 // How many rows a far step back passes.
 const FAR: usize = 8;
 
-// Far steps back from some words, while a row comes before the row there: its place is not behind the words where they stop.
+// Far steps back from the word `from`, while `row` comes before the row there: its place is not behind the word where they stop.
 fn far_back(vars: &[u32], keys: &[u32], row: &[u32], list: &[u32], from: usize) -> usize
     requires { ⌜ Searchable (now vars) (now keys) (now row) (now list) ⌝ }
     requires { ⌜ PlacedUpTo (now vars) (now keys) (now row) (now list) from ⌝ }
@@ -30,7 +30,7 @@ fn far_back(vars: &[u32], keys: &[u32], row: &[u32], list: &[u32], from: usize) 
     at
 }
 
-// The place of a row, by steps of one row back from some words that it is not behind.
+// The place of `row`, by steps of one row back from the word `upto`, which it is not behind.
 fn near_back(vars: &[u32], keys: &[u32], row: &[u32], list: &[u32], upto: usize) -> usize
     requires { ⌜ Searchable (now vars) (now keys) (now row) (now list) ⌝ }
     requires { ⌜ PlacedUpTo (now vars) (now keys) (now row) (now list) upto ⌝ }
@@ -49,7 +49,7 @@ fn near_back(vars: &[u32], keys: &[u32], row: &[u32], list: &[u32], upto: usize)
     at
 }
 
-// Where a row is put in among the rows of a list that does not descend: the words in front of it. It is searched from the back, so
+// Where `row` is put in among the rows of `list`, which does not descend: the words in front of it. It is searched from the back, so
 // that a row that is not among the best is found out by one comparison.
 pub fn place_in(vars: &[u32], keys: &[u32], row: &[u32], list: &[u32]) -> usize
     requires { ⌜ Searchable (now vars) (now keys) (now row) (now list) ⌝ }

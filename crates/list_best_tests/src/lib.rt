@@ -13,7 +13,7 @@ ghost use Rattle.lists.specs.Rows.{rowBefore};
 ghost use Rattle.lists.specs.Gathering.{recordsIn, thresholdRight, listRight, merged};
 ghost use Rattle.list_best.specs.BestLists.{TopParts, BestList};
 
-// Whether a threshold is right for a best-of ending with these variables: empty, or one row.
+// Whether `threshold` is right for a best-of ending with the variables `vars`: empty, or one row.
 pub fn best_threshold(vars: &[u32], threshold: &[u32]) -> bool
     ensures { λ r. ⌜ ((k : ℕ) (keys : List ℕ) → r ≡ thresholdRight (top k (now (vars .entry)) keys) (now (threshold .entry))) ⌝ }
 {
@@ -26,7 +26,7 @@ pub fn best_threshold(vars: &[u32], threshold: &[u32]) -> bool
     false
 }
 
-// Whether no row of a list comes before the one in front of it.
+// Whether no row of `list` comes before the one in front of it.
 fn rises(vars: &[u32], keys: &[u32], list: &[u32]) -> bool
     requires { ⌜ (0 < length (now vars)) × (all (keyAmong (now vars)) (now keys) ≡ true) × (length (now vars) ≤ mostRowVariables)
         × (length (now list) % length (now vars) ≡ 0) ⌝ }
@@ -46,7 +46,7 @@ fn rises(vars: &[u32], keys: &[u32], list: &[u32]) -> bool
     true
 }
 
-// Whether a list is a best-of list of an ending.
+// Whether `list` is a best-of list: at most `k` rows of values, none of which comes before the one in front of it.
 pub fn is_best(vars: &[u32], keys: &[u32], k: usize, list: &[u32]) -> bool
     requires { ⌜ TopParts k (now vars) (now keys) ⌝ }
     ensures { λ r. ⌜ r ≡ listRight (top k (now (vars .entry)) (now (keys .entry))) (now (list .entry)) ⌝ }
@@ -64,7 +64,7 @@ pub fn is_best(vars: &[u32], keys: &[u32], k: usize, list: &[u32]) -> bool
     false
 }
 
-// Whether the buffer of a kept list, its first words, so many, has room for that list merged with another.
+// Whether `kept` has room for its first `used` words, which are the kept list, merged with `list`.
 pub fn has_best_room(vars: &[u32], k: usize, kept: &[u32], used: usize, list: &[u32]) -> bool
     requires { ⌜ (0 < length (now vars)) × (length (now vars) ≤ mostRowVariables) × (k ≤ mostBest) × (used ≤ length (now kept))
         × (length (now list) % length (now vars) ≡ 0) ⌝ }

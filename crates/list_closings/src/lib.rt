@@ -28,7 +28,7 @@ fn no_totals() -> Totals
     }
 }
 
-// Closes a list of groups: with no group variable it has one record always.
+// Closes the list of groups that is the first `used` words of `out`, and answers its words: with no variable it always has one record.
 fn close_groups(vars: &[u32], out: &mut [u32], used: usize) -> usize
     requires { ⌜ (length (now vars) + totalsWidth ≤ length (now out)) × (used ≤ length (now out)) ⌝ }
     ensures { λ r. ⌜ ((m : ℕ) → Listed (closed (group (now (vars .entry)) m) (take used (now (out .entry)))) (now (out .entry))
@@ -44,7 +44,7 @@ fn close_groups(vars: &[u32], out: &mut [u32], used: usize) -> usize
     TOTALS
 }
 
-// Closes the list that is the first words of the output, so many, and answers its words: only groups of no variable add a record.
+// Closes the list that is the first `used` words of `out`, and answers its words: only groups of no variable add a record.
 pub fn close(ending: &[u32], out: &mut [u32], used: usize) -> usize
     requires { ⌜ endingForm (now ending) ≡ true ⌝ }
     requires { ⌜ (leastOutput (endingAt (now ending)) ≤ length (now out)) × (used ≤ length (now out)) ⌝ }

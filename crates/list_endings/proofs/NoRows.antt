@@ -9,7 +9,7 @@ use Rattle.sequences.proofs.Keeping.{keep-nil}
 use Rattle.plans.specs.declared.EndingKind.{EndingKind}
 use Rattle.plans.specs.declared.EndingKind.the-variants.{Registers}
 use Rattle.plans.specs.Endings.{Ending}
-use Rattle.plans.specs.Reading.{lastIn, measuredIn}
+use Rattle.plans.specs.Reading.{endingKindIn, measuredIn}
 use Rattle.plans.proofs.EndingRead.{is-registers}
 use Rattle.registers.specs.Registers.{registerCount, registersOf}
 use Rattle.lists.specs.Rows.{hasValue}
@@ -20,11 +20,12 @@ use Rattle.lists.proofs.RegisterLists.{registers-gathered}
 
 module _ (e : Ending) (out : List ℕ) where
   -- any ending but registers writes nothing
-  pub none-listed : {l : EndingKind} → lastIn e ≡ l → (l ≡ Registers → ⊥) → (threshold : List ℕ) → Listed (gathered e threshold []) out out 0
+  pub none-listed : {l : EndingKind} → endingKindIn e ≡ l → (l ≡ Registers → ⊥) → (threshold : List ℕ)
+      → Listed (gathered e threshold []) out out 0
   none-listed k n threshold =
-      subst⁻¹ (λ ws. Listed ws out out 0) (gathered-nil e (λ v h. n (sym k ∙ ap lastIn h)) threshold) (refl, refl)
+      subst⁻¹ (λ ws. Listed ws out out 0) (gathered-nil e (λ v h. n (sym k ∙ ap endingKindIn h)) threshold) (refl, refl)
 
-  module _ (h : lastIn e ≡ Registers) where
+  module _ (h : endingKindIn e ≡ Registers) where
     pub registers-room : leastOutput e ≤ length out → registerCount ≤ length out
     registers-room l = omega (arith, ap leastOutput (is-registers e h))
 

@@ -7,7 +7,7 @@ use lib.ListN.{length, take}
 use Rattle.words.specs.Bindings.{Bindings}
 use Rattle.plans.specs.declared.EndingKind.the-variants.{Rows, Top, Group, Registers}
 use Rattle.plans.specs.Endings.{Ending, rows, top, group, registers, mostGroupVariables}
-use Rattle.plans.specs.Reading.{lastIn, variablesIn, keysIn, bestIn, measuredIn}
+use Rattle.plans.specs.Reading.{endingKindIn, variablesIn, keysIn, bestIn, measuredIn}
 use Rattle.plans.proofs.EndingRead.{is-rows, is-top, is-group, is-registers}
 use Rattle.registers.specs.Registers.{registerCount}
 use Rattle.lists.specs.declared.Put.{Put}
@@ -31,7 +31,7 @@ unfolding withRow
 registers-any v threshold list b = refl
 
 -- ---- registers
-module _ (e : Ending) (threshold out : List ℕ) (used : ℕ) (b : Bindings) (r : Receives e threshold out used) (h : lastIn e ≡ Registers) (v : ℕ)
+module _ (e : Ending) (threshold out : List ℕ) (used : ℕ) (b : Bindings) (r : Receives e threshold out used) (h : endingKindIn e ≡ Registers) (v : ℕ)
     (ev : v ≡ measuredIn e) where
   registers-of : e ≡ registers v
   registers-of = rw ev (is-registers e h)
@@ -46,7 +46,7 @@ module _ (e : Ending) (threshold out : List ℕ) (used : ℕ) (b : Bindings) (r 
 module _ (e : Ending) (threshold out : List ℕ) (used : ℕ) (b : Bindings) (r : Receives e threshold out used) (vs : List ℕ)
     (ev : vs ≡ variablesIn e) where
   -- ---- rows
-  module _ (h : lastIn e ≡ Rows) where
+  module _ (h : endingKindIn e ≡ Rows) where
     rows-of : e ≡ rows vs
     rows-of = rw ev (is-rows e h)
 
@@ -58,7 +58,7 @@ module _ (e : Ending) (threshold out : List ℕ) (used : ℕ) (b : Bindings) (r 
     rows-taken after p t = rw (rows-of, rows-any vs threshold (take used out) b) t
 
   -- ---- best-of lists
-  module _ (h : lastIn e ≡ Top) (k : ℕ) (ek : k ≡ bestIn e) (keys : List ℕ) (ey : keys ≡ keysIn e) where
+  module _ (h : endingKindIn e ≡ Top) (k : ℕ) (ek : k ≡ bestIn e) (keys : List ℕ) (ey : keys ≡ keysIn e) where
     top-of : e ≡ top k vs keys
     top-of = rw (ev, ek, ey) (is-top e h)
 
@@ -70,7 +70,7 @@ module _ (e : Ending) (threshold out : List ℕ) (used : ℕ) (b : Bindings) (r 
     top-taken after n l = rw top-of (never-full top-ready b l)
 
   -- ---- groups
-  module _ (h : lastIn e ≡ Group) (m : ℕ) (em : m ≡ measuredIn e) where
+  module _ (h : endingKindIn e ≡ Group) (m : ℕ) (em : m ≡ measuredIn e) where
     group-of : e ≡ group vs m
     group-of = rw (ev, em) (is-group e h)
 

@@ -9,7 +9,7 @@ use Rattle.registers.specs.Registers.{registerCount}
 use Rattle.list_best.specs.BestLists.{Deliverable}
 use Rattle.list_groups.specs.TakingRows.{TakesRow}
 
--- the list at the front of an output, its first words, so many, may take up any row
+-- the list that is the first `used` words of `out` may take up any row
 abbrev pub Receives : Ending → List ℕ → List ℕ → ℕ → Type 0
 Receives (rows vs) threshold out used = used ≤ length out
 Receives (top k vs keys) threshold out used = Deliverable k vs keys threshold out used

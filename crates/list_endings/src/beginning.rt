@@ -9,7 +9,7 @@ ghost use Rattle.plans.specs.Endings.{endingForm, endingAt};
 ghost use Rattle.lists.specs.Gathering.{gathered, leastOutput};
 ghost use Rattle.lists.specs.Putting.{Listed};
 
-// Writes the list of no rows, and answers its words: all registers, each 0, and no word for any other ending.
+// Writes the list of no rows to `out`, and answers its words: all registers, each 0, and no word for any other ending.
 pub fn begin(ending: &[u32], out: &mut [u32]) -> usize
     requires { ⌜ endingForm (now ending) ≡ true ⌝ }
     requires { ⌜ leastOutput (endingAt (now ending)) ≤ length (now out) ⌝ }

@@ -9,7 +9,7 @@ use Rattle.lists.specs.declared.Comes.{Comes}
 use Rattle.lists.specs.declared.Comes.the-variants.{Before, Same, After}
 use Rattle.lists.specs.Groups.{addAllBy}
 use Rattle.lists.specs.Sides.{sideBy}
-use Rattle.list_group_merges.specs.Weaving.{bySide, BackWalk, walked, walkedIn}
+use Rattle.list_group_merges.specs.MergingBackwards.{bySide, BackWalk, walked, walkedIn}
 use Rattle.sequences.proofs.Each.{each-append}
 use Rattle.sequences.proofs.EachMore.{each-weaken}
 use Rattle.list_group_merges.proofs.AddingLast.{Below, last-old, last-new, last-both}

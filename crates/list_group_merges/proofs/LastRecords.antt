@@ -1,4 +1,4 @@
--- The last record of two lists: its width, that it is read alike from buffers with the same first words, and that the woven
+-- The last record of two lists: its width, that it is read alike from buffers with the same first words, and that the merged
 -- list ends with it.
 use Prim.Native.Nat.{ℕ, zero, suc, _+_, _*_, _-_, _≤_}
 use native.Mathlib.Omega.{arith}
@@ -15,7 +15,7 @@ use Rattle.lists.specs.Groups.{totalsWidth}
 use Rattle.list_group_totals.specs.GroupTotals.{totalsIn, totalsWords, totalsBoth}
 use Rattle.list_groups.specs.Keys.{keysFirst}
 use Rattle.lists.specs.Sides.{sideBy}
-use Rattle.list_group_merges.specs.Weaving.{recordAt, pickAt, joinWords, wordWalk, woven}
+use Rattle.list_group_merges.specs.MergingBackwards.{recordAt, pickAt, joinWords, wordWalk, mergedRecords}
 use Rattle.list_group_merges.specs.MergingGroups.{lastRecord}
 use Rattle.list_group_merges.proofs.WalkSteps.{pick-none, WalkStepped, walk-steps}
 
@@ -69,16 +69,16 @@ module _ (g : ℕ) (a b : List ℕ) (x y : ℕ) where
       let l = h (λ e. let z : _≡_ {A = ℕ} 0 1 = cc in omega arith) in
       part-kept p a x (x - (g + totalsWidth)) (g + totalsWidth) e (omega arith)
 
-  -- the woven list ends with it
-  pub last-woven : (i j : ℕ) → x ≡ i * (g + totalsWidth) → y ≡ j * (g + totalsWidth) → (s : Comes) → pickAt g a x b y ≡ s
-      → (t : WalkStepped g x y i j s) → woven g a b i j ≡ woven g a b (t .p) (t .q) ++ lastRecord g a x b y s
-  unfolding woven
-  last-woven i j hx hy Before e t =
+  -- the merged list ends with it
+  pub last-merged : (i j : ℕ) → x ≡ i * (g + totalsWidth) → y ≡ j * (g + totalsWidth) → (s : Comes) → pickAt g a x b y ≡ s
+      → (t : WalkStepped g x y i j s) → mergedRecords g a b i j ≡ mergedRecords g a b (t .p) (t .q) ++ lastRecord g a x b y s
+  unfolding mergedRecords
+  last-merged i j hx hy Before e t =
       walk-steps g a b x y (wordWalk g a b) i j hx hy Before e t
-      ∙ ap (λ l. woven g a b (t .p) (t .q) ++ recordAt g b l) (sym (t .y-left))
-  last-woven i j hx hy Same e t =
+      ∙ ap (λ l. mergedRecords g a b (t .p) (t .q) ++ recordAt g b l) (sym (t .y-left))
+  last-merged i j hx hy Same e t =
       walk-steps g a b x y (wordWalk g a b) i j hx hy Same e t
-      ∙ ap₂ (λ k l. woven g a b (t .p) (t .q) ++ joinWords g (recordAt g a k) (recordAt g b l)) (sym (t .x-left)) (sym (t .y-left))
-  last-woven i j hx hy After e t =
+      ∙ ap₂ (λ k l. mergedRecords g a b (t .p) (t .q) ++ joinWords g (recordAt g a k) (recordAt g b l)) (sym (t .x-left)) (sym (t .y-left))
+  last-merged i j hx hy After e t =
       walk-steps g a b x y (wordWalk g a b) i j hx hy After e t
-      ∙ ap (λ l. woven g a b (t .p) (t .q) ++ recordAt g a l) (sym (t .x-left))
+      ∙ ap (λ l. mergedRecords g a b (t .p) (t .q) ++ recordAt g a l) (sym (t .x-left))

@@ -2,9 +2,9 @@ pub mod AddingLast
 pub mod BackWalks
 pub mod WalkSteps
 pub mod Unions
-pub mod WovenRecords
-pub mod WovenGroups
+pub mod RecordGroups
+pub mod WalkedGroups
 pub mod LastRecords
-pub mod Weaves
-pub mod Laying
+pub mod HalfMerges
+pub mod PuttingRecords
 pub mod MergedGroups

@@ -15,11 +15,11 @@ use Rattle.list_group_merges.specs.declared.Union.the-variants.{Records,
 use Rattle.list_group_merges.specs.declared.Merged.the-variants as answers
 use Rattle.lists.specs.Groups.{totalsWidth}
 use Rattle.lists.specs.Gathering.{listRight, merged, totalsFit}
-use Rattle.list_group_merges.specs.Weaving.{woven, unionOf}
+use Rattle.list_group_merges.specs.MergingBackwards.{mergedRecords, unionOf}
 use Rattle.list_group_merges.specs.MergingGroups.{groupsMergedAs, mergedOver}
 use Rattle.lists.proofs.GroupWords.{Words}
 use Rattle.lists.proofs.GroupValid.{right-whole}
-use Rattle.list_group_merges.proofs.WovenGroups.{merged-woven, union-over, union-fits}
+use Rattle.list_group_merges.proofs.WalkedGroups.{merged-walked, union-over, union-fits}
 
 -- as many records as a buffer has room for
 pub room-for : (room w n : ℕ) → n ≤ room / w → n * w ≤ room
@@ -87,15 +87,15 @@ module _ (g : ℕ) (kept : List ℕ) (used : ℕ) (list : List ℕ) (u : used �
           (rw (p .0, t), rw (p .0, t))
 
       pub merge-words : n ≤ length kept / (g + totalsWidth) → (after : List ℕ)
-          → after ≡ woven g kept list (used / (g + totalsWidth)) (length list / (g + totalsWidth)) ++ drop (n * (g + totalsWidth)) kept
+          → after ≡ mergedRecords g kept list (used / (g + totalsWidth)) (length list / (g + totalsWidth)) ++ drop (n * (g + totalsWidth)) kept
           → (answers.Words (n * (g + totalsWidth)) ≡ groupsMergedAs fit result kept) × (after ≡ mergedOver fit result kept)
       merge-words l after a =
           let p = union-of n h in
           let r = right vs m e in
           let s = room-for (length kept) (g + totalsWidth) n l in
           let t = le-leb (length result) (length kept) (omega arith) in
-          let w : result ≡ woven g kept list (used / (g + totalsWidth)) (length list / (g + totalsWidth)) =
-          merged-woven vs m kept used list u words-kept words-list (r .0) (r .1)
-          ∙ ap (λ k. woven k kept list (used / (k + totalsWidth)) (length list / (k + totalsWidth))) e in
+          let w : result ≡ mergedRecords g kept list (used / (g + totalsWidth)) (length list / (g + totalsWidth)) =
+          merged-walked vs m kept used list u words-kept words-list (r .0) (r .1)
+          ∙ ap (λ k. mergedRecords k kept list (used / (k + totalsWidth)) (length list / (k + totalsWidth))) e in
           let o : after ≡ result ++ drop (length result) kept = a ∙ ap₂ (λ k j. k ++ drop j kept) (sym w) (sym (p .1)) in
           (rw (p .0, t, p .1), o ∙ rw (p .0, t))

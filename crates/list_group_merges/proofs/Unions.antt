@@ -11,7 +11,7 @@ use Rattle.lists.specs.declared.Comes.the-variants.{Before, Same, After}
 use Rattle.list_group_merges.specs.declared.Union.{Union}
 use Rattle.list_group_merges.specs.declared.Union.the-variants.{Records, Overflows}
 use Rattle.lists.specs.Groups.{totalsWidth}
-use Rattle.list_group_merges.specs.Weaving.{walked, recordAt, pickAt, sides, joinFits, moreBy, countWalk, unionOf}
+use Rattle.list_group_merges.specs.MergingBackwards.{walked, recordAt, pickAt, sides, joinFits, moreBy, countWalk, unionOf}
 use Rattle.list_group_merges.proofs.BackWalks.{stepBy, walk-end}
 use Rattle.list_group_merges.proofs.WalkSteps.{mul-small, oldLeft, newLeft, WalkStepped, stepped, walk-steps}
 

@@ -11,7 +11,7 @@ use Rattle.lists.specs.declared.Comes.the-variants.{Before, Same, After}
 use Rattle.lists.specs.Groups.{totalsWidth}
 use Rattle.list_groups.specs.Keys.{keysFirst}
 use Rattle.lists.specs.Sides.{sideBy}
-use Rattle.list_group_merges.specs.Weaving.{bySide, BackWalk, walked, pickAt, sides}
+use Rattle.list_group_merges.specs.MergingBackwards.{bySide, BackWalk, walked, pickAt, sides}
 use Rattle.list_group_merges.proofs.BackWalks.{Goes, new, both, old, stepBy, walk-goes}
 
 -- ---- which record is the last

@@ -1,2 +1,2 @@
-pub mod Weaving
+pub mod MergingBackwards
 pub mod MergingGroups

@@ -14,7 +14,7 @@ use Rattle.plans.specs.Endings.{group}
 use Rattle.lists.specs.Groups.{totalsWidth}
 use Rattle.lists.specs.Gathering.{merged, listRight, totalsFit}
 use Rattle.lists.specs.Putting.{putOver}
-use Rattle.list_group_merges.specs.Weaving.{bySide, recordAt, joinWords, joinFits}
+use Rattle.list_group_merges.specs.MergingBackwards.{bySide, recordAt, joinWords, joinFits}
 
 -- by whether the totals fit and by the merged list
 abbrev pub groupsMergedAs : Bool → List ℕ → List ℕ → Merged
@@ -35,15 +35,15 @@ AddsGroups g kept list before after answer =
     → (answer ≡ groupsMergedAs (totalsFit (group vs m) kept list) (merged (group vs m) kept list) before)
     × (after ≡ mergedOver (totalsFit (group vs m) kept list) (merged (group vs m) kept list) before)
 
--- the last record of both lists, of which one ends at x and the other at y, by the side that tells which it is
+-- the last record of both lists, of which one ends at `x` and the other at `y`, by the side `s` that tells which it is
 abbrev pub lastRecord : ℕ → List ℕ → ℕ → List ℕ → ℕ → Comes → List ℕ
 lastRecord g a x b y s =
     bySide s (recordAt g b (y - (g + totalsWidth)))
     (joinWords g (recordAt g a (x - (g + totalsWidth))) (recordAt g b (y - (g + totalsWidth))))
     (recordAt g a (x - (g + totalsWidth)))
 
--- it can be laid at a word, above the records that are left
-pub record Lays (g : ℕ) (a : List ℕ) (x : ℕ) (b : List ℕ) (y to : ℕ) (s : Comes) : Type 0 where
+-- it can be put at the word `to`, above the records that are left
+pub record CanPut (g : ℕ) (a : List ℕ) (x : ℕ) (b : List ℕ) (y to : ℕ) (s : Comes) : Type 0 where
   pub new-there : g + totalsWidth ≤ y
   pub new-inside : y ≤ length b
   pub room : to + (g + totalsWidth) ≤ length a

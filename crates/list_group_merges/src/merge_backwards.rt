@@ -17,10 +17,10 @@ ghost use lib.ListN.{length, take, drop};
 ghost use Rattle.plans.specs.Endings.{mostGroupVariables};
 ghost use Rattle.list_group_merges.specs.declared.Union.the-variants.{Records};
 ghost use Rattle.lists.specs.Groups.{totalsWidth};
-ghost use Rattle.list_group_merges.specs.Weaving.{recordAt, pickAt, joinWords, joinFits, woven, unionOf};
-ghost use Rattle.list_group_merges.specs.MergingGroups.{BothGroups, AddsGroups, lastRecord, Lays};
+ghost use Rattle.list_group_merges.specs.MergingBackwards.{recordAt, pickAt, joinWords, joinFits, mergedRecords, unionOf};
+ghost use Rattle.list_group_merges.specs.MergingGroups.{BothGroups, AddsGroups, lastRecord, CanPut};
 
-// Where the kept record that ends at x stands against the list's that ends at y; no kept record comes before all.
+// Where the kept record that ends at `x` stands against the record of `list` that ends at `y`; before it, where no kept record is left.
 fn pick(g: usize, kept: &[u32], x: usize, list: &[u32], y: usize) -> Comes
     requires { ⌜ (g ≤ mostGroupVariables) × (x ≤ length (now kept)) × (x < g + totalsWidth → x ≡ 0) × (y ≤ length (now list))
         × (g + totalsWidth ≤ y) ⌝ }
@@ -37,7 +37,7 @@ fn pick(g: usize, kept: &[u32], x: usize, list: &[u32], y: usize) -> Comes
     by_group(&kept[old..old_end], &list[new..new_end])
 }
 
-// Whether the totals of the kept record at x and the list's at y fit together.
+// Whether the totals of the kept record at `x` and of the record of `list` at `y` fit together.
 fn join_fits(g: usize, kept: &[u32], x: usize, list: &[u32], y: usize) -> bool
     requires { ⌜ (g ≤ mostGroupVariables) × (x + (g + totalsWidth) ≤ length (now kept)) × (y + (g + totalsWidth) ≤ length (now list)) ⌝ }
     ensures { λ r. ⌜ r ≡ joinFits g (recordAt g (now (kept .entry)) x) (recordAt g (now (list .entry)) y) ⌝ }
@@ -52,7 +52,7 @@ fn join_fits(g: usize, kept: &[u32], x: usize, list: &[u32], y: usize) -> bool
     )
 }
 
-// Counts the records of both lists merged, the kept one being the first words, so many, of a buffer; or a total overflows.
+// Counts the records that `list` makes merged with the first `used` words of `kept`, or says that a total overflows.
 fn union_of(g: usize, kept: &[u32], used: usize, list: &[u32]) -> Union
     requires { ⌜ (g ≤ mostGroupVariables) × (used ≤ length (now kept)) × (used % (g + totalsWidth) ≡ 0)
         × (length (now list) % (g + totalsWidth) ≡ 0) ⌝ }
@@ -84,7 +84,7 @@ fn union_of(g: usize, kept: &[u32], used: usize, list: &[u32]) -> Union
     Union::Records(n + x / w)
 }
 
-// Moves a record of w words up in the buffer.
+// Moves the record of `w` words at `from` up to `to` in `kept`.
 fn move_record(kept: &mut [u32], from: usize, to: usize, w: usize)
     requires { ⌜ (from ≤ to) × (to + w ≤ length (now kept)) ⌝ }
     ensures { λ _. ⌜ now (kept .exit) ≡ take to (now (kept .entry)) ++ (take w (drop from (now (kept .entry))) ++ drop (to + w) (now (kept .entry))) ⌝ }
@@ -92,8 +92,8 @@ fn move_record(kept: &mut [u32], from: usize, to: usize, w: usize)
     shift(kept, from, from + w, to - from);
 }
 
-// Moves a record up in the buffer and adds another of its group.
-fn lay_both(g: usize, kept: &mut [u32], from: usize, to: usize, more: &[u32])
+// Moves the record at `from` up to `to` in `kept`, and adds `more` to it, a record of the same group.
+fn merge_record(g: usize, kept: &mut [u32], from: usize, to: usize, more: &[u32])
     requires { ⌜ (g ≤ mostGroupVariables) × (from ≤ to) × (to + (g + totalsWidth) ≤ length (now kept))
         × (length (now more) ≡ g + totalsWidth) × (joinFits g (recordAt g (now kept) from) (now more) ≡ true) ⌝ }
     ensures { λ _. ⌜ now (kept .exit) ≡ take to (now (kept .entry))
@@ -106,9 +106,9 @@ fn lay_both(g: usize, kept: &mut [u32], from: usize, to: usize, more: &[u32])
     add_totals(&mut kept[totals..end], t);
 }
 
-// Puts the last record of both lists at a word.
+// Puts at `to` the last of the records that end at `x` and at `y`, or the two added up if they are of the same group, as `side` says.
 fn put_record(g: usize, kept: &mut [u32], x: usize, list: &[u32], y: usize, to: usize, side: Comes)
-    requires { ⌜ (g ≤ mostGroupVariables) × Lays g (now kept) x (now list) y to side ⌝ }
+    requires { ⌜ (g ≤ mostGroupVariables) × CanPut g (now kept) x (now list) y to side ⌝ }
     ensures { λ _. ⌜ now (kept .exit) ≡ take to (now (kept .entry))
         ++ (lastRecord g (now (kept .entry)) x (now (list .entry)) y side ++ drop (to + (g + totalsWidth)) (now (kept .entry))) ⌝ }
 {
@@ -119,7 +119,7 @@ fn put_record(g: usize, kept: &mut [u32], x: usize, list: &[u32], y: usize, to: 
             copy_in(kept, to, &list[new..y]);
         }
         Comes::Same => {
-            lay_both(g, kept, x - w, to, &list[new..y]);
+            merge_record(g, kept, x - w, to, &list[new..y]);
         }
         Comes::After => {
             move_record(kept, x - w, to, w);
@@ -127,7 +127,7 @@ fn put_record(g: usize, kept: &mut [u32], x: usize, list: &[u32], y: usize, to: 
     }
 }
 
-// Merges a list into the kept one, the first words of a buffer, so many: the merged list has this many words.
+// Merges `list` into the first `used` words of `kept`; the merged list has `words` words.
 fn merge_backwards(g: usize, kept: &mut [u32], used: usize, list: &[u32], words: usize)
     requires { ⌜ (g ≤ mostGroupVariables) × (used ≤ length (now kept)) × (used % (g + totalsWidth) ≡ 0)
         × (length (now list) % (g + totalsWidth) ≡ 0) × (words ≤ length (now kept))
@@ -135,7 +135,7 @@ fn merge_backwards(g: usize, kept: &mut [u32], used: usize, list: &[u32], words:
         ≡ Records (words / (g + totalsWidth)))
         × (words % (g + totalsWidth) ≡ 0) ⌝ }
     ensures { λ _. ⌜ now (kept .exit)
-        ≡ woven g (now (kept .entry)) (now (list .entry)) (used / (g + totalsWidth)) (length (now (list .entry)) / (g + totalsWidth))
+        ≡ mergedRecords g (now (kept .entry)) (now (list .entry)) (used / (g + totalsWidth)) (length (now (list .entry)) / (g + totalsWidth))
         ++ drop words (now (kept .entry)) ⌝ }
 {
     let w = g + TOTALS;
@@ -161,7 +161,7 @@ fn merge_backwards(g: usize, kept: &mut [u32], used: usize, list: &[u32], words:
     }
 }
 
-// Adds the groups of a list to the kept ones, which are the first words of a buffer, so many.
+// Adds the groups of `list` to the kept ones, which are the first `used` words of `kept`.
 pub fn merge_groups(g: usize, kept: &mut [u32], used: usize, list: &[u32]) -> Merged
     requires { ⌜ (g ≤ mostGroupVariables) × (used ≤ length (now kept)) × BothGroups g (take used (now kept)) (now list) ⌝ }
     ensures { λ r. ⌜ AddsGroups g (take used (now (kept .entry))) (now (list .entry)) (now (kept .entry)) (now (kept .exit)) r ⌝ }

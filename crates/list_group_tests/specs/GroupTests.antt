@@ -10,11 +10,11 @@ use Rattle.lists.specs.Gathering.{extremesRight}
 use Rattle.list_group_totals.specs.GroupTotals.{groupWith}
 use Rattle.list_groups.specs.Keys.{keysFirst}
 
--- the totals of a record that counts so many rows at least
+-- the totals of a record that counts `least` rows or more
 abbrev pub totalsRight : ℕ → Totals → Bool
 totalsRight least t = leb least (t .rows) && (leb (t .numbers) (t .rows) && extremesRight (groupWith [] t))
 
--- the keys of the record at a word come after those of the one before it, if there is one
+-- the keys of the record at `at` come after those of the one before it, if there is one
 abbrev pub followsAt : ℕ → List ℕ → ℕ → Bool
 followsAt g list at =
     cond (eqb at 0) true (keysFirst (take g (drop (at - (g + totalsWidth)) list)) (take g (drop at list)))

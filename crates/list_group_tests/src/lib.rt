@@ -16,7 +16,7 @@ ghost use Rattle.lists.specs.Gathering.{extremesRight, leastRows, groupRight, l
 ghost use Rattle.list_group_totals.specs.GroupTotals.{groupWith};
 ghost use Rattle.list_group_tests.specs.GroupTests.{totalsRight, followsAt};
 
-// Whether sum, least and greatest can be those of so many numbers.
+// Whether the sum, the least and the greatest of `t` can be those of as many numbers as it counts.
 fn extremes_right(t: Totals) -> bool
     ensures { λ r. ⌜ r ≡ extremesRight (groupWith [] t) ⌝ }
 {
@@ -38,7 +38,7 @@ fn extremes_right(t: Totals) -> bool
     Term(t.least).value_rank() <= Term(t.greatest).value_rank()
 }
 
-// The rows that a record with so many keys counts at least: with no key it may be the record of no rows.
+// The fewest rows that a record with `keys` keys counts: with no key it may be the record of no rows.
 fn least_rows(keys: usize) -> u64
     ensures { λ r. ⌜ r ≡ leastRows keys ⌝ }
 {
@@ -48,7 +48,7 @@ fn least_rows(keys: usize) -> u64
     1
 }
 
-// Whether totals are those of so many rows or more.
+// Whether `t` can be the totals of `least` rows or more.
 fn totals_right(least: u64, t: Totals) -> bool
     ensures { λ r. ⌜ r ≡ totalsRight least t ⌝ }
 {
@@ -61,7 +61,7 @@ fn totals_right(least: u64, t: Totals) -> bool
     extremes_right(t)
 }
 
-// Whether the record at a word has values for its keys and right totals.
+// Whether the record at `at` has values for its `g` keys and right totals.
 fn record_right(g: usize, list: &[u32], at: usize) -> bool
     requires { ⌜ (g ≤ mostGroupVariables) × (at + (g + totalsWidth) ≤ length (now list)) ⌝ }
     ensures { λ r. ⌜ r ≡ groupRight (groupIn g (take (g + totalsWidth) (drop at (now (list .entry))))) ⌝ }
@@ -75,7 +75,7 @@ fn record_right(g: usize, list: &[u32], at: usize) -> bool
     totals_right(least, read_totals(&list[mid..end]))
 }
 
-// Whether the record at a word comes after the one before it, if there is one.
+// Whether the record at `at` comes after the one before it, if there is one.
 fn follows(g: usize, list: &[u32], at: usize) -> bool
     requires { ⌜ (g ≤ mostGroupVariables) × (at + (g + totalsWidth) ≤ length (now list)) × (at < g + totalsWidth → at ≡ 0) ⌝ }
     ensures { λ r. ⌜ r ≡ followsAt g (now (list .entry)) at ⌝ }
@@ -93,7 +93,7 @@ fn follows(g: usize, list: &[u32], at: usize) -> bool
     }
 }
 
-// Whether a list is one of groups with g keys.
+// Whether `list` is a list of groups with `g` keys.
 pub fn is_groups(g: usize, list: &[u32]) -> bool
     requires { ⌜ g ≤ mostGroupVariables ⌝ }
     ensures { λ r. ⌜ ((vs : List ℕ) (m : ℕ) → length vs ≡ g → r ≡ listRight (group vs m) (now (list .entry))) ⌝ }

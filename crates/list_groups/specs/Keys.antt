@@ -5,6 +5,6 @@ use mathlib.Core.List.{List, map}
 use Rattle.words.specs.Words.{keyRank}
 use Rattle.sequences.specs.Sequences.{lexBefore}
 
--- keys come before others in the order of keys, from the first key on
+-- the keys `x` come before the keys `y` in the order of keys, from the first key on
 abbrev pub keysFirst : List ℕ → List ℕ → Bool
 keysFirst x y = lexBefore (map keyRank x) (map keyRank y)

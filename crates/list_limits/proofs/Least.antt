@@ -13,9 +13,9 @@ use Rattle.words.specs.Words.{lowNumbers, kind, low, rowsKind}
 use Rattle.words.specs.Tests.{firstFailing, numberOf}
 use Rattle.plans.specs.declared.EndingKind.{EndingKind}
 use Rattle.plans.specs.declared.EndingKind.the-variants.{Rows, Top, Group, Registers, Invalid}
-use Rattle.plans.specs.Endings.{Ending, mostRowVariables, defaultBest, bestCount, rowWidth, lastOf, endingAs, endingAt}
+use Rattle.plans.specs.Endings.{Ending, mostRowVariables, defaultBest, bestCount, rowWidth, endingKindOf, endingAs, endingAt}
 use Rattle.plans.specs.Plans.{planOf, planTests}
-use Rattle.plans.specs.Reading.{lastIn, variablesIn, bestIn}
+use Rattle.plans.specs.Reading.{endingKindIn, variablesIn, bestIn}
 use Rattle.registers.specs.Registers.{registerCount}
 use Rattle.lists.specs.Groups.{totalsWidth}
 use Rattle.lists.specs.Gathering.{leastOutput}
@@ -25,16 +25,16 @@ use Rattle.plan_tests.proofs.Checked.{check-passes, check-refuses}
 
 -- ---- the words that an output has at least
 module _ (e : Ending) (vs : List ℕ) (ev : vs ≡ variablesIn e) where
-  pub least-rows : lastIn e ≡ Rows → length vs ≡ leastOutput e
+  pub least-rows : endingKindIn e ≡ Rows → length vs ≡ leastOutput e
   least-rows h = rw (is-rows e h, ev)
 
-  pub least-top : lastIn e ≡ Top → (k : ℕ) → k ≡ bestIn e → k * length vs ≡ leastOutput e
+  pub least-top : endingKindIn e ≡ Top → (k : ℕ) → k ≡ bestIn e → k * length vs ≡ leastOutput e
   least-top h k ek = rw (is-top e h, ek, ev)
 
-  pub least-group : lastIn e ≡ Group → length vs + totalsWidth ≡ leastOutput e
+  pub least-group : endingKindIn e ≡ Group → length vs + totalsWidth ≡ leastOutput e
   least-group h = rw (is-group e h, ev)
 
-pub least-registers : (e : Ending) → lastIn e ≡ Registers → registerCount ≡ leastOutput e
+pub least-registers : (e : Ending) → endingKindIn e ≡ Registers → registerCount ≡ leastOutput e
 least-registers e h = sym (ap leastOutput (is-registers e h))
 
 -- at most 16 variables, and a k that a word holds, so the product is small
@@ -53,7 +53,7 @@ best-few w = go (eqb (low w) 0)
     go true = omega arith
     go false = omega arith
 
-top-small : (l : EndingKind) (ws : List ℕ) → lastIn (endingAs l ws) ≡ Top
+top-small : (l : EndingKind) (ws : List ℕ) → endingKindIn (endingAs l ws) ≡ Top
     → (bestIn (endingAs l ws) ≤ lowNumbers) × (length (variablesIn (endingAs l ws)) ≤ mostRowVariables)
 unfolding endingAs
 top-small Rows ws h = absurd (let z : _≡_ {A = ℕ} 0 1 = cc in omega arith)
@@ -64,10 +64,10 @@ top-small Group ws h = absurd (let z : _≡_ {A = ℕ} 0 1 = cc in omega arith)
 top-small Registers ws h = absurd (let z : _≡_ {A = ℕ} 0 1 = cc in omega arith)
 top-small Invalid ws h = absurd (let z : _≡_ {A = ℕ} 0 1 = cc in omega arith)
 
-pub top-fits : (ws vs : List ℕ) (k : ℕ) → vs ≡ variablesIn (endingAt ws) → k ≡ bestIn (endingAt ws) → lastIn (endingAt ws) ≡ Top
+pub top-fits : (ws vs : List ℕ) (k : ℕ) → vs ≡ variablesIn (endingAt ws) → k ≡ bestIn (endingAt ws) → endingKindIn (endingAt ws) ≡ Top
     → k * length vs ≤ lowNumbers * mostRowVariables
 top-fits ws vs k ev ek h =
-    let s = top-small (lastOf (getD ws 0 0)) ws h in
+    let s = top-small (endingKindOf (getD ws 0 0)) ws h in
     let a : k ≤ lowNumbers = rw ek (s .0) in
     let b : length vs ≤ mostRowVariables = rw ev (s .1) in
     mul-le-mul a b

@@ -10,7 +10,7 @@ ghost use Rattle.list_limits.specs.PlanOutputs.{planOutput};
 // That a plan passes its tests.
 pub const ACCEPTED: u32 = 0;
 
-// The words that an output has at least: one row, k rows, one record, all registers.
+// The fewest words that an output may have for `ending`: those of one row, of k rows, of one record, or of all registers.
 pub fn least_output(ending: &[u32]) -> usize
     requires { ⌜ endingForm (now ending) ≡ true ⌝ }
     ensures { λ r. ⌜ r ≡ leastOutput (endingAt (now (ending .entry))) ⌝ }
@@ -25,7 +25,7 @@ pub fn least_output(ending: &[u32]) -> usize
     }
 }
 
-// The words that an output has at least for a plan, or the number of the test that refuses the plan.
+// The fewest words that an output may have for `plan`, or the number of the test that refuses the plan.
 pub fn plan_output(plan: &[u32]) -> Written
     ensures { λ r. ⌜ r ≡ planOutput (now (plan .entry)) ⌝ }
 {

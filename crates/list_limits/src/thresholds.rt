@@ -5,7 +5,7 @@ ghost use mathlib.Core.Bool.{true};
 ghost use Rattle.plans.specs.Endings.{endingForm, endingAt};
 ghost use Rattle.lists.specs.Gathering.{thresholdRight};
 
-// Test 11: a threshold is empty, or one row for a best-of ending.
+// Test 11: `threshold` is empty, or one row for a best-of ending.
 pub fn threshold_right(ending: &[u32], threshold: &[u32]) -> bool
     requires { ⌜ endingForm (now ending) ≡ true ⌝ }
     ensures { λ r. ⌜ r ≡ thresholdRight (endingAt (now (ending .entry))) (now (threshold .entry)) ⌝ }

@@ -9,14 +9,14 @@ ghost use Rattle.lists.specs.Sums.{longValues};
 // How many values a word has.
 const WORD_VALUES: u64 = 0x1_0000_0000;
 
-// A word as a number of 64 bits.
+// `x` as a number of 64 bits.
 pub fn long(x: u32) -> u64
     ensures { λ r. ⌜ (r ≡ x) × (r < wordValues) ⌝ }
 {
     x as u64
 }
 
-// The number in the two words from `at` on.
+// The number in the two words of `s` from `at` on.
 pub fn read64(s: &[u32], at: usize) -> u64
     requires { ⌜ at + 2 ≤ length (now s) ⌝ }
     ensures { λ r. ⌜ r ≡ pairAt (now (s .entry)) at ⌝ }
@@ -26,7 +26,7 @@ pub fn read64(s: &[u32], at: usize) -> u64
     long(low) + WORD_VALUES * long(high)
 }
 
-// Writes a number to the two words from `at` on.
+// Writes `x` to the two words of `s` from `at` on.
 pub fn write64(s: &mut [u32], at: usize, x: u64)
     requires { ⌜ at + 2 ≤ length (now s) ⌝ }
     ensures { λ _. ⌜ now (s .exit) ≡ set (set (now (s .entry)) at (x % wordValues)) (suc at) (x / wordValues) ⌝ }
@@ -35,7 +35,7 @@ pub fn write64(s: &mut [u32], at: usize, x: u64)
     s[at + 1] = (x / WORD_VALUES) as u32;
 }
 
-// Whether the sum of two numbers is below 2^64.
+// Whether the sum of `x` and `y` is below 2^64.
 pub fn fits(x: u64, y: u64) -> bool
     ensures { λ r. ⌜ r ≡ ltb (x + y) longValues ⌝ }
 {

@@ -13,7 +13,7 @@ const HALF_LONGS: u64 = 0x8000_0000_0000_0000;
 // The bits above a number's 30, of one below zero.
 const SIGN_BITS: u64 = 0xFFFF_FFFF_C000_0000;
 
-// The 64 bits of what a number counts for.
+// The 64 bits of what the number `word` counts for.
 pub fn sum_of(word: u32) -> u64
     ensures { λ r. ⌜ r ≡ sumBits (numberValue word) ⌝ }
 {
@@ -24,7 +24,7 @@ pub fn sum_of(word: u32) -> u64
     SIGN_BITS + long(value)
 }
 
-// Whether two sums together are from -2^63 to 2^63 - 1: those of one sign may leave that range.
+// Whether `x` and `y` together are from -2^63 to 2^63 - 1: two sums of one sign may leave that range.
 pub fn sums_fit(x: u64, y: u64) -> bool
     ensures { λ r. ⌜ r ≡ sumFits (sumIn x +ℤ sumIn y) ⌝ }
 {

@@ -9,5 +9,5 @@ pub use tests::kept_registers;
 pub use values::no_values;
 pub use values::put_counted;
 
-// How many there are.
+// How many registers there are.
 pub const REGISTERS: usize = 16;

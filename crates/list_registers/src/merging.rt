@@ -7,7 +7,7 @@ ghost use lib.ListN.{length, take};
 ghost use Rattle.sequences.specs.Sequences.{over};
 ghost use Rattle.registers.specs.Registers.{registerCount, registersIn, greaterOf, keptRegisters};
 
-// The greater of each, in place.
+// Raises each register of `kept` to that of `list`, if this is the greater.
 fn merge_each(kept: &mut [u32], list: &[u32])
     requires { ⌜ length (now list) ≤ length (now kept) ⌝ }
     ensures { λ _. ⌜ now (kept .exit) ≡ over (greaterOf (take (length (now (list .entry))) (now (kept .entry))) (now (list .entry)))
@@ -21,7 +21,7 @@ fn merge_each(kept: &mut [u32], list: &[u32])
     }
 }
 
-// Merges a list of 16 into a kept one, which is empty or has 16: an empty one has nothing to compare with.
+// Merges the 16 registers of `list` into the first `given` words of `kept`, none or 16: where there are none there is nothing to compare with.
 pub fn merge_registers(kept: &mut [u32], given: usize, list: &[u32]) -> usize
     requires { ⌜ (length (now list) ≡ registerCount) × (registerCount ≤ length (now kept)) ⌝ }
     requires { ⌜ (given ≤ length (now kept)) × (keptRegisters (take given (now kept)) ≡ true) ⌝ }

@@ -6,7 +6,7 @@ ghost use Rattle.registers.specs.Registers.{isRank, areRegisters, keptRegisters
 
 const MOST_RANK: u32 = 61;
 
-// Whether no register is above 61.
+// Whether no register of `list` is above 61.
 fn in_range(list: &[u32]) -> bool
     ensures { λ r. ⌜ r ≡ all isRank (now (list .entry)) ⌝ }
 {
@@ -20,7 +20,7 @@ fn in_range(list: &[u32]) -> bool
     true
 }
 
-// Whether a turn's list has all 16, and none too great.
+// Whether `list`, a turn's, has all 16, and none too great.
 pub fn are_registers(list: &[u32]) -> bool
     ensures { λ r. ⌜ r ≡ areRegisters (now (list .entry)) ⌝ }
 {
@@ -30,7 +30,7 @@ pub fn are_registers(list: &[u32]) -> bool
     false
 }
 
-// Whether a kept list is empty or has all 16.
+// Whether `list`, a kept one, is empty or has all 16.
 pub fn kept_registers(list: &[u32]) -> bool
     ensures { λ r. ⌜ r ≡ keptRegisters (now (list .entry)) ⌝ }
 {

@@ -12,7 +12,7 @@ ghost use Rattle.registers.specs.Registers.{registerCount, registersOf, greater
 ghost use Rattle.lists.specs.Delivering.{withValue, withRow};
 ghost use Rattle.lists.specs.Putting.{Taken};
 
-// The greater of two numbers.
+// The greater of `a` and `b`.
 pub fn greater(a: u32, b: u32) -> u32
     ensures { λ r. ⌜ r ≡ max a b ⌝ }
 {
@@ -22,7 +22,7 @@ pub fn greater(a: u32, b: u32) -> u32
     a
 }
 
-// Writes the registers of no values: all of them, each 0.
+// Writes the registers of no values to `out`: all of them, each 0.
 pub fn no_values(out: &mut [u32]) -> usize
     requires { ⌜ registerCount ≤ length (now out) ⌝ }
     ensures { λ r. ⌜ (r ≡ length (registersOf [])) × (now (out .exit) ≡ over (registersOf []) (now (out .entry))) ⌝ }
@@ -35,7 +35,7 @@ pub fn no_values(out: &mut [u32]) -> usize
     REGISTERS
 }
 
-// Raises the register that a value picks to what the value gives it.
+// Raises the register that `value` picks to the rank that `value` gives it.
 fn raise(value: u32, out: &mut [u32])
     requires { ⌜ registerCount ≤ length (now out) ⌝ }
     ensures { λ _. ⌜ now (out .exit) ≡ over (greaterOf (take registerCount (now (out .entry))) (registersOf (value ∷ []))) (now (out .entry)) ⌝ }
@@ -46,7 +46,7 @@ fn raise(value: u32, out: &mut [u32])
     out[at] = g;
 }
 
-// One value more: a value that is not bound counts for nothing.
+// Takes up `value`: one that is not bound counts for nothing.
 fn put_value(value: u32, out: &mut [u32])
     requires { ⌜ registerCount ≤ length (now out) ⌝ }
     ensures { λ _. ⌜ now (out .exit) ≡ over (withValue (take registerCount (now (out .entry))) value) (now (out .entry)) ⌝ }
@@ -56,7 +56,7 @@ fn put_value(value: u32, out: &mut [u32])
     }
 }
 
-// Takes up the value that a row has for the counted variable.
+// Takes up the value that the row in `bound` has for `variable`, the counted one.
 pub fn put_counted(variable: u32, bound: &[u32; 16], out: &mut [u32], used: usize) -> Put
     requires { ⌜ (used ≡ registerCount) × (registerCount ≤ length (now out)) ⌝ }
     ensures { λ r. ⌜ Taken (withRow (registers variable) [] (take used (now (out .entry))) (now (bound .entry))) (now (out .entry))

@@ -10,7 +10,7 @@ ghost use Rattle.sequences.specs.Sequences.{all};
 ghost use Rattle.plans.specs.Endings.{keyAmong};
 ghost use Rattle.lists.specs.Rows.{indexOf, rankBy, rowBefore};
 
-// The place of a term by a key: a falling key reverses the order of keys.
+// The rank of `word` by `key`: a falling key reverses the order of keys.
 pub fn rank_by(key: u32, word: u32) -> u32
     ensures { λ r. ⌜ r ≡ rankBy key word ⌝ }
 {
@@ -21,7 +21,7 @@ pub fn rank_by(key: u32, word: u32) -> u32
     rank
 }
 
-// Where a word stands among others, or their number where it is not there.
+// Where `word` stands among `words`, or their number where it is not there.
 fn index_of(word: u32, words: &[u32]) -> usize
     ensures { λ r. ⌜ r ≡ indexOf word (now (words .entry)) ⌝ }
 {
@@ -35,7 +35,7 @@ fn index_of(word: u32, words: &[u32]) -> usize
     i
 }
 
-// The column of a row that has the value of a key's variable.
+// The column of a row with the variables `vars` that has the value of the variable of `key`.
 pub fn column_of(vars: &[u32], key: u32) -> usize
     ensures { λ r. ⌜ r ≡ indexOf (variable (low key)) (now (vars .entry)) ⌝ }
 {
@@ -43,7 +43,7 @@ pub fn column_of(vars: &[u32], key: u32) -> usize
     index_of(variable.0, vars)
 }
 
-// Whether row a comes strictly before row b by the keys, the first key that tells them apart deciding.
+// Whether row `a` comes strictly before row `b` by `keys`, the first key that tells them apart deciding.
 pub fn comes_before(vars: &[u32], keys: &[u32], a: &[u32], b: &[u32]) -> bool
     requires { ⌜ (all (keyAmong (now vars)) (now keys) ≡ true) × (length (now vars) ≤ length (now a)) × (length (now vars) ≤ length (now b)) ⌝ }
     ensures { λ r. ⌜ r ≡ rowBefore (now (vars .entry)) (now (keys .entry)) (now (a .entry)) (now (b .entry)) ⌝ }

@@ -13,7 +13,7 @@ ghost use Rattle.lists.specs.Rows.{project};
 ghost use Rattle.lists.specs.Delivering.{withRow};
 ghost use Rattle.lists.specs.Putting.{Taken};
 
-// Writes the row of some variables to a buffer from a place on.
+// Writes the row of the variables `vars` to `buf`, from `at` on.
 fn write_row(vars: &[u32], bound: &[u32; 16], buf: &mut [u32], at: usize)
     requires { ⌜ at + length (now vars) ≤ length (now buf) ⌝ }
     ensures { λ _. ⌜ now (buf .exit) ≡ paste (now (buf .entry)) at (project (now (vars .entry)) (now (bound .entry))) (length (now (vars .entry))) ⌝ }
@@ -26,7 +26,7 @@ fn write_row(vars: &[u32], bound: &[u32; 16], buf: &mut [u32], at: usize)
     }
 }
 
-// The row of some variables, in front of an array of unbound words.
+// The row of the variables `vars`, in front of an array of unbound words.
 pub fn row_of(vars: &[u32], bound: &[u32; 16]) -> [u32; 16]
     requires { ⌜ length (now vars) ≤ mostRowVariables ⌝ }
     ensures { λ r. ⌜ r ≡ over (project (now (vars .entry)) (now (bound .entry))) nothingBound ⌝ }
@@ -36,7 +36,7 @@ pub fn row_of(vars: &[u32], bound: &[u32; 16]) -> [u32; 16]
     row
 }
 
-// Puts a row behind the first words of the output, so many, that are the list.
+// Puts the row of the variables `vars` behind the list that is the first `used` words of `out`.
 pub fn put_row(vars: &[u32], bound: &[u32; 16], out: &mut [u32], used: usize) -> Put
     requires { ⌜ used ≤ length (now out) ⌝ }
     ensures { λ r. ⌜ Taken (withRow (rows (now (vars .entry))) [] (take used (now (out .entry))) (now (bound .entry))) (now (out .entry))

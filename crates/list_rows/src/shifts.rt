@@ -5,7 +5,7 @@ ghost use Prim.Native.Nat.{_+_, _≤_};
 ghost use lib.ListN.{length};
 ghost use Rattle.lists.specs.Moves.{shifted, inserted};
 
-// Moves the words from a to e up by w.
+// Moves the words of `buf` from `a` on, below `e`, up by `w` places.
 pub fn shift(buf: &mut [u32], a: usize, e: usize, w: usize)
     requires { ⌜ (a ≤ e) × (e + w ≤ length (now buf)) ⌝ }
     ensures { λ _. ⌜ now (buf .exit) ≡ shifted (now (buf .entry)) a e w ⌝ }
@@ -18,7 +18,7 @@ pub fn shift(buf: &mut [u32], a: usize, e: usize, w: usize)
     }
 }
 
-// Puts some words in at a, before those that stand there up to e.
+// Puts `words` in at `a`, before those that stand there up to `e`.
 pub fn insert(buf: &mut [u32], a: usize, e: usize, words: &[u32])
     requires { ⌜ (a ≤ e) × (e + length (now words) ≤ length (now buf)) ⌝ }
     ensures { λ _. ⌜ now (buf .exit) ≡ inserted (now (buf .entry)) a e (now (words .entry)) ⌝ }

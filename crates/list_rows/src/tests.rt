@@ -8,7 +8,7 @@ ghost use Rattle.words.specs.Words.{isValue};
 ghost use Rattle.plans.specs.Endings.{rows, group, registers};
 ghost use Rattle.lists.specs.Gathering.{thresholdRight};
 
-// Whether each word is one that a delivered row may have.
+// Whether each word of `list` is one that a delivered row may have.
 pub fn is_values(list: &[u32]) -> bool
     ensures { λ r. ⌜ r ≡ all isValue (now (list .entry)) ⌝ }
 {
@@ -22,7 +22,7 @@ pub fn is_values(list: &[u32]) -> bool
     true
 }
 
-// Whether a threshold is right for an ending that has none: rows, groups, or registers.
+// Whether `threshold` is right for an ending that has none: rows, groups, or registers.
 pub fn no_threshold(threshold: &[u32]) -> bool
     ensures rows { λ r. ⌜ ((vs : List ℕ) → r ≡ thresholdRight (rows vs) (now (threshold .entry))) ⌝ }
     ensures groups { λ r. ⌜ ((vs : List ℕ) (m : ℕ) → r ≡ thresholdRight (group vs m) (now (threshold .entry))) ⌝ }

@@ -68,7 +68,7 @@ module _ (f : Group → ℕ) (adds : (g h : Group) → f (together g h) ≡ f g 
         each-weaken (λ g l. omega arith) (groupsOf vs m bs) (each-below (groupsOf vs m bs))
 
 -- ---- sums
--- so many numbers have a sum that is the difference of two naturals, neither further from zero than they can bring it
+-- the sum of `numbers` numbers is the difference of two naturals, neither further from zero than they can bring it
 pub record Within (numbers : ℕ) (sum : ℤ) : Type 0 where
   pub up : ℕ
   pub down : ℕ
@@ -115,7 +115,7 @@ groups-within vs m bs =
     (λ g h p q. within-both (g .numbers) (h .numbers) (g .sum) (h .sum) p q) [] (map (ofRow vs m) bs) tt
     (each-map (λ (g : Group). Within (g .numbers) (g .sum)) (ofRow vs m) (λ b. within-value (ofRow vs m b .keys) (valueOf b m)) bs)
 
--- ---- the totals of so many rows fit
+-- ---- the totals of that many rows fit
 -- numbers of 30 bits whose sum is sure to fit
 abbrev pub mostRows : ℕ
 mostRows = 0x4_0000_0000

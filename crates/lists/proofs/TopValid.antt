@@ -110,7 +110,7 @@ module _ (k : ℕ) (vs keys : List ℕ) where
       (each-append (λ (x : List ℕ). all isValue x ≡ true) (recordsIn (length vs) kept) (recordsIn (length vs) list)
       (right-values kept p) (right-values list q)))
 
--- rows: so many of them, so many words; and one row fits the least output
+-- the words of a list of rows are as many as its rows, times their width; and one row fits the least output
 pub length-rows : (vs threshold : List ℕ) (bs : List Bindings)
     → length (gathered (rows vs) threshold bs) ≡ length bs * length vs
 unfolding gathered

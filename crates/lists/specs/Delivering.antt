@@ -11,16 +11,16 @@ use Rattle.lists.specs.Rows.{project, hasValue, rowBefore}
 use Rattle.lists.specs.Groups.{ofRow, addBy, keysBefore, together, groupWords}
 use Rattle.lists.specs.Gathering.{recordsIn, groupsIn}
 
--- a row comes strictly before a threshold, or there is none
+-- the row `x` comes strictly before the threshold, or there is none
 abbrev pub isAhead : (List ℕ → List ℕ → Bool) → List ℕ → List ℕ → Bool
 isAhead before [] x = true
 isAhead before (w ∷ ws) x = before x (w ∷ ws)
 
--- a row put in among the best k
+-- `row` put in among the best `k`
 abbrev pub withBest : ℕ → List ℕ → List ℕ → List ℕ → List ℕ → List ℕ
 withBest k vs keys list row = flatten (take k (insertBy (rowBefore vs keys) row (recordsIn (length vs) list)))
 
--- a value's own registers taken in, where it is bound
+-- the registers of the value `x` taken in, where it is bound
 abbrev pub withValue : List ℕ → ℕ → List ℕ
 withValue list x = cond (hasValue x) (greaterOf list (registersOf (x ∷ []))) list
 

@@ -30,7 +30,7 @@ width (top k vs keys) = length vs
 width (group vs m) = length vs + totalsWidth
 width (registers v) = registerCount
 
--- a list cut into rows or records
+-- a list cut into rows or records of `w` words
 unfoldable pub recordsIn : ℕ → List ℕ → List (List ℕ)
 recordsIn w ws = parts w (length ws / w) ws
 
@@ -84,7 +84,7 @@ extremesRight g =
     (isZero (g .sum) && (eqb (g .least) unbound && eqb (g .greatest) unbound))
     (isNumber (g .least) && (isNumber (g .greatest) && leb (valueRank (g .least)) (valueRank (g .greatest))))
 
--- the rows that a record with so many keys counts at least: with no key there is one group always, even of no rows
+-- the fewest rows that a record counts, by the number of its keys: with no key there is one group always, even of no rows
 abbrev pub leastRows : ℕ → ℕ
 leastRows zero = 0
 leastRows (suc n) = 1

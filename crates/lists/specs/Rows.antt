@@ -20,23 +20,23 @@ abbrev pub boundValues : ℕ → List Bindings → List ℕ
 boundValues v bs = keep hasValue (map (λ b. valueOf b v) bs)
 
 -- ---- the order of rows by the keys of an ending with the variables vs
--- where a word stands among others
+-- where the word `w` stands among others
 unfoldable pub indexOf : ℕ → List ℕ → ℕ
 indexOf w [] = 0
 indexOf w (x ∷ xs) = cond (eqb w x) 0 (suc (indexOf w xs))
 
--- the place of a term by a key: a falling key reverses the order of keys
+-- the rank of the term `w` by `key`: a falling key reverses the order of keys
 abbrev pub rankBy : ℕ → ℕ → ℕ
 rankBy key w = cond (eqb (kind key) fallingKind) (lastRank - keyRank w) (keyRank w)
 
--- the value that a row has for a key's variable
+-- the value that `row` has for the variable of `key`
 abbrev pub keyValue : List ℕ → List ℕ → ℕ → ℕ
 keyValue vs row key = getD row (indexOf (variable (low key)) vs) unbound
 
 unfoldable pub rowRanks : List ℕ → List ℕ → List ℕ → List ℕ
 rowRanks vs keys row = map (λ key. rankBy key (keyValue vs row key)) keys
 
--- a row comes strictly before another, by the first key that tells them apart
+-- the row `x` comes strictly before the row `y`, by the first key that tells them apart
 unfoldable pub rowBefore : List ℕ → List ℕ → List ℕ → List ℕ → Bool
 rowBefore vs keys x y = lexBefore (rowRanks vs keys x) (rowRanks vs keys y)
 

@@ -20,7 +20,7 @@ abbrev pub NewGroup : List ℕ → List Bindings → Bindings → Type 0
 NewGroup vs [] b = Unit {0}
 NewGroup vs (c ∷ bs) b = (¬ (rowKeys vs c ≡ rowKeys vs b)) × NewGroup vs bs b
 
--- after some rows, one more has no space in an output of so many words
+-- after the rows `bs` the row `b` has no space in an output of `room` words
 abbrev pub NoSpaceFor : Ending → ℕ → List Bindings → Bindings → Type 0
 NoSpaceFor (rows vs) room bs b = room < (length bs + 1) * width (rows vs)
 NoSpaceFor (top k vs keys) room bs b = ⊥

@@ -1,4 +1,4 @@
-// Merging a turn's list into a kept one, which is the first words of its buffer, as many as the call gives.
+// Merging a turn's list into a kept one, which is the first `given` words of its buffer.
 use merge_endings::merge_ending;
 use merges::LISTS;
 use words::Written;
@@ -6,8 +6,8 @@ ghost use mathlib.Core.Path.{_≡_};
 ghost use Rattle.merges.specs.Merging.{mergeInput, mergeOf};
 ghost use Rattle.merges.specs.Refusals.{MergeAnswers};
 
-// Merges a list into the kept one, in place: the best rows of both, their groups added up, or the greater of each register. It is refused by the number of the
-// first test that fails, and then nothing is written.
+// Merges `list` into the first `given` words of `kept`, in place: the best rows of both, their groups added up, or the greater of each register.
+// It is refused by the number of the first test that fails, and then nothing is written.
 pub fn merge(plan: &[u32], kept: &mut [u32], given: usize, list: &[u32]) -> Written
     ensures { λ r. ⌜ record { answer = r; kept = now (kept .exit) }
         ≡ mergeOf (mergeInput (now (plan .entry)) (now (kept .entry)) given (now (list .entry))) ⌝ }

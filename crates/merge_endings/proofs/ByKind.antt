@@ -5,10 +5,10 @@ use mathlib.Core.List.{List}
 use Rattle.plans.specs.declared.EndingKind.{EndingKind}
 use Rattle.plans.specs.declared.EndingKind.the-variants.{Rows, Top, Group, Registers}
 use Rattle.plans.specs.Endings.{Ending, rows, top, group, registers}
-use Rattle.plans.specs.Reading.{lastIn, variablesIn, keysIn, bestIn, measuredIn}
+use Rattle.plans.specs.Reading.{endingKindIn, variablesIn, keysIn, bestIn, measuredIn}
 use Rattle.plans.proofs.EndingRead.{is-rows, is-top, is-group, is-registers}
 
-module _ (e : Ending) {t : EndingKind} (et : t ≡ lastIn e) where
+module _ (e : Ending) {t : EndingKind} (et : t ≡ endingKindIn e) where
   pub rows-of : t ≡ Rows → e ≡ rows (variablesIn e)
   rows-of h = is-rows e (sym et ∙ h)
 

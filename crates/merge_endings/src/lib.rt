@@ -16,7 +16,7 @@ ghost use Rattle.plans.specs.Endings.{top, group, registers, mostGroupVariables
 ghost use Rattle.list_best.specs.BestLists.{TopParts};
 ghost use Rattle.merge_lists.specs.Answering.{PiecesRight, MergedFor};
 
-// The best k rows of both lists.
+// Merges `list` into the first `given` words of `kept`: the best `k` rows of both.
 fn merge_top(
     vars: &[u32],
     keys: &[u32],
@@ -38,7 +38,7 @@ fn merge_top(
     Written::Words(list_best::merge_best(vars, keys, k, kept, given, list))
 }
 
-// The groups of both lists added up; they have g keys.
+// The same for groups of `g` keys: those of both lists added up.
 fn merge_groups(g: usize, kept: &mut [u32], given: usize, list: &[u32]) -> Written
     requires { ⌜ (g ≤ mostGroupVariables) × (given ≤ length (now kept)) ⌝ }
     ensures { λ r. ⌜ ((vs : List ℕ) (m : ℕ) → length vs ≡ g
@@ -50,7 +50,7 @@ fn merge_groups(g: usize, kept: &mut [u32], given: usize, list: &[u32]) -> Writt
     written(list_group_merges::merge_groups(g, kept, given, list))
 }
 
-// The greater of each register: no total is added up, so 13 refuses none.
+// The same for registers, the greater of each: no total is added up, so 13 refuses none.
 fn merge_registers(kept: &mut [u32], given: usize, list: &[u32]) -> Written
     requires { ⌜ given ≤ length (now kept) ⌝ }
     ensures { λ r. ⌜ ((v : ℕ)
@@ -65,7 +65,7 @@ fn merge_registers(kept: &mut [u32], given: usize, list: &[u32]) -> Written
     Written::Words(list_registers::merge_registers(kept, given, list))
 }
 
-// Merges by an ending, the words from it on: no list of rows is merged.
+// Merges by the ending that `e` starts with: no list of rows is merged.
 pub fn merge_ending(e: &[u32], kept: &mut [u32], given: usize, list: &[u32]) -> Written
     requires { ⌜ (endingForm (now e) ≡ true) × PiecesRight (endingAt (now e)) × (given ≤ length (now kept)) ⌝ }
     ensures { λ r. ⌜ MergedFor (endingAt (now (e .entry))) (now (kept .entry)) given (now (list .entry))

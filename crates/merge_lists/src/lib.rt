@@ -11,7 +11,7 @@ ghost use Rattle.plans.specs.Endings.{top, group, registers, mostGroupVariables
 ghost use Rattle.list_best.specs.BestLists.{TopParts};
 ghost use Rattle.merge_lists.specs.Answering.{bothRight, writtenOf};
 
-// Whether both lists are best-of lists of an ending.
+// Whether `kept` and `list` are both lists of the best `k` rows by `keys`.
 pub fn are_best(vars: &[u32], keys: &[u32], k: usize, kept: &[u32], list: &[u32]) -> bool
     requires { ⌜ TopParts k (now vars) (now keys) ⌝ }
     ensures { λ r. ⌜ r ≡ bothRight (top k (now (vars .entry)) (now (keys .entry))) (now (kept .entry)) (now (list .entry)) ⌝ }
@@ -22,7 +22,7 @@ pub fn are_best(vars: &[u32], keys: &[u32], k: usize, kept: &[u32], list: &[u32]
     false
 }
 
-// Whether both lists are lists of groups with g keys.
+// Whether `kept` and `list` are both lists of groups with `g` keys.
 pub fn are_groups(g: usize, kept: &[u32], list: &[u32]) -> bool
     requires { ⌜ g ≤ mostGroupVariables ⌝ }
     ensures { λ r. ⌜ ((vs : List ℕ) (m : ℕ) → length vs ≡ g → r ≡ bothRight (group vs m) (now (kept .entry)) (now (list .entry))) ⌝ }
@@ -33,7 +33,7 @@ pub fn are_groups(g: usize, kept: &[u32], list: &[u32]) -> bool
     false
 }
 
-// Whether both lists are of registers; the kept one may have none.
+// Whether `kept` and `list` are both lists of registers; the kept one may have none.
 pub fn are_registers(kept: &[u32], list: &[u32]) -> bool
     ensures { λ r. ⌜ ((v : ℕ) → r ≡ bothRight (registers v) (now (kept .entry)) (now (list .entry))) ⌝ }
 {
@@ -43,7 +43,7 @@ pub fn are_registers(kept: &[u32], list: &[u32]) -> bool
     false
 }
 
-// The answer of a merge of groups, by the tests' numbers.
+// The answer of the merge `m` of groups, by the tests' numbers.
 pub fn written(m: Merged) -> Written
     ensures { λ r. ⌜ r ≡ writtenOf m ⌝ }
 {

@@ -11,8 +11,8 @@ use Rattle.plans.specs.Conditions.{next}
 use Rattle.lists.specs.Gathering.{recordsIn}
 use Rattle.merges.specs.Merging.{MergeInput, MergeResult, mergeOf}
 
--- an empty kept list; the list of the turn with a number; or what one way gives, with so many words behind it in its buffer, merged with what
--- another gives
+-- an empty kept list; the list of the turn with a number; or what one way gives, with these words behind it in its buffer, merged with what another
+-- gives
 pub data Way : Type 0 where
   empty : Way
   turn : ℕ → Way
@@ -49,6 +49,6 @@ given plan lists (into a behind b) = next (given plan lists a) (λ kept. next (g
 abbrev pub EachOnce : List (List ℕ) → Way → Type 0
 EachOnce lists w = List·Permᴰ (numbers (length lists)) (turnsAlong w)
 
--- the rows, of so many words, of the lists that a way merges, from left to right
+-- the rows, of `width` words each, of the lists that a way merges, from left to right
 abbrev pub rowsMerged : ℕ → List (List ℕ) → List ℕ → List (List ℕ)
 rowsMerged width lists is = flatten (map (λ i. recordsIn width (getD lists i [])) is)

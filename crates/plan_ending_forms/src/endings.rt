@@ -1,7 +1,7 @@
 // The form of an ending, in test 5.
 use crate::Wanted;
 use crate::searches::all_wanted;
-use plan_ending_kinds::last_of;
+use plan_ending_kinds::ending_kind_of;
 use plan_ending_kinds::row_width;
 use plans::EndingKind;
 use plans::first;
@@ -14,7 +14,7 @@ pub const MOST_KEYS: usize = 4;
 // The words of an ending of registers: its kind, and the variable.
 pub const REGISTERS_WORDS: usize = 2;
 
-// Whether p starts with a kind 8 part.
+// Whether `p` starts with a kind 8 part.
 pub fn rows_form(p: &[u32]) -> bool
     ensures { λ r. ⌜ r ≡ rowsForm (now (p .entry)) ⌝ }
 {
@@ -29,7 +29,7 @@ pub fn rows_form(p: &[u32]) -> bool
     false
 }
 
-// Whether p is 1 to 4 keys.
+// Whether `p` is 1 to 4 keys.
 pub fn keys_form(p: &[u32]) -> bool
     ensures { λ r. ⌜ r ≡ keysForm (now (p .entry)) ⌝ }
 {
@@ -42,11 +42,11 @@ pub fn keys_form(p: &[u32]) -> bool
     false
 }
 
-// Whether p is one ending and nothing more.
+// Whether `p` is one ending and nothing more.
 pub fn ending_form(p: &[u32]) -> bool
     ensures { λ r. ⌜ r ≡ endingForm (now (p .entry)) ⌝ }
 {
-    match last_of(first(p)) {
+    match ending_kind_of(first(p)) {
         EndingKind::Rows => {
             if rows_form(p) {
                 return p.len() == 1 + row_width(p);

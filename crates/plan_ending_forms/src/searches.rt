@@ -12,7 +12,7 @@ ghost use Rattle.plan_ending_forms.specs.Wanting.{isWanted};
 // The number of a plan's variables.
 pub const VARIABLES: u32 = 16;
 
-// Whether no word stands there twice.
+// Whether no word stands twice in `words`.
 pub fn all_differ(words: &[u32]) -> bool
     ensures { λ r. ⌜ r ≡ distinct (now (words .entry)) ⌝ }
 {
@@ -37,7 +37,7 @@ fn is_key(word: u32) -> bool
     kind == PlanWord::FALLING
 }
 
-// Whether a term is no variable above ?15.
+// Whether `word` is no variable above ?15.
 fn is_right(word: u32) -> bool
     ensures { λ r. ⌜ r ≡ termRight word ⌝ }
 {
@@ -58,7 +58,7 @@ fn is_wanted(word: u32, wanted: Wanted) -> bool
     }
 }
 
-// Whether each word is what is wanted.
+// Whether each of `words` is what is `wanted`.
 pub fn all_wanted(words: &[u32], wanted: Wanted) -> bool
     ensures { λ r. ⌜ r ≡ all (isWanted wanted) (now (words .entry)) ⌝ }
 {

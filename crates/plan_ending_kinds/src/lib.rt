@@ -7,8 +7,8 @@ ghost use mathlib.Core.Path.{_≡_};
 ghost use mathlib.Core.Bool.{true};
 ghost use Prim.Native.Nat.{_≤_};
 ghost use lib.ListN.{getD};
-ghost use Rattle.plans.specs.Endings.{mostRowVariables, rowWidth, lastOf, endingForm, endingAt};
-ghost use Rattle.plans.specs.Reading.{lastIn, bestIn};
+ghost use Rattle.plans.specs.Endings.{mostRowVariables, rowWidth, endingKindOf, endingForm, endingAt};
+ghost use Rattle.plans.specs.Reading.{endingKindIn, bestIn};
 ghost use Rattle.plans.specs.declared.EndingKind.{EndingKind};
 
 pub const MOST_ROW_VARIABLES: u32 = 16;
@@ -20,8 +20,8 @@ pub const DEFAULT_BEST: u32 = 10;
 
 pub const MOST_GROUP_VARIABLES: u32 = 4;
 
-pub fn last_of(word: u32) -> EndingKind
-    ensures { λ r. ⌜ r ≡ lastOf word ⌝ }
+pub fn ending_kind_of(word: u32) -> EndingKind
+    ensures { λ r. ⌜ r ≡ endingKindOf word ⌝ }
 {
     let w = PlanWord(word);
     let kind = w.kind();
@@ -50,24 +50,24 @@ pub fn last_of(word: u32) -> EndingKind
     }
 }
 
-// The variables of the kind 8 part that p starts with, or 0 where it starts with none.
+// How many variables the kind 8 part has that `p` starts with, or 0 where it starts with none.
 pub fn row_width(p: &[u32]) -> usize
     ensures { λ r. ⌜ (r ≡ rowWidth (getD (now (p .entry)) 0 0)) × (r ≤ mostRowVariables) ⌝ }
 {
     words::wide(count_in(p, PlanWord::ROWS, MOST_ROW_VARIABLES))
 }
 
-// The kind of an ending.
+// The kind of the ending `e`.
 pub fn ending_kind(e: &[u32]) -> EndingKind
     requires { ⌜ endingForm (now e) ≡ true ⌝ }
-    ensures { λ r. ⌜ r ≡ lastIn (endingAt (now (e .entry))) ⌝ }
+    ensures { λ r. ⌜ r ≡ endingKindIn (endingAt (now (e .entry))) ⌝ }
 {
-    last_of(first(e))
+    ending_kind_of(first(e))
 }
 
-// How many rows a best-of ending keeps.
+// How many rows the best-of ending `e` keeps.
 pub fn best_count(e: &[u32]) -> usize
-    requires { ⌜ (endingForm (now e) ≡ true) × (lastIn (endingAt (now e)) ≡ EndingKind.Top) ⌝ }
+    requires { ⌜ (endingForm (now e) ≡ true) × (endingKindIn (endingAt (now e)) ≡ EndingKind.Top) ⌝ }
     ensures { λ r. ⌜ r ≡ bestIn (endingAt (now (e .entry))) ⌝ }
 {
     let k = PlanWord(first(e)).low();

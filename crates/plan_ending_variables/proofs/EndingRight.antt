@@ -6,7 +6,7 @@ use mathlib.Core.List.{[], _∷_}
 use Rattle.sequences.specs.Sequences.{all, member, distinct}
 use Rattle.plans.specs.declared.EndingKind.the-variants.{Rows, Top, Group, Registers}
 use Rattle.plans.specs.Endings.{Ending, rows, top, group, registers, keyAmong, endingRight}
-use Rattle.plans.specs.Reading.{lastIn, variablesIn, keysIn, measuredIn}
+use Rattle.plans.specs.Reading.{endingKindIn, variablesIn, keysIn, measuredIn}
 
 -- the variables are bound and differ, or not: what is left to test
 module _ (bound : ℕ → Bool) (b : Bool) where
@@ -27,7 +27,7 @@ module _ (bound : ℕ → Bool) (b : Bool) where
   wrong-variables (group vs m) h f = rw (← h, f)
   wrong-variables (registers v) h f = sym (one-bound v) ∙ sym h ∙ f
 
-  pub right-rows : (e : Ending) → b ≡ (all bound (variablesIn e) && distinct (variablesIn e)) → b ≡ true → lastIn e ≡ Rows
+  pub right-rows : (e : Ending) → b ≡ (all bound (variablesIn e) && distinct (variablesIn e)) → b ≡ true → endingKindIn e ≡ Rows
       → endingRight bound e ≡ true
   unfolding endingRight
   right-rows (rows vs) h t k = sym h ∙ t
@@ -35,7 +35,7 @@ module _ (bound : ℕ → Bool) (b : Bool) where
   right-rows (group vs m) h t k = cc
   right-rows (registers v) h t k = cc
 
-  pub right-top : (e : Ending) → b ≡ (all bound (variablesIn e) && distinct (variablesIn e)) → b ≡ true → lastIn e ≡ Top
+  pub right-top : (e : Ending) → b ≡ (all bound (variablesIn e) && distinct (variablesIn e)) → b ≡ true → endingKindIn e ≡ Top
       → endingRight bound e ≡ all (keyAmong (variablesIn e)) (keysIn e)
   unfolding endingRight
   right-top (rows vs) h t k = cc
@@ -43,7 +43,7 @@ module _ (bound : ℕ → Bool) (b : Bool) where
   right-top (group vs m) h t k = cc
   right-top (registers v) h t k = cc
 
-  pub right-group : (e : Ending) → b ≡ (all bound (variablesIn e) && distinct (variablesIn e)) → b ≡ true → lastIn e ≡ Group
+  pub right-group : (e : Ending) → b ≡ (all bound (variablesIn e) && distinct (variablesIn e)) → b ≡ true → endingKindIn e ≡ Group
       → endingRight bound e ≡ bound (measuredIn e)
   unfolding endingRight
   right-group (rows vs) h t k = cc
@@ -51,7 +51,7 @@ module _ (bound : ℕ → Bool) (b : Bool) where
   right-group (group vs m) h t k = rw (← h, t)
   right-group (registers v) h t k = cc
 
-  pub right-registers : (e : Ending) → b ≡ (all bound (variablesIn e) && distinct (variablesIn e)) → b ≡ true → lastIn e ≡ Registers
+  pub right-registers : (e : Ending) → b ≡ (all bound (variablesIn e) && distinct (variablesIn e)) → b ≡ true → endingKindIn e ≡ Registers
       → endingRight bound e ≡ true
   unfolding endingRight
   right-registers (rows vs) h t k = cc

@@ -18,7 +18,7 @@ ghost use Rattle.plans.specs.Branches.{readBranches, binds};
 ghost use Rattle.plans.specs.Endings.{keyAmong, endingForm, endingAt, endingRight};
 ghost use Rattle.plans.specs.Reading.{isRead, branchesIn};
 
-// Whether one of the first branches, so many, that p starts with has a word among its patterns' terms.
+// Whether one of the first `count` branches that `p` starts with has `word` among its patterns' terms.
 pub fn some_binds(p: &[u32], count: u32, word: u32) -> bool
     requires { ⌜ isRead (readBranches count (now p)) ≡ true ⌝ }
     ensures { λ r. ⌜ r ≡ binds (branchesIn count (now (p .entry))) word ⌝ }
@@ -36,7 +36,7 @@ pub fn some_binds(p: &[u32], count: u32, word: u32) -> bool
     false
 }
 
-// Whether one of those branches binds each of some variables.
+// Whether each variable of `list` is bound by one of those branches.
 pub fn all_bound(p: &[u32], count: u32, list: &[u32]) -> bool
     requires { ⌜ isRead (readBranches count (now p)) ≡ true ⌝ }
     ensures { λ r. ⌜ r ≡ all (binds (branchesIn count (now (p .entry)))) (now (list .entry)) ⌝ }
@@ -58,7 +58,7 @@ fn is_key_among(key: u32, list: &[u32]) -> bool
     among(t.0, list)
 }
 
-// Whether the variable of each key is among some variables.
+// Whether the variable of each of `keys` is in `list`.
 pub fn keys_among(keys: &[u32], list: &[u32]) -> bool
     ensures { λ r. ⌜ r ≡ all (keyAmong (now (list .entry))) (now (keys .entry)) ⌝ }
 {
@@ -72,7 +72,7 @@ pub fn keys_among(keys: &[u32], list: &[u32]) -> bool
     true
 }
 
-// Whether some variables are bound and differ.
+// Whether the variables of `list` are bound and differ.
 fn variables_right(p: &[u32], count: u32, list: &[u32]) -> bool
     requires { ⌜ isRead (readBranches count (now p)) ≡ true ⌝ }
     ensures { λ r. ⌜ r ≡ (all (binds (branchesIn count (now (p .entry)))) (now (list .entry)) && distinct (now (list .entry))) ⌝ }
@@ -83,7 +83,7 @@ fn variables_right(p: &[u32], count: u32, list: &[u32]) -> bool
     false
 }
 
-// Whether e is an ending whose variables are right, after the first branches, so many, that p starts with.
+// Whether `e` is an ending whose variables are right, after the `count` branches that `p` starts with.
 pub fn ending_right(p: &[u32], count: u32, e: &[u32]) -> bool
     requires { ⌜ isRead (readBranches count (now p)) ≡ true ⌝ }
     ensures { λ r. ⌜ r ≡ (endingForm (now (e .entry)) && endingRight (binds (branchesIn count (now (p .entry)))) (endingAt (now (e .entry)))) ⌝ }

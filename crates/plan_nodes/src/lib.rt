@@ -12,7 +12,7 @@ ghost use Rattle.plans.specs.Reading.{treeOf, SmallTree, comparisonTree, overTr
 // A comparison's words: itself and two terms.
 pub const COMPARISON_WORDS: usize = 3;
 
-// Whether a term is no variable, or among a branch's terms.
+// Whether `word` is no variable, or among `terms`, those of a branch.
 fn is_bound(word: u32, terms: &[u32]) -> bool
     ensures { λ r. ⌜ r ≡ boundIn (now (terms .entry)) word ⌝ }
 {
@@ -37,7 +37,7 @@ pub fn both(a: bool, b: bool) -> bool
     if a { b } else { false }
 }
 
-// The comparison of two terms after the first word of p.
+// The comparison that `p` starts with: its word and two terms.
 fn comparison(p: &[u32], terms: &[u32]) -> Tree
     ensures { λ r. ⌜ r ≡ comparisonTree (now (terms .entry)) (now (p .entry)) ⌝ }
 {
@@ -51,7 +51,7 @@ fn comparison(p: &[u32], terms: &[u32]) -> Tree
     }
 }
 
-// A condition under one more node.
+// The condition `tree` under one more node.
 fn over(tree: Tree) -> Tree
     requires { ⌜ SmallTree tree ⌝ }
     ensures { λ r. ⌜ r ≡ overTree tree ⌝ }
@@ -70,7 +70,7 @@ fn over(tree: Tree) -> Tree
     }
 }
 
-// Two conditions under one node.
+// The conditions `first` and `second` under one node.
 fn join(first: Tree, second: Tree) -> Tree
     requires { ⌜ SmallTree first × SmallTree second ⌝ }
     ensures { λ r. ⌜ r ≡ joinTrees first second ⌝ }
@@ -96,7 +96,7 @@ fn join(first: Tree, second: Tree) -> Tree
     }
 }
 
-// Reads the condition at the start of p, at most `left` deep, of a branch whose patterns have these terms.
+// Reads the condition at the start of `p`, at most `left` deep, of a branch whose patterns have the terms `terms`.
 pub fn condition(p: &[u32], left: u32, terms: &[u32]) -> Tree
     ensures { λ r. ⌜ r ≡ treeOf (now (terms .entry)) (readCondition left (now (p .entry))) ⌝ }
 {

@@ -9,7 +9,7 @@ ghost use mathlib.Core.Bool.{true};
 ghost use Rattle.plans.specs.Branches.{readBranch, readBranches};
 ghost use Rattle.plans.specs.Reading.{isRead, wordsRead};
 
-// The words of the branch that p starts with.
+// The words of the branch that `p` starts with.
 pub fn branch_words(p: &[u32]) -> usize
     requires { ⌜ isRead (readBranch (now p)) ≡ true ⌝ }
     ensures { λ r. ⌜ r ≡ wordsRead (readBranch (now (p .entry))) ⌝ }
@@ -25,7 +25,7 @@ pub fn branch_words(p: &[u32]) -> usize
     }
 }
 
-// The words of the first branches, so many, that p starts with.
+// The words of the first `count` branches that `p` starts with.
 pub fn branches_words(p: &[u32], count: u32) -> usize
     requires { ⌜ isRead (readBranches count (now p)) ≡ true ⌝ }
     ensures { λ r. ⌜ r ≡ wordsRead (readBranches count (now (p .entry))) ⌝ }

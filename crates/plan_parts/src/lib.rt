@@ -17,7 +17,7 @@ ghost use Rattle.plans.specs.Years.{bodyOf};
 ghost use Rattle.plans.specs.Plans.{readPlan, hasForm, planOf, branchAt};
 ghost use Rattle.plans.specs.Reading.{Gives, branchStart};
 
-// The part of a plan behind its head.
+// The part of `plan` behind its head.
 fn body_part(plan: &[u32]) -> &[u32]
     requires { ⌜ hasForm (readPlan (now plan)) ≡ true ⌝ }
     ensures { λ r. ⌜ now r ≡ bodyOf (now (plan .entry)) ⌝ }
@@ -26,7 +26,7 @@ fn body_part(plan: &[u32]) -> &[u32]
     &part[1..]
 }
 
-// The part of a plan from its branch with a number (from 0) on.
+// The part of `plan` from its branch number `number` (from 0) on.
 pub fn branch_part(plan: &[u32], number: u32) -> &[u32]
     requires { ⌜ (hasForm (readPlan (now plan)) ≡ true) × (number < length (planOf (now plan) .branches)) ⌝ }
     ensures start { λ r. ⌜ now r ≡ drop (branchStart number (now (plan .entry))) (now (plan .entry)) ⌝ }
@@ -37,7 +37,7 @@ pub fn branch_part(plan: &[u32], number: u32) -> &[u32]
     &body[at..]
 }
 
-// The terms of the patterns of a plan's branch with a number.
+// The terms of the patterns of branch number `number` of `plan`.
 pub fn branch_terms(plan: &[u32], number: u32) -> &[u32]
     requires { ⌜ (hasForm (readPlan (now plan)) ≡ true) × (number < length (planOf (now plan) .branches)) ⌝ }
     ensures { λ r. ⌜ now r ≡ branchAt (planOf (now (plan .entry))) number .terms ⌝ }
@@ -45,7 +45,7 @@ pub fn branch_terms(plan: &[u32], number: u32) -> &[u32]
     terms(branch_part(plan, number))
 }
 
-// The words from the condition of a plan's branch with a number on.
+// The words of `plan` from the condition of its branch number `number` on.
 pub fn branch_condition(plan: &[u32], number: u32) -> &[u32]
     requires { ⌜ (hasForm (readPlan (now plan)) ≡ true) × (number < length (planOf (now plan) .branches)) ⌝ }
     ensures { λ r. ⌜ Gives (readCondition mostDepth (now r)) (branchAt (planOf (now (plan .entry))) number .condition) ⌝ }
@@ -53,7 +53,7 @@ pub fn branch_condition(plan: &[u32], number: u32) -> &[u32]
     condition_part(branch_part(plan, number))
 }
 
-// The part of a plan from its ending on.
+// The part of `plan` from its ending on.
 pub fn ending_part(plan: &[u32]) -> &[u32]
     requires { ⌜ hasForm (readPlan (now plan)) ≡ true ⌝ }
     ensures { λ r. ⌜ (endingForm (now r) ≡ true) × (endingAt (now r) ≡ planOf (now (plan .entry)) .ending) ⌝ }

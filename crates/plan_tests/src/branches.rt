@@ -13,10 +13,10 @@ ghost use Rattle.sequences.specs.Sequences.{all};
 ghost use Rattle.plans.specs.Branches.{readBranch, readBranches, branchRight};
 ghost use Rattle.plan_tests.specs.Testing.{partOf};
 
-// The nodes of a condition.
+// The most nodes that a condition has.
 pub const MOST_NODES: usize = 31;
 
-// Reads the branch at the start of p.
+// Reads the branch at the start of `p`.
 pub fn branch(p: &[u32]) -> Part
     ensures { λ r. ⌜ r ≡ partOf branchRight (readBranch (now (p .entry))) ⌝ }
 {
@@ -47,7 +47,7 @@ pub fn branch(p: &[u32]) -> Part
     }
 }
 
-// Reads so many branches at the start of p.
+// Reads `count` branches at the start of `p`.
 pub fn branches(p: &[u32], count: u32) -> Part
     ensures { λ r. ⌜ r ≡ partOf (all branchRight) (readBranches count (now (p .entry))) ⌝ }
 {

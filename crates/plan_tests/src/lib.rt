@@ -25,7 +25,7 @@ pub enum Part {
     Broken,
 }
 
-// The check of a plan of some years from the word after its head on, where so many branches and one ending are to stand.
+// The check of a plan that reads `years`, from `body` on, the words after its head: there `count` branches and one ending are to stand.
 fn check_body(years: Years, body: &[u32], count: u32) -> u32
     ensures { λ r. ⌜ r ≡ planNumber (withEnding years (now (body .entry)) (readBranches count (now (body .entry)))) ⌝ }
 {
@@ -42,7 +42,7 @@ fn check_body(years: Years, body: &[u32], count: u32) -> u32
     }
 }
 
-// 0, or the number of the first test that a plan fails: 5 over the whole plan, then 6, and then 23.
+// 0, or the number of the first test that `plan` fails: 5 over the whole plan, then 6, and then 23.
 pub fn check(plan: &[u32]) -> u32
     ensures { λ r. ⌜ r ≡ numberOf (firstFailing (planTests (now (plan .entry)))) ⌝ }
 {

@@ -20,7 +20,7 @@ use Rattle.plans.specs.Years.{yearsIn, headOf, bodyOf}
 use Rattle.plans.specs.Conditions.{Condition, Read, next, readCondition, nodes, mostDepth, mostNodes}
 use Rattle.plans.specs.Branches.{Branch, patternWidth, mostPatterns, patternCount, withCondition, readBranch, readBranches, nthBranch}
 use Rattle.plans.specs.Endings.{mostRowVariables, mostBest, defaultBest, mostKeys, mostGroupVariables}
-use Rattle.plans.specs.Endings.{bestCount, rowWidth, rowVariables, afterRows, rowsForm, keysForm, lastOf, formAs, endingForm, endingAs, endingAt}
+use Rattle.plans.specs.Endings.{bestCount, rowWidth, rowVariables, afterRows, rowsForm, keysForm, endingKindOf, formAs, endingForm, endingAs, endingAt}
 pub use Rattle.plans.specs.Forms.{BranchForm, RowForm, TopForm, GroupForm, EndingForm}
 use Rattle.plans.specs.Plans.{Plan, mostBranches, mostPlanWords, branchCount, withEnding, readPlan, hasForm, planOr, branchAt}
 
@@ -158,12 +158,12 @@ form-as Registers ws t g e =
 form-as Invalid ws t g e = absurd-true refl (sym e)
 
 pub ending-form : (ws : List ℕ) → endingForm ws ≡ true → EndingForm (endingAt ws)
-unfolding lastOf
+unfolding endingKindOf
 ending-form ws e =
     let w = getD ws 0 0 in
     let b = last-bound (eqb (kind w) rowsKind) (eqb (kind w) topKind) (leb (low w) mostBest) (eqb (kind w) groupKind) (leb (low w) mostGroupVariables)
-    (eqb (kind w) registersKind) (eqb (low w) 0) (lastOf w) refl in
-    form-as (lastOf w) ws (λ p. leb-true (low w) mostBest (b .0 p)) (λ p. leb-true (low w) mostGroupVariables (b .1 p)) e
+    (eqb (kind w) registersKind) (eqb (low w) 0) (endingKindOf w) refl in
+    form-as (endingKindOf w) ws (λ p. leb-true (low w) mostBest (b .0 p)) (λ p. leb-true (low w) mostGroupVariables (b .1 p)) e
 
 -- ---- the plan
 -- what test 5 says of a plan

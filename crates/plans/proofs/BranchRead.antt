@@ -22,7 +22,7 @@ use Rattle.plans.proofs.Trees.{Fits, fits}
 abbrev pub conditionStart : List ℕ → ℕ
 conditionStart ws = 1 + patternWidth * patternCount (getD ws 0 0)
 
--- the words start with a branch, which takes so many of them
+-- the words start with a branch, which takes `used` of them
 pub record BranchRead (ws : List ℕ) (b : Branch) (used : ℕ) : Type 0 where
   pub room : conditionStart ws ≤ length ws
   pub terms : b .terms ≡ take (patternWidth * patternCount (getD ws 0 0)) (drop 1 ws)

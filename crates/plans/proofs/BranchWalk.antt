@@ -1,4 +1,4 @@
--- A loop over branches that were read: so many words are passed, and so many branches are left.
+-- A loop over branches that were read: how many words are passed, and how many branches are left.
 use Prim.Native.Nat.{ℕ, _+_, _-_, _≤_, _<_}
 use native.Mathlib.Omega.{arith}
 use mathlib.Core.Path.{_≡_, sym, _∙_}

@@ -17,7 +17,7 @@ use Rattle.plans.specs.Conditions.{Condition, always, both, either, nega
 use Rattle.plans.specs.Grammar.{conditionWords, ConditionForm}
 use Rattle.plans.proofs.Bounds.{next-some}
 
--- some words begin with others, which are so many
+-- `ws` begin with `part`, which are `n` words
 pub record BeginsWith (part : List ℕ) (n : ℕ) (ws : List ℕ) : Type 0 where
   pub rest : List ℕ
   pub words : ws ≡ part ++ rest

@@ -13,13 +13,13 @@ use Rattle.sequences.proofs.Booleans.{absurd-true, and-left, and-right}
 use Rattle.sequences.proofs.Walking.{rest-of, first-none}
 use Rattle.plans.specs.declared.EndingKind.{EndingKind}
 use Rattle.plans.specs.declared.EndingKind.the-variants.{Rows, Top, Group, Registers, Invalid}
-use Rattle.plans.specs.Endings.{mostKeys, rowWidth, rowVariables, afterRows, rowsForm, isKey, keysForm, lastOf, formAs, endingForm}
+use Rattle.plans.specs.Endings.{mostKeys, rowWidth, rowVariables, afterRows, rowsForm, isKey, keysForm, endingKindOf, formAs, endingForm}
 
 and-false : (a : Bool) → (a && false) ≡ false
 and-false true = refl
 and-false false = refl
 
--- ---- a kind 8 part of so many variables
+-- ---- a kind 8 part of `n` variables
 module _ (ws : List ℕ) (n : ℕ) (en : n ≡ rowWidth (getD ws 0 0)) where
   pub rows-none : n ≡ 0 → rowsForm ws ≡ false
   unfolding rowsForm
@@ -60,14 +60,14 @@ unfolding keysForm
 keys-long ws h = rw (lt-leb (length ws) mostKeys h) (and-false (not (eqb (length ws) 0)))
 
 -- ---- an ending, by what its first word begins
-begins : (l : EndingKind) → lastOf 0 ≡ l → l ≡ Invalid
-unfolding lastOf
+begins : (l : EndingKind) → endingKindOf 0 ≡ l → l ≡ Invalid
+unfolding endingKindOf
 begins l e = sym e
 
-module _ (ws : List ℕ) (t : EndingKind) (et : t ≡ lastOf (getD ws 0 0)) where
+module _ (ws : List ℕ) (t : EndingKind) (et : t ≡ endingKindOf (getD ws 0 0)) where
   -- no words begin nothing
   pub some-word : (t ≡ Invalid → ⊥) → length ws ≡ 0 → ⊥
-  some-word h e = h (begins t (sym (et ∙ ap lastOf (first-none ws e))))
+  some-word h e = h (begins t (sym (et ∙ ap endingKindOf (first-none ws e))))
 
   pub form-invalid : t ≡ Invalid → endingForm ws ≡ false
   unfolding formAs

@@ -10,11 +10,11 @@ use Rattle.sequences.proofs.Booleans.{absurd-true}
 use Rattle.sequences.proofs.Walking.{rest-of}
 use Rattle.plans.specs.declared.EndingKind.{EndingKind}
 use Rattle.plans.specs.declared.EndingKind.the-variants.{Rows, Top, Group, Registers, Invalid}
-use Rattle.plans.specs.Endings.{Ending, rows, top, group, registers, bestCount, rowVariables, afterRows, lastOf, formAs}
+use Rattle.plans.specs.Endings.{Ending, rows, top, group, registers, bestCount, rowVariables, afterRows, endingKindOf, formAs}
 use Rattle.plans.specs.Endings.{endingForm, endingAs, endingAt}
-use Rattle.plans.specs.Reading.{lastIn, variablesIn, keysIn, bestIn, measuredIn}
+use Rattle.plans.specs.Reading.{endingKindIn, variablesIn, keysIn, bestIn, measuredIn}
 
-module _ (ws : List ℕ) (t : EndingKind) (et : t ≡ lastOf (getD ws 0 0)) where
+module _ (ws : List ℕ) (t : EndingKind) (et : t ≡ endingKindOf (getD ws 0 0)) where
   pub ending-rows : t ≡ Rows → endingAt ws ≡ rows (rowVariables ws)
   unfolding endingAs
   ending-rows e = rw (← et, e)
@@ -43,13 +43,13 @@ counted-lent (x ∷ y ∷ []) h = refl
 counted-lent (x ∷ y ∷ z ∷ ws) h = absurd (omega arith)
 
 -- ---- the kind of an ending
-pub some-kind : (e : Ending) → lastIn e ≡ Invalid → ⊥
+pub some-kind : (e : Ending) → endingKindIn e ≡ Invalid → ⊥
 some-kind (rows vs) h = let z : _≡_ {A = ℕ} 0 1 = cc in omega arith
 some-kind (top k vs keys) h = let z : _≡_ {A = ℕ} 0 1 = cc in omega arith
 some-kind (group vs m) h = let z : _≡_ {A = ℕ} 0 1 = cc in omega arith
 some-kind (registers v) h = let z : _≡_ {A = ℕ} 0 1 = cc in omega arith
 
-last-as : (t : EndingKind) (ws : List ℕ) → formAs t ws ≡ true → lastIn (endingAs t ws) ≡ t
+last-as : (t : EndingKind) (ws : List ℕ) → formAs t ws ≡ true → endingKindIn (endingAs t ws) ≡ t
 unfolding formAs endingAs
 last-as Rows ws h = refl
 last-as Top ws h = refl
@@ -57,29 +57,29 @@ last-as Group ws h = refl
 last-as Registers ws h = refl
 last-as Invalid ws h = absurd-true h refl
 
-pub last-in : (ws : List ℕ) → endingForm ws ≡ true → lastIn (endingAt ws) ≡ lastOf (getD ws 0 0)
-last-in ws h = last-as (lastOf (getD ws 0 0)) ws h
+pub last-in : (ws : List ℕ) → endingForm ws ≡ true → endingKindIn (endingAt ws) ≡ endingKindOf (getD ws 0 0)
+last-in ws h = last-as (endingKindOf (getD ws 0 0)) ws h
 
 -- an ending is made of its pieces
-pub is-rows : (e : Ending) → lastIn e ≡ Rows → e ≡ rows (variablesIn e)
+pub is-rows : (e : Ending) → endingKindIn e ≡ Rows → e ≡ rows (variablesIn e)
 is-rows (rows vs) h = refl
 is-rows (top k vs keys) h = cc
 is-rows (group vs m) h = cc
 is-rows (registers v) h = cc
 
-pub is-top : (e : Ending) → lastIn e ≡ Top → e ≡ top (bestIn e) (variablesIn e) (keysIn e)
+pub is-top : (e : Ending) → endingKindIn e ≡ Top → e ≡ top (bestIn e) (variablesIn e) (keysIn e)
 is-top (rows vs) h = cc
 is-top (top k vs keys) h = refl
 is-top (group vs m) h = cc
 is-top (registers v) h = cc
 
-pub is-group : (e : Ending) → lastIn e ≡ Group → e ≡ group (variablesIn e) (measuredIn e)
+pub is-group : (e : Ending) → endingKindIn e ≡ Group → e ≡ group (variablesIn e) (measuredIn e)
 is-group (rows vs) h = cc
 is-group (top k vs keys) h = cc
 is-group (group vs m) h = refl
 is-group (registers v) h = cc
 
-pub is-registers : (e : Ending) → lastIn e ≡ Registers → e ≡ registers (measuredIn e)
+pub is-registers : (e : Ending) → endingKindIn e ≡ Registers → e ≡ registers (measuredIn e)
 is-registers (rows vs) h = cc
 is-registers (top k vs keys) h = cc
 is-registers (group vs m) h = cc

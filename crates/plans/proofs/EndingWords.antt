@@ -15,7 +15,7 @@ use Rattle.sequences.proofs.Elements.{all-append}
 use Rattle.plans.specs.declared.EndingKind.{EndingKind}
 use Rattle.plans.specs.declared.EndingKind.the-variants.{Rows, Top, Group, Registers, Invalid}
 use Rattle.plans.specs.Endings.{Ending, rows, top, group, registers, mostRowVariables, mostBest, mostKeys, mostGroupVariables, bestCount}
-use Rattle.plans.specs.Endings.{rowWidth, rowVariables, afterRows, rowsForm, isKey, keysForm, lastOf, formAs, endingForm, endingAs, endingAt}
+use Rattle.plans.specs.Endings.{rowWidth, rowVariables, afterRows, rowsForm, isKey, keysForm, endingKindOf, formAs, endingForm, endingAs, endingAt}
 use Rattle.plans.specs.Forms.{RowForm, TopForm, GroupForm, EndingForm}
 use Rattle.plans.specs.Grammar.{EndingWords}
 use Rattle.plans.proofs.Bounds.{ending-form}
@@ -29,8 +29,8 @@ data EndingBegins (w : ℕ) : EndingKind → Type 0 where
   with-registers : w ≡ word registersKind 0 → EndingBegins w Registers
   with-none : EndingBegins w Invalid
 
-ending-begins : (w : ℕ) → EndingBegins w (lastOf w)
-unfolding lastOf
+ending-begins : (w : ℕ) → EndingBegins w (endingKindOf w)
+unfolding endingKindOf
 ending-begins w =
     go (eqb (kind w) rowsKind) (eqb (kind w) topKind) refl (leb (low w) mostBest) refl (eqb (kind w) groupKind) refl (leb (low w) mostGroupVariables)
     (eqb (kind w) registersKind) refl (eqb (low w) 0) refl
@@ -112,7 +112,7 @@ written-as ws l (with-registers is) e f = (f, registers-words ws is (eqb-true (l
 written-as ws l with-none e f = absurd-true refl (sym e)
 
 pub read-ending : (ws : List ℕ) → endingForm ws ≡ true → EndingWords (endingAt ws) ws
-read-ending ws e = written-as ws (lastOf (getD ws 0 0)) (ending-begins (getD ws 0 0)) e (ending-form ws e)
+read-ending ws e = written-as ws (endingKindOf (getD ws 0 0)) (ending-begins (getD ws 0 0)) e (ending-form ws e)
 
 -- ---- an ending that is written
 -- a kind 8 part, before some words
@@ -145,22 +145,23 @@ abbrev ReadAs : Ending → List ℕ → Type 0
 ReadAs e ws = (endingForm ws ≡ true) × (endingAt ws ≡ e)
 
 -- by what its first word begins
-read-as : (ws : List ℕ) (l : EndingKind) → lastOf (getD ws 0 0) ≡ l → (e : Ending) → formAs l ws ≡ true → endingAs l ws ≡ e → ReadAs e ws
+read-as : (ws : List ℕ) (l : EndingKind) → endingKindOf (getD ws 0 0) ≡ l → (e : Ending) → formAs l ws ≡ true → endingAs l ws ≡ e
+    → ReadAs e ws
 read-as ws l p e f g = (ap (λ (x : EndingKind). formAs x ws) p ∙ f, ap (λ (x : EndingKind). endingAs x ws) p ∙ g)
 
-last-rows : (n : ℕ) → n ≤ mostRowVariables → lastOf (word rowsKind n) ≡ Rows
-unfolding lastOf
+last-rows : (n : ℕ) → n ≤ mostRowVariables → endingKindOf (word rowsKind n) ≡ Rows
+unfolding endingKindOf
 last-rows n h = let k : kind (word rowsKind n) ≡ rowsKind = omega arith in rw (eq-eqb (kind (word rowsKind n)) rowsKind k)
 
-last-top : (n : ℕ) → n ≤ mostBest → lastOf (word topKind n) ≡ Top
-unfolding lastOf
+last-top : (n : ℕ) → n ≤ mostBest → endingKindOf (word topKind n) ≡ Top
+unfolding endingKindOf
 last-top n h =
     let k : kind (word topKind n) ≡ topKind = omega arith in
     let l : low (word topKind n) ≡ n = omega arith in
     rw (k, l, le-leb n mostBest h)
 
-last-group : (n : ℕ) → n ≤ mostGroupVariables → lastOf (word groupKind n) ≡ Group
-unfolding lastOf
+last-group : (n : ℕ) → n ≤ mostGroupVariables → endingKindOf (word groupKind n) ≡ Group
+unfolding endingKindOf
 last-group n h =
     let k : kind (word groupKind n) ≡ groupKind = omega arith in
     let l : low (word groupKind n) ≡ n = omega arith in
@@ -210,7 +211,7 @@ group-back vs m f =
     (λ i. group (vs-are i) (m-is i))
 
 registers-back : (v : ℕ) → isVariable v ≡ true → ReadAs (registers v) (word registersKind 0 ∷ v ∷ [])
-unfolding formAs endingAs all lastOf
+unfolding formAs endingAs all endingKindOf
 registers-back v f = (and-both (isVariable v) true f refl, refl)
 
 pub ending-back : (e : Ending) (ws : List ℕ) → EndingWords e ws → (endingForm ws ≡ true) × (endingAt ws ≡ e)

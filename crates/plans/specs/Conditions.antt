@@ -58,7 +58,7 @@ readNode Compared inner w (l ∷ []) = none
 readNode Compared inner w (l ∷ r ∷ ws) = some (compared (low w) l r, comparisonWords)
 readNode Wrong inner w ws = none
 
--- a condition that is at most so many nodes deep
+-- a condition that is at most a number of nodes deep, a lone node being 1 deep
 unfoldable pub readCondition : ℕ → List ℕ → Read Condition
 readCondition zero ws = none
 readCondition (suc depth) [] = none

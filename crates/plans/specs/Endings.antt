@@ -62,8 +62,8 @@ unfoldable pub keysForm : List ℕ → Bool
 keysForm ws = not (eqb (length ws) 0) && (leb (length ws) mostKeys && all isKey ws)
 
 -- what an ending's first word begins
-unfoldable pub lastOf : ℕ → EndingKind
-lastOf w =
+unfoldable pub endingKindOf : ℕ → EndingKind
+endingKindOf w =
     cond (eqb (kind w) rowsKind) Rows
     (cond (eqb (kind w) topKind) (cond (leb (low w) mostBest) Top Invalid)
     (cond (eqb (kind w) groupKind) (cond (leb (low w) mostGroupVariables) Group Invalid)
@@ -78,7 +78,7 @@ formAs Registers ws = eqb (length ws) 2 && all isVariable (drop 1 ws)
 formAs Invalid ws = false
 
 abbrev pub endingForm : List ℕ → Bool
-endingForm ws = formAs (lastOf (getD ws 0 0)) ws
+endingForm ws = formAs (endingKindOf (getD ws 0 0)) ws
 
 -- the ending of words that have the form
 unfoldable pub endingAs : EndingKind → List ℕ → Ending
@@ -89,7 +89,7 @@ endingAs Registers ws = registers (getD ws 1 0)
 endingAs Invalid ws = rows []
 
 abbrev pub endingAt : List ℕ → Ending
-endingAt ws = endingAs (lastOf (getD ws 0 0)) ws
+endingAt ws = endingAs (endingKindOf (getD ws 0 0)) ws
 
 -- ---- the variables of an ending, in test 6
 -- a key's variable is among the rows' variables

@@ -27,7 +27,7 @@ conditionWords (either a b) = word orKind 0 ∷ (conditionWords a ++ conditionWo
 conditionWords (negated a) = word notKind 0 ∷ conditionWords a
 conditionWords (compared o l r) = word comparisonKind o ∷ l ∷ r ∷ []
 
--- at most so many nodes deep, a lone node being 1 deep, and its comparisons are 0 to 5
+-- no deeper than the number of nodes, a lone node being 1 deep, and its comparisons are 0 to 5
 abbrev pub ConditionForm : ℕ → Condition → Type 0
 ConditionForm zero c = ⊥
 ConditionForm (suc depth) always = Unit {0}
@@ -45,7 +45,7 @@ conditionTerms (negated a) = conditionTerms a
 conditionTerms (compared o l r) = l ∷ r ∷ []
 
 -- ---- branches
--- the word of so many patterns, their terms, whatever these are, and the condition
+-- the word with the number of patterns, their terms, whatever these are, and the condition
 abbrev pub branchWords : Branch → List ℕ
 branchWords b = word branchKind (length (b .terms) / patternWidth) ∷ (b .terms ++ conditionWords (b .condition))
 

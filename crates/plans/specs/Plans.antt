@@ -61,6 +61,6 @@ planOf ws = planOr (readPlan ws)
 abbrev pub planTests : List ℕ → List Test
 planTests ws = (5, hasForm (readPlan ws)) ∷ (6, variablesRight (planOf ws)) ∷ (23, yearAllowed (planOf ws .years)) ∷ []
 
--- the branch of a plan with a number
+-- branch number `i` of a plan, from 0
 abbrev pub branchAt : Plan → ℕ → Branch
 branchAt q i = nthBranch (q .branches) i

@@ -17,7 +17,7 @@ use Rattle.plans.specs.declared.Tree.{Tree}
 use Rattle.plans.specs.declared.Tree.the-variants.{Reads, Bad}
 
 -- ---- words
--- the count in a word of a kind, 0 where it is another word or the count is above the most
+-- the count in the word `w`, 0 where it is not of the kind `k` or the count is above `most`
 abbrev pub countIn : ℕ → ℕ → ℕ → ℕ
 countIn k most w = cond (eqb (kind w) k) (cond (leb (low w) most) (low w) 0) 0
 
@@ -74,16 +74,16 @@ branchIn ws = readOr noBranch (readBranch ws)
 abbrev pub branchesIn : ℕ → List ℕ → List Branch
 branchesIn n ws = readOr [] (readBranches n ws)
 
--- where a plan's branch with a number starts; the ending starts where the branch after the last would
+-- where branch number `i` of a plan starts; the ending starts where the branch after the last would
 abbrev pub branchStart : ℕ → List ℕ → ℕ
 branchStart i ws = yearWords ws + (1 + wordsRead (readBranches i (bodyOf ws)))
 
 -- ---- the pieces of an ending
-abbrev pub lastIn : Ending → EndingKind
-lastIn (rows vs) = Rows
-lastIn (top k vs keys) = Top
-lastIn (group vs m) = Group
-lastIn (registers v) = Registers
+abbrev pub endingKindIn : Ending → EndingKind
+endingKindIn (rows vs) = Rows
+endingKindIn (top k vs keys) = Top
+endingKindIn (group vs m) = Group
+endingKindIn (registers v) = Registers
 
 -- the rows' variables, the group variables, or the one that registers count
 abbrev pub variablesIn : Ending → List ℕ

@@ -20,14 +20,14 @@ pub const PATTERN_WIDTH: usize = 3;
 
 pub const MOST_PATTERNS: u32 = 8;
 
-// The patterns of the branch that p starts with, or 0 where it starts with none.
+// How many patterns the branch has that `p` starts with, or 0 where it starts with none.
 pub fn pattern_count(p: &[u32]) -> usize
     ensures { λ r. ⌜ (r ≡ patternCount (getD (now (p .entry)) 0 0)) × (r ≤ mostPatterns) ⌝ }
 {
     words::wide(count_in(p, PlanWord::BRANCH, MOST_PATTERNS))
 }
 
-// The patterns of a branch that was read, which its first word names: its kind and their number are right.
+// The same of a branch that was read: the kind and the number in its first word are right.
 fn patterns_read(p: &[u32]) -> usize
     requires { ⌜ isRead (readBranch (now p)) ≡ true ⌝ }
     ensures { λ r. ⌜ (r ≡ patternCount (getD (now (p .entry)) 0 0)) × (r ≤ mostPatterns) ⌝ }
@@ -35,7 +35,7 @@ fn patterns_read(p: &[u32]) -> usize
     words::wide(PlanWord(p[0]).low())
 }
 
-// The terms of the patterns of the branch that p starts with.
+// The terms of the patterns of the branch that `p` starts with.
 pub fn terms(p: &[u32]) -> &[u32]
     requires { ⌜ isRead (readBranch (now p)) ≡ true ⌝ }
     ensures { λ r. ⌜ now r ≡ branchIn (now (p .entry)) .terms ⌝ }
@@ -44,7 +44,7 @@ pub fn terms(p: &[u32]) -> &[u32]
     &p[1..end]
 }
 
-// The words from the condition of the branch that p starts with on.
+// The words from the condition of the branch that `p` starts with on.
 pub fn condition_part(p: &[u32]) -> &[u32]
     requires { ⌜ isRead (readBranch (now p)) ≡ true ⌝ }
     ensures { λ r. ⌜ Gives (readCondition mostDepth (now r)) (branchIn (now (p .entry)) .condition) ⌝ }

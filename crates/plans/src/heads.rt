@@ -5,7 +5,7 @@ use words::PlanWord;
 ghost use mathlib.Core.Path.{_≡_};
 ghost use Rattle.plans.specs.Years.{yearsIn, fromHead, yearAllowed};
 
-// The part of a plan from its head on.
+// The part of `plan` from its head on.
 pub fn from_head(plan: &[u32]) -> &[u32]
     ensures { λ r. ⌜ now r ≡ fromHead (now (plan .entry)) ⌝ }
 {
@@ -18,7 +18,7 @@ pub fn from_head(plan: &[u32]) -> &[u32]
     &plan[1..]
 }
 
-// The years whose rows a plan reads.
+// The years whose rows `plan` reads.
 pub fn years_in(plan: &[u32]) -> Years
     ensures { λ r. ⌜ r ≡ yearsIn (now (plan .entry)) ⌝ }
 {
@@ -36,7 +36,7 @@ pub fn years_in(plan: &[u32]) -> Years
     Years::Named(number)
 }
 
-// Whether a plan may read these years. (23)
+// Whether a plan may read `years`. (23)
 pub fn year_allowed(years: Years) -> bool
     ensures { λ r. ⌜ r ≡ yearAllowed years ⌝ }
 {

@@ -24,7 +24,7 @@ ghost use Rattle.plans.specs.Conditions.{nodeOf};
 ghost use Rattle.plans.specs.Years.{headOf};
 ghost use Rattle.plans.specs.Plans.{branchCount, mostBranches};
 
-// A condition's depth, a lone node being 1 deep.
+// The most that a condition is deep, a lone node being 1 deep.
 pub const MOST_DEPTH: u32 = 8;
 
 pub const MOST_BRANCHES: u32 = 4;
@@ -48,7 +48,7 @@ pub enum Tree {
     Bad,
 }
 
-// The years whose rows a plan reads: the latest that the tables have, every one, or the one with a number.
+// The years whose rows a plan reads: the latest that the tables have, every one, or one by its number.
 pub enum Years {
     Latest,
     Every,
@@ -64,7 +64,7 @@ pub enum EndingKind {
     Invalid,
 }
 
-// The node that a word begins.
+// The node that `word` begins.
 pub fn node_of(word: u32) -> Node
     ensures { λ r. ⌜ r ≡ nodeOf word ⌝ }
 {
@@ -89,7 +89,7 @@ pub fn node_of(word: u32) -> Node
     }
 }
 
-// The branches that a plan's head names, or 0 where it has none.
+// How many branches the head of `plan` names, or 0 where it has no head.
 pub fn branch_count(plan: &[u32]) -> u32
     ensures { λ r. ⌜ (r ≡ branchCount (headOf (now (plan .entry)))) × (r ≤ mostBranches) ⌝ }
 {

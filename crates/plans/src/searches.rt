@@ -6,7 +6,7 @@ ghost use lib.ListN.{getD};
 ghost use Rattle.sequences.specs.Sequences.{member};
 ghost use Rattle.plans.specs.Reading.{countIn};
 
-// The first word of p, or 0, which begins no head, branch, condition or ending, where there is none.
+// The first word of `p`, or 0, which begins no head, branch, condition or ending, where there is none.
 pub fn first(p: &[u32]) -> u32
     ensures { λ r. ⌜ r ≡ getD (now (p .entry)) 0 0 ⌝ }
 {
@@ -16,7 +16,7 @@ pub fn first(p: &[u32]) -> u32
     p[0]
 }
 
-// The count in the first word of p, or 0 where that is a word of another kind or the count is above the most.
+// The count in the first word of `p`, or 0 where that is not of the kind `kind` or the count is above `most`.
 pub fn count_in(p: &[u32], kind: u32, most: u32) -> u32
     ensures { λ r. ⌜ (r ≡ countIn kind most (getD (now (p .entry)) 0 0)) × (r ≤ most) ⌝ }
 {
@@ -31,7 +31,7 @@ pub fn count_in(p: &[u32], kind: u32, most: u32) -> u32
     n
 }
 
-// Whether a word is among others.
+// Whether `word` is among `words`.
 pub fn among(word: u32, words: &[u32]) -> bool
     ensures { λ r. ⌜ r ≡ member word (now (words .entry)) ⌝ }
 {

@@ -42,7 +42,7 @@ module _ (bytes file : List ℕ) (p : FileParts) (h : layoutOf bytes ≡ Parts p
   enough : planAt n ≤ length ws
   enough = file-counted bytes p h .enough
 
-  -- so many words from a place on
+  -- `k` words from `a` on
   part-is : (k a : ℕ) → a + k ≤ p .words → take k (drop a file) ≡ take k (drop a ws)
   part-is k a l = sym (part-of k a (p .words) file l) ∙ ap (λ l. take k (drop a l)) e
 

@@ -12,7 +12,7 @@ ghost use lib.ListN.{length, take};
 ghost use Rattle.print_reading.specs.declared.Layout.the-variants.{Parts};
 ghost use Rattle.print_reading.specs.Files.{fileWords, Laid, layoutOf};
 
-// Opens the query of a file, whose words are read and whose parts are found, and runs it; a refusal is printed.
+// Opens the query of `file`, whose words were read and whose `parts` were found, and runs it; a refusal is printed.
 fn print_query(bytes: &[u8], file: &[u32], parts: FileParts)
     requires { ⌜ (Laid parts) × (parts .words ≤ length (now file)) ⌝ }
     requires { ⌜ (layoutOf (now bytes) ≡ Parts parts) × (take (parts .words) (now file) ≡ fileWords (now bytes)) ⌝ }
@@ -34,7 +34,7 @@ fn print_query(bytes: &[u8], file: &[u32], parts: FileParts)
     }
 }
 
-// Finds the parts of a file's bytes and prints what its query answers.
+// Finds the parts of the file that has these `bytes`, and prints what its query answers.
 fn print_bytes(bytes: &[u8]) {
     let mut file = [0u32; 16384];
     let layout = print_reading::read_file(bytes, &mut file);
@@ -44,7 +44,7 @@ fn print_bytes(bytes: &[u8]) {
     }
 }
 
-// Reads a file; one byte more than a file may have tells that it is longer. A read that fails says so again when it is asked once more.
+// Reads the file `fd`; one byte more than a file may have tells that it is longer. A read that fails says so again when it is asked once more.
 fn print_file(fd: i32, path: &[u8]) {
     let mut bytes = [0u8; 65537];
     let n = io::read_full(fd, &mut bytes);
@@ -56,7 +56,7 @@ fn print_file(fd: i32, path: &[u8]) {
     print_bytes(&bytes[..n]);
 }
 
-// Prints what the query of the file at a path answers; that it cannot be opened or read is said on standard error.
+// Prints what the query of the file at `path` answers; that it cannot be opened or read is said on standard error.
 pub fn print_path(path: &[u8]) {
     let fd = os::open_read(path);
     if fd < 0 {

@@ -14,7 +14,7 @@ ghost use Rattle.print_texts.specs.Texts.{numberField, integerField};
 ghost use Rattle.print_texts.specs.Placing.{PlacedText};
 ghost use Rattle.print_lines.specs.Lines.{totalsText, groupFields, groupLine, groupLineRoom};
 
-// The total of 64 bits in two words of a group, the low one first.
+// Puts the total of 64 bits in the two words of `group` from `total` on, the low one first.
 fn put_total(line: &mut [u8], at: usize, group: &[u32], total: usize) -> usize
     requires { ⌜ (total + 2 ≤ length (now group)) × (at + length (numberField (pairAt (now group) total)) ≤ length (now line)) ⌝ }
     ensures { λ r. ⌜ PlacedText (numberField (pairAt (now (group .entry)) total)) at (now (line .entry)) (now (line .exit)) r ⌝ }
@@ -22,7 +22,7 @@ fn put_total(line: &mut [u8], at: usize, group: &[u32], total: usize) -> usize
     put_number(line, at, list_longs::read64(group, total))
 }
 
-// The signed sum in two words of a group, the low one first.
+// Puts the signed sum in the two words of `group` from `sum` on, the low one first.
 fn put_group_sum(line: &mut [u8], at: usize, group: &[u32], sum: usize) -> usize
     requires { ⌜ (sum + 2 ≤ length (now group)) × (at + length (integerField (sumIn (pairAt (now group) sum))) ≤ length (now line)) ⌝ }
     ensures { λ r. ⌜ PlacedText (integerField (sumIn (pairAt (now (group .entry)) sum))) at (now (line .entry)) (now (line .exit)) r ⌝ }
@@ -30,7 +30,7 @@ fn put_group_sum(line: &mut [u8], at: usize, group: &[u32], sum: usize) -> usize
     put_sum(line, at, list_longs::read64(group, sum))
 }
 
-// The rows, the numbers and the sum of a record of so many keys.
+// Puts the rows, the numbers and the sum of `group`, a record of `keys` keys.
 fn put_totals(line: &mut [u8], at: usize, keys: usize, group: &[u32]) -> usize
     requires { ⌜ (keys + totalsWidth ≤ length (now group)) × (at + length (totalsText keys (now group)) ≤ length (now line)) ⌝ }
     ensures { λ r. ⌜ PlacedText (totalsText keys (now (group .entry))) at (now (line .entry)) (now (line .exit)) r ⌝ }
@@ -40,7 +40,7 @@ fn put_totals(line: &mut [u8], at: usize, keys: usize, group: &[u32]) -> usize
     put_group_sum(line, after_numbers, group, keys + 4)
 }
 
-// The fields of a record of so many keys.
+// Puts the fields of `group`, a record of `keys` keys.
 fn put_fields(line: &mut [u8], at: usize, keys: usize, group: &[u32]) -> usize
     requires { ⌜ (keys + totalsWidth ≤ length (now group)) × (at + length (groupFields (groupIn keys (now group))) ≤ length (now line)) ⌝ }
     ensures { λ r. ⌜ PlacedText (groupFields (groupIn keys (now (group .entry)))) at (now (line .entry)) (now (line .exit)) r ⌝ }
@@ -52,7 +52,7 @@ fn put_fields(line: &mut [u8], at: usize, keys: usize, group: &[u32]) -> usize
     put_terms(line, after_totals, &group[least..end])
 }
 
-// The line of a group's record of so many keys.
+// Writes the line of `group`, a record of `keys` keys, and answers its length.
 pub fn group_line(line: &mut [u8], keys: usize, group: &[u32]) -> usize
     requires { ⌜ (keys ≤ mostGroupVariables) × ((keys + totalsWidth ≤ length (now group)) × (groupLineRoom ≤ length (now line))) ⌝ }
     ensures line { λ r. ⌜ Listed (groupLine (groupIn keys (now (group .entry)))) (now (line .entry)) (now (line .exit)) r ⌝ }

@@ -14,7 +14,7 @@ ghost use Rattle.print_texts.specs.Texts.{numberField};
 ghost use Rattle.print_lines.specs.Lines.{rowLine, listLine, refusedLine, servedLine, turnLine, rowLineRoom, turnLineRoom};
 ghost use Rattle.print_texts.specs.Placing.{PlacedText};
 
-// A row's line.
+// Writes the line of `row`, and answers its length.
 pub fn row_line(line: &mut [u8], row: &[u32]) -> usize
     requires { ⌜ (length (now row) ≤ mostRowVariables) × (rowLineRoom ≤ length (now line)) ⌝ }
     ensures line { λ r. ⌜ Listed (rowLine (now (row .entry))) (now (line .entry)) (now (line .exit)) r ⌝ }
@@ -25,7 +25,7 @@ pub fn row_line(line: &mut [u8], row: &[u32]) -> usize
     put_byte(line, end, b'\n')
 }
 
-// The line of any other list.
+// The line of `list`, which is neither of rows nor of groups.
 pub fn list_line(line: &mut [u8], list: &[u32]) -> usize
     requires { ⌜ length (listLine (now list)) ≤ length (now line) ⌝ }
     ensures { λ r. ⌜ Listed (listLine (now (list .entry))) (now (line .entry)) (now (line .exit)) r ⌝ }
@@ -35,7 +35,7 @@ pub fn list_line(line: &mut [u8], list: &[u32]) -> usize
     put_byte(line, end, b'\n')
 }
 
-// The line of a refusal.
+// The line of a refusal by `number`.
 pub fn refused_line(line: &mut [u8], number: u32) -> usize
     requires { ⌜ turnLineRoom ≤ length (now line) ⌝ }
     ensures line { λ r. ⌜ Listed (refusedLine number) (now (line .entry)) (now (line .exit)) r ⌝ }
@@ -46,7 +46,7 @@ pub fn refused_line(line: &mut [u8], number: u32) -> usize
     put_byte(line, end, b'\n')
 }
 
-// A number's word and its number.
+// Puts the word `name` and the number `x` behind it.
 fn put_named(line: &mut [u8], at: usize, name: &[u8], x: u64) -> usize
     requires { ⌜ at + (length (now name) + length (numberField x)) ≤ length (now line) ⌝ }
     ensures { λ r. ⌜ PlacedText (now (name .entry) ++ numberField x) at (now (line .entry)) (now (line .exit)) r ⌝ }
@@ -55,7 +55,7 @@ fn put_named(line: &mut [u8], at: usize, name: &[u8], x: u64) -> usize
     put_number(line, next, x)
 }
 
-// The line of a served turn, whose ending is a word with the end of the line.
+// The line of a served turn with its `number` and `steps`; `ending` is a word with the end of the line.
 fn served_line(line: &mut [u8], number: u64, steps: u32, ending: &[u8]) -> usize
     requires { ⌜ (length (now ending) ≤ 7) × (turnLineRoom ≤ length (now line)) ⌝ }
     ensures line { λ r. ⌜ Listed (servedLine number steps (now (ending .entry))) (now (line .entry)) (now (line .exit)) r ⌝ }
@@ -66,7 +66,7 @@ fn served_line(line: &mut [u8], number: u64, steps: u32, ending: &[u8]) -> usize
     put_bytes(line, after_steps, ending)
 }
 
-// The line of a turn, by its ending.
+// The line of a turn with its `number` and `steps`, by its `ending`.
 pub fn turn_line(line: &mut [u8], number: u64, steps: u32, ending: TurnEnding) -> usize
     requires { ⌜ turnLineRoom ≤ length (now line) ⌝ }
     ensures line { λ r. ⌜ Listed (turnLine number steps ending) (now (line .entry)) (now (line .exit)) r ⌝ }

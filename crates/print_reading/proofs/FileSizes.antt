@@ -11,7 +11,7 @@ use Rattle.print_reading.specs.Files.{wordBytes, littleEndian, fileWords
 use Rattle.print_reading.specs.FileSizes.{zeroBytes, longestWith, FileSizesWorked}
 use Rattle.print_reading.proofs.FileWords.{length-words, too-short, right-parts, too-long, whole, first-word}
 
--- a file of so many words, the first of which is n
+-- a file of `words` words, the first of which is `n`
 module _ (bytes : List ℕ) (n words : ℕ) (first : n ≡ littleEndian (take wordBytes bytes)) (counted : length bytes ≡ words * wordBytes)
     (some : 2 ≤ words) (short : words * wordBytes ≤ mostFileBytes) where
   count : words ≡ length (fileWords bytes)

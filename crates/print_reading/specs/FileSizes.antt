@@ -11,7 +11,7 @@ use Rattle.print_reading.specs.Files.{layoutOf}
 abbrev pub laidAt : ℕ → ℕ → ℕ → ℕ → Layout
 laidAt pos osp plan words = Parts (record { pos = pos; osp = osp; plan = plan; words = words })
 
--- so many bytes, all 0: a file of no rows
+-- `n` bytes, all 0: a file of no rows
 abbrev pub zeroBytes : ℕ → List ℕ
 zeroBytes n = replicate n 0
 
@@ -24,7 +24,7 @@ pub record FileSizesWorked : Type 0 where
   pub longest : layoutOf (zeroBytes 65536) ≡ laidAt 2 2 2 16384
   pub byte-longer : layoutOf (zeroBytes 65537) ≡ Refused 1
   pub word-longer : layoutOf (zeroBytes 65540) ≡ Refused 1
-  -- so many bytes have room for 2,730 rows, and for no more
+  -- 65,536 bytes have room for 2,730 rows, and for no more
   pub most-rows : layoutOf (longestWith 0xAA 0x0A) ≡ laidAt 10922 13652 16382 16384
   pub row-more : layoutOf (longestWith 0xAB 0x0A) ≡ Refused 1
   -- two words are the least; bytes that are no whole words are refused

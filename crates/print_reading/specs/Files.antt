@@ -35,7 +35,7 @@ rowCountIn words = getD words 0 0
 abbrev pub quantumIn : List ℕ → ℕ
 quantumIn words = getD words 1 0
 
--- the word where each part begins, of a file with so many rows: the words of each row, then a row number of each in POS and in OSP
+-- the word where each part begins, of a file with `n` rows: the words of each row, then a row number of each in POS and in OSP
 abbrev pub rowsAt : ℕ
 rowsAt = 2
 
@@ -48,7 +48,7 @@ ospAt n = rowsAt + (columnCount + 1) * n
 abbrev pub planAt : ℕ → ℕ
 planAt n = rowsAt + (columnCount + 2) * n
 
--- the parts of a file with so many rows and words; the plan is all that is left
+-- the parts of a file with `n` rows and `count` words; the plan is all that is left
 abbrev pub partsOf : ℕ → ℕ → FileParts
 partsOf n count = record { pos = posAt n; osp = ospAt n; plan = planAt n; words = count }
 

@@ -23,14 +23,14 @@ pub enum Layout {
 // The bytes of a file, at most.
 pub const MOST_BYTES: usize = 65536;
 
-// A byte as a word.
+// `b` as a word.
 fn byte(b: u8) -> u32
     ensures { λ r. ⌜ (r ≡ b) × (r < 256) ⌝ }
 {
     b as u32
 }
 
-// The word in four bytes from a place on, the low one first.
+// The word in the four bytes from `at` on, the low one first.
 fn word_at(bytes: &[u8], at: usize) -> u32
     requires { ⌜ at + wordBytes ≤ length (now bytes) ⌝ }
     ensures { λ r. ⌜ r ≡ littleEndian (take wordBytes (drop at (now (bytes .entry)))) ⌝ }
@@ -40,7 +40,7 @@ fn word_at(bytes: &[u8], at: usize) -> u32
     low + 65536 * high
 }
 
-// Reads the whole words of some bytes.
+// Reads the whole words of `bytes` into `words`.
 fn read_words(bytes: &[u8], words: &mut [u32])
     requires { ⌜ length (now bytes) / wordBytes ≤ length (now words) ⌝ }
     ensures { λ _. ⌜ now (words .exit) ≡ over (fileWords (now (bytes .entry))) (now (words .entry)) ⌝ }
@@ -54,7 +54,7 @@ fn read_words(bytes: &[u8], words: &mut [u32])
     }
 }
 
-// Where the parts begin of the whole words that some bytes make.
+// Where the parts begin among the whole words of `bytes`.
 fn parts_in(bytes: &[u8]) -> Layout
     ensures { λ r. ⌜ r ≡ partsIn (fileWords (now (bytes .entry))) ⌝ }
 {
@@ -77,7 +77,7 @@ fn parts_in(bytes: &[u8]) -> Layout
     })
 }
 
-// Where the parts of a file begin, if it is in whole words and not too long.
+// Where the parts of a file begin, if its `bytes` are whole words and not too many.
 fn layout_of(bytes: &[u8]) -> Layout
     ensures { λ r. ⌜ r ≡ layoutOf (now (bytes .entry)) ⌝ }
 {
@@ -90,7 +90,7 @@ fn layout_of(bytes: &[u8]) -> Layout
     parts_in(bytes)
 }
 
-// Finds the parts of a file, and then reads its words; nothing is written of a file that is refused.
+// Finds the parts of a file, and then reads its `bytes` into `words`; nothing is written of a file that is refused.
 pub fn read_file(bytes: &[u8], words: &mut [u32]) -> Layout
     requires { ⌜ mostFileBytes / wordBytes ≤ length (now words) ⌝ }
     ensures { λ r. ⌜ record { answer = r; words = now (words .exit) } ≡ readOf (now (bytes .entry)) (now (words .entry)) ⌝ }

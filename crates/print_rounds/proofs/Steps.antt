@@ -28,7 +28,7 @@ module _ (i : TurnInput) (kept : List ℕ) (used : ℕ) (r : Step) (state out le
   pub list-room : r .turned .listed ≤ length out
   list-room = omega (arith, listed-room i, ap length output-is, ap (λ (x : Turned). x .listed) turned-is)
 
-  -- with no threshold, after so many turns
+  -- with no threshold, after `made` turns
   module _ (none-sent : i .threshold ≡ []) (made : ℕ) (o : CanOpen (i .survey) (i .plan))
       (s : StandsAfter (i .survey) (i .plan) (i .quantum) (length (i .output)) made (i .state) (i .given)) where
     pub turn-shown : isServed (r .turned .ending) ≡ true

@@ -29,7 +29,7 @@ pub const OUTPUT_RECORDS: usize = 64;
 // Turns are counted in 64 bits. A query of more turns would not come to its end in any lifetime, so the loop's test always passes.
 pub const MOST_TURNS: u64 = 18446744073709551615;
 
-// One turn of a file's query and its list, printed, from where the query stands after so many turns.
+// One turn of a file's query and its list, printed, from where the query stands after `made` turns.
 fn print_step(
     bytes: &[u8],
     rows: &[u32],
@@ -131,7 +131,7 @@ fn go_on(
     }
 }
 
-// Runs an opened query with the printer's buffers: an output of exactly so many rows or records, and a kept list.
+// Runs an opened query with the printer's buffers: an output of exactly `OUTPUT_RECORDS` rows or records, and a kept list.
 pub fn run(
     bytes: &[u8],
     rows: &[u32],

@@ -12,7 +12,7 @@ use Rattle.tables.specs.Tables.{Tables}
 use Rattle.plans.specs.declared.EndingKind.the-variants.{Rows}
 use Rattle.plans.specs.Endings.{Ending, rows, top, group, registers}
 use Rattle.plans.specs.Plans.{planOf}
-use Rattle.plans.specs.Reading.{lastIn}
+use Rattle.plans.specs.Reading.{endingKindIn}
 use Rattle.steps.specs.Steps.{after}
 use Rattle.lists.specs.Rows.{project}
 use Rattle.lists.specs.Gathering.{width, gathered}
@@ -53,7 +53,7 @@ unfolding gathered
 gathered-whole vs threshold bs =
     ap (λ n. n % length vs) (length-flatten (length vs) (map (project vs) bs) (wide-project vs bs)) ∙ mul-mod-left (length (map (project vs) bs)) (length vs)
 
-rows-whole : (e : Ending) → lastIn e ≡ Rows → (threshold : List ℕ) (done : Bool) (bs : List Bindings)
+rows-whole : (e : Ending) → endingKindIn e ≡ Rows → (threshold : List ℕ) (done : Bool) (bs : List Bindings)
     → length (listAt e threshold done bs) % width e ≡ 0
 rows-whole (rows vs) h threshold done bs = ap (λ l. length l % length vs) (rows-at vs threshold done bs) ∙ gathered-whole vs threshold bs
 rows-whole (top k vs keys) h threshold done bs = let z : _≡_ {A = ℕ} 0 1 = cc in absurd (omega arith)
@@ -61,7 +61,7 @@ rows-whole (group vs m) h threshold done bs = let z : _≡_ {A = ℕ} 0 1 = cc i
 rows-whole (registers v) h threshold done bs = let z : _≡_ {A = ℕ} 0 1 = cc in absurd (omega arith)
 
 pub shown-whole : (t : Tables) (plan : List ℕ) (quantum room number : ℕ) (turned : Turned) (list : List ℕ)
-    → Shows t plan quantum room number turned list → lastIn (planOf plan .ending) ≡ Rows → length list % width (planOf plan .ending) ≡ 0
+    → Shows t plan quantum room number turned list → endingKindIn (planOf plan .ending) ≡ Rows → length list % width (planOf plan .ending) ≡ 0
 shown-whole t plan quantum room number turned list s h =
     let run = after t (planOf plan) in
     ap (λ l. length l % width (planOf plan .ending)) (s .listed)

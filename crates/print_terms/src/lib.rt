@@ -20,7 +20,7 @@ pub enum ShownAs {
     Number,
 }
 
-// The letter of a term's kind: n for a name, i for a number, t for a text.
+// The letter of `kind`, that of a term: n for a name, i for a number, t for a text.
 fn letter_of(kind: u32) -> u8
     ensures { λ r. ⌜ r ≡ kindLetter kind ⌝ }
 {
@@ -31,7 +31,7 @@ fn letter_of(kind: u32) -> u8
     }
 }
 
-// The value of a term, a number's with its sign.
+// Puts the value of the term `word`, a number's with its sign.
 fn put_value(line: &mut [u8], at: usize, word: u32) -> usize
     requires { ⌜ at + length (valueText word) ≤ length (now line) ⌝ }
     ensures { λ r. ⌜ PlacedText (valueText word) at (now (line .entry)) (now (line .exit)) r ⌝ }
@@ -44,7 +44,7 @@ fn put_value(line: &mut [u8], at: usize, word: u32) -> usize
     put_decimal(line, at, value)
 }
 
-// A term: a letter and its value, or a dash for unbound.
+// Puts the term `word`: a letter and its value, or a dash for unbound.
 fn put_text(line: &mut [u8], at: usize, word: u32) -> usize
     requires { ⌜ at + length (termText word) ≤ length (now line) ⌝ }
     ensures { λ r. ⌜ PlacedText (termText word) at (now (line .entry)) (now (line .exit)) r ⌝ }
@@ -57,7 +57,7 @@ fn put_text(line: &mut [u8], at: usize, word: u32) -> usize
     put_value(line, next, word)
 }
 
-// A term, after a blank.
+// Puts the term `word`, after a blank.
 fn put_term(line: &mut [u8], at: usize, word: u32) -> usize
     requires { ⌜ at + length (termField word) ≤ length (now line) ⌝ }
     ensures { λ r. ⌜ PlacedText (termField word) at (now (line .entry)) (now (line .exit)) r ⌝ }
@@ -66,7 +66,7 @@ fn put_term(line: &mut [u8], at: usize, word: u32) -> usize
     put_text(line, next, word)
 }
 
-// A word as a field, after a blank.
+// Puts `word` as a field, after a blank.
 fn put_field(line: &mut [u8], at: usize, word: u32, shown: ShownAs) -> usize
     requires { ⌜ at + length (fieldAs shown word) ≤ length (now line) ⌝ }
     ensures { λ r. ⌜ PlacedText (fieldAs shown word) at (now (line .entry)) (now (line .exit)) r ⌝ }
@@ -77,7 +77,7 @@ fn put_field(line: &mut [u8], at: usize, word: u32, shown: ShownAs) -> usize
     }
 }
 
-// Words as fields, each after a blank.
+// Puts `words` as fields, each after a blank.
 fn put_fields(line: &mut [u8], at: usize, words: &[u32], shown: ShownAs) -> usize
     requires { ⌜ at + length (fields (fieldAs shown) (now words)) ≤ length (now line) ⌝ }
     ensures { λ r. ⌜ PlacedText (fields (fieldAs shown) (now (words .entry))) at (now (line .entry)) (now (line .exit)) r ⌝ }
@@ -92,7 +92,7 @@ fn put_fields(line: &mut [u8], at: usize, words: &[u32], shown: ShownAs) -> usiz
     next
 }
 
-// Words as terms, each after a blank.
+// Puts `terms` as fields, each after a blank.
 pub fn put_terms(line: &mut [u8], at: usize, terms: &[u32]) -> usize
     requires { ⌜ at + length (termFields (now terms)) ≤ length (now line) ⌝ }
     ensures { λ r. ⌜ PlacedText (termFields (now (terms .entry))) at (now (line .entry)) (now (line .exit)) r ⌝ }
@@ -100,7 +100,7 @@ pub fn put_terms(line: &mut [u8], at: usize, terms: &[u32]) -> usize
     put_fields(line, at, terms, ShownAs::Term)
 }
 
-// Words as numbers, each after a blank.
+// Puts `words` as numbers, each after a blank.
 pub fn put_numbers(line: &mut [u8], at: usize, words: &[u32]) -> usize
     requires { ⌜ at + length (numberFields (now words)) ≤ length (now line) ⌝ }
     ensures { λ r. ⌜ PlacedText (numberFields (now (words .entry))) at (now (line .entry)) (now (line .exit)) r ⌝ }

@@ -5,10 +5,10 @@ use mathlib.Core.List.{List, _++_}
 use lib.ListN.{length, take, drop}
 use Rattle.print_texts.specs.Texts.{Text}
 
--- the line with a text over its bytes from a place on
+-- `line` with `text` over its bytes from `at` on
 abbrev pub placed : Text → ℕ → List ℕ → List ℕ
 placed text at line = take at line ++ text ++ drop (at + length text) line
 
--- of a line before and after, and the place answered: the text stands there, and the place is the one after it
+-- of a line before and after: `text` stands there from `at` on, and the place answered, `end`, is the one after it
 abbrev pub PlacedText : Text → ℕ → List ℕ → List ℕ → ℕ → Type 0
 PlacedText text at before after end = (end ≡ at + length text) × (after ≡ placed text at before)

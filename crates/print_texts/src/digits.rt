@@ -6,7 +6,7 @@ ghost use Rattle.print_texts.specs.Texts.{decimal};
 ghost use Rattle.print_texts.specs.Texts.{digit as Texts·digit};
 ghost use Rattle.print_texts.specs.Placing.{placed, PlacedText};
 
-// The character of a digit.
+// The character of the digit `d`.
 fn digit(d: u64) -> u8
     requires { ⌜ d < 10 ⌝ }
     ensures { λ r. ⌜ r ≡ Texts·digit d ⌝ }
@@ -14,7 +14,7 @@ fn digit(d: u64) -> u8
     b'0' + d as u8
 }
 
-// How many digits a number has.
+// How many digits `x` has.
 fn digit_count(x: u64) -> usize
     ensures { λ r. ⌜ r ≡ length (decimal x) ⌝ }
 {
@@ -27,7 +27,7 @@ fn digit_count(x: u64) -> usize
     count
 }
 
-// Writes a number's digits in front of a place, from the last one on.
+// Writes the digits of `x` in front of `end`, from the last one on.
 fn write_digits(line: &mut [u8], end: usize, x: u64)
     requires { ⌜ (length (decimal x) ≤ end) × (end ≤ length (now line)) ⌝ }
     ensures { λ _. ⌜ now (line .exit) ≡ placed (decimal x) (end - length (decimal x)) (now (line .entry)) ⌝ }
@@ -42,7 +42,7 @@ fn write_digits(line: &mut [u8], end: usize, x: u64)
     line[i - 1] = digit(rest);
 }
 
-// Puts a number on the line.
+// Puts `x` on the line.
 pub fn put_decimal(line: &mut [u8], at: usize, x: u64) -> usize
     requires { ⌜ at + length (decimal x) ≤ length (now line) ⌝ }
     ensures { λ r. ⌜ PlacedText (decimal x) at (now (line .entry)) (now (line .exit)) r ⌝ }

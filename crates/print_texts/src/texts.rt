@@ -32,7 +32,7 @@ pub fn put_bytes(line: &mut [u8], at: usize, text: &[u8]) -> usize
     at + i
 }
 
-// A number, after a blank.
+// Puts `x`, after a blank.
 pub fn put_number(line: &mut [u8], at: usize, x: u64) -> usize
     requires { ⌜ at + length (numberField x) ≤ length (now line) ⌝ }
     ensures { λ r. ⌜ PlacedText (numberField x) at (now (line .entry)) (now (line .exit)) r ⌝ }
@@ -41,7 +41,7 @@ pub fn put_number(line: &mut [u8], at: usize, x: u64) -> usize
     put_decimal(line, next, x)
 }
 
-// Bits in two's complement, with half their values from zero up, in decimal.
+// Puts `bits` in decimal, in two's complement with `half` values from zero up.
 pub fn put_signed(line: &mut [u8], at: usize, bits: u64, half: u64) -> usize
     requires { ⌜ (bits < half + half) × (at + length (integerText (signed half bits)) ≤ length (now line)) ⌝ }
     ensures { λ r. ⌜ PlacedText (integerText (signed half bits)) at (now (line .entry)) (now (line .exit)) r ⌝ }
@@ -53,7 +53,7 @@ pub fn put_signed(line: &mut [u8], at: usize, bits: u64, half: u64) -> usize
     put_decimal(line, next, half - (bits - half))
 }
 
-// A sum, given by its 64 bits, after a blank.
+// Puts the sum whose 64 bits are `bits`, after a blank.
 pub fn put_sum(line: &mut [u8], at: usize, bits: u64) -> usize
     requires { ⌜ at + length (integerField (sumIn bits)) ≤ length (now line) ⌝ }
     ensures { λ r. ⌜ PlacedText (integerField (sumIn bits)) at (now (line .entry)) (now (line .exit)) r ⌝ }

@@ -12,7 +12,7 @@ use Rattle.plans.specs.declared.EndingKind.{EndingKind}
 use Rattle.plans.specs.declared.EndingKind.the-variants.{Rows, Top, Group, Registers, Invalid}
 use Rattle.plans.specs.Endings.{Ending, rows, top, group, registers, mostRowVariables}
 use Rattle.plans.specs.Plans.{readPlan, hasForm, planOf}
-use Rattle.plans.specs.Reading.{lastIn, variablesIn}
+use Rattle.plans.specs.Reading.{endingKindIn, variablesIn}
 use Rattle.plans.proofs.Bounds.{EndingForm, plan-form, was-read}
 use Rattle.lists.specs.Gathering.{width}
 use Rattle.print_writing.specs.declared.Listing.{Listing}
@@ -28,13 +28,13 @@ few-variables (top k vs keys) f = f .row .most
 few-variables (group vs m) f = omega (arith, f .most)
 few-variables (registers v) f = omega arith
 
-pub width-of : (e : Ending) → widthOf (lastIn e) (length (variablesIn e)) ≡ width e
+pub width-of : (e : Ending) → widthOf (endingKindIn e) (length (variablesIn e)) ≡ width e
 width-of (rows vs) = refl
 width-of (top k vs keys) = refl
 width-of (group vs m) = refl
 width-of (registers v) = refl
 
-has-width : (e : Ending) → EndingForm e → HasWidth (lastIn e) (width e)
+has-width : (e : Ending) → EndingForm e → HasWidth (endingKindIn e) (width e)
 has-width (rows vs) f = (f .least, f .most)
 has-width (top k vs keys) f = (f .row .least, f .row .most)
 has-width (group vs m) f = let l = f .most in (omega arith, omega arith)

@@ -8,7 +8,7 @@ use Rattle.plans.specs.declared.EndingKind.{EndingKind}
 use Rattle.plans.specs.declared.EndingKind.the-variants.{Rows, Top, Group, Registers, Invalid}
 use Rattle.plans.specs.Endings.{Ending, mostRowVariables, mostGroupVariables}
 use Rattle.plans.specs.Plans.{readPlan, hasForm, planOf}
-use Rattle.plans.specs.Reading.{lastIn}
+use Rattle.plans.specs.Reading.{endingKindIn}
 use Rattle.registers.specs.Registers.{registerCount}
 use Rattle.lists.specs.Groups.{totalsWidth}
 use Rattle.lists.specs.Gathering.{width}
@@ -16,13 +16,13 @@ use Rattle.print_writing.specs.declared.Listing.{Listing}
 
 -- what the lists of an ending hold
 abbrev pub listingOf : Ending → Listing
-listingOf e = record { kind = lastIn e; width = width e }
+listingOf e = record { kind = endingKindIn e; width = width e }
 
 -- of a plan that has the form
 abbrev pub ListsOf : List ℕ → Listing → Type 0
 ListsOf plan lists = (hasForm (readPlan plan) ≡ true) × (lists ≡ listingOf (planOf plan .ending))
 
--- the words of a row or record with so many variables, or of all registers
+-- the words of a row or record with `n` variables, or of all registers
 abbrev pub widthOf : EndingKind → ℕ → ℕ
 widthOf Rows n = n
 widthOf Top n = n

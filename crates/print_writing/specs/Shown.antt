@@ -51,6 +51,6 @@ LeftToShow bytes kept (Stopped x) = RefusedBy bytes x
 LeftToShow bytes kept (Refused x) = ⊥
 
 -- ---- lines
--- the first bytes of a line, so many, are a text
+-- the first `n` bytes of `line` are `text`
 abbrev pub IsLine : List ℕ → List ℕ → ℕ → Type 0
 IsLine text line n = (n ≤ length line) × (take n line ≡ text)

@@ -21,7 +21,7 @@ pub const REGISTERS: usize = 16;
 // The words of a group's record after its keys.
 pub const TOTALS_WIDTH: usize = 8;
 
-// The number by which a file is refused.
+// Prints `number`, by which a file is refused.
 pub fn print_refused(bytes: &[u8], number: u32)
     requires { ⌜ RefusedBy (now bytes) number ⌝ }
 {
@@ -30,7 +30,7 @@ pub fn print_refused(bytes: &[u8], number: u32)
     write_refused(bytes, number, &line, n);
 }
 
-// The line of a served turn, which is the uncut run's turn with that number.
+// Prints the line of the served turn `turned`, which is turn number `number` of the uncut run.
 pub fn print_turn(bytes: &[u8], number: u64, turned: Turned, list: &[u32])
     requires { ⌜ TurnShown (now bytes) number turned (now list) ⌝ }
 {
@@ -48,7 +48,7 @@ fn print_row(row: &[u32])
     write_row(row, &line, n);
 }
 
-// A group's record; its keys are what stands before its totals.
+// Prints `group`, a record; its keys are what stands before its totals.
 fn print_group(group: &[u32])
     requires { ⌜ IsRecord (length (now group)) ⌝ }
 {
@@ -58,7 +58,7 @@ fn print_group(group: &[u32])
     write_group(keys, group, &line, n);
 }
 
-// All registers, in decimal.
+// Prints all registers, in decimal.
 fn print_registers(list: &[u32])
     requires { ⌜ length (now list) ≡ registerCount ⌝ }
 {
@@ -67,7 +67,7 @@ fn print_registers(list: &[u32])
     write_list(list, &line, n);
 }
 
-// A row or a record, or all registers. An invalid ending has none.
+// Prints `words`: a row or a record, or all registers. An invalid ending has none.
 fn print_record(kind: EndingKind, words: &[u32])
     requires { ⌜ HasWidth kind (length (now words)) ⌝ }
 {
@@ -80,7 +80,7 @@ fn print_record(kind: EndingKind, words: &[u32])
     }
 }
 
-// The rows or records of a list, each on its line, or its registers on one.
+// Prints the rows or records of `list`, each on its line, or its registers on one.
 pub fn print_list(lists: Listing, list: &[u32])
     requires { ⌜ HasWidth (lists .kind) (lists .width) ⌝ }
     requires { ⌜ length (now list) % lists .width ≡ 0 ⌝ }

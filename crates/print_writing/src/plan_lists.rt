@@ -10,7 +10,7 @@ ghost use Rattle.plans.specs.Endings.{mostRowVariables};
 ghost use Rattle.plans.specs.Plans.{readPlan, hasForm, planOf};
 ghost use Rattle.print_writing.specs.Listings.{listingOf, widthOf};
 
-// The words of a row or record whose plan names so many variables, or of all registers.
+// The words of a row or record whose plan names `variables` variables, or of all registers.
 fn record_width(kind: EndingKind, variables: usize) -> usize
     requires { ⌜ variables ≤ mostRowVariables ⌝ }
     ensures { λ r. ⌜ r ≡ widthOf kind variables ⌝ }
@@ -24,7 +24,7 @@ fn record_width(kind: EndingKind, variables: usize) -> usize
     }
 }
 
-// What the lists of a plan hold.
+// What the lists of `plan` hold.
 pub fn lists_of(plan: &[u32]) -> Listing
     requires { ⌜ hasForm (readPlan (now plan)) ≡ true ⌝ }
     ensures { λ r. ⌜ r ≡ listingOf (planOf (now (plan .entry)) .ending) ⌝ }

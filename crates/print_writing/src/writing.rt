@@ -8,7 +8,7 @@ ghost use Rattle.lists.specs.Groups.{groupIn};
 ghost use Rattle.print_lines.specs.Lines.{turnLine, refusedLine, rowLine, groupLine, listLine};
 ghost use Rattle.print_writing.specs.Shown.{TurnShown, RefusedBy, IsLine};
 
-// Writes the first bytes of a line, so many; that they could not be written is said on standard error.
+// Writes the first `n` bytes of `line`; that they could not be written is said on standard error.
 fn write_first(line: &[u8], n: usize)
     requires { ⌜ n ≤ length (now line) ⌝ }
 {
@@ -18,7 +18,7 @@ fn write_first(line: &[u8], n: usize)
     }
 }
 
-// The line of a turn: of its number, its steps and its ending, and they are those of the uncut run's turn with that number.
+// The line of a turn: of its number, its steps and its ending, and they are those of turn number `number` of the uncut run.
 pub fn write_turn(bytes: &[u8], number: u64, turned: Turned, list: &[u32], line: &[u8], n: usize)
     requires { ⌜ TurnShown (now bytes) number turned (now list) ⌝ }
     requires { ⌜ IsLine (turnLine number (turned .steps) (turned .ending)) (now line) n ⌝ }
@@ -26,7 +26,7 @@ pub fn write_turn(bytes: &[u8], number: u64, turned: Turned, list: &[u32], line:
     write_first(line, n);
 }
 
-// The line of a refusal: of the number by which the file is refused.
+// The line of a refusal: of `number`, by which the file is refused.
 pub fn write_refused(bytes: &[u8], number: u32, line: &[u8], n: usize)
     requires { ⌜ RefusedBy (now bytes) number ⌝ }
     requires { ⌜ IsLine (refusedLine number) (now line) n ⌝ }
@@ -34,14 +34,14 @@ pub fn write_refused(bytes: &[u8], number: u32, line: &[u8], n: usize)
     write_first(line, n);
 }
 
-// The line of a row.
+// The line of `row`.
 pub fn write_row(row: &[u32], line: &[u8], n: usize)
     requires { ⌜ IsLine (rowLine (now row)) (now line) n ⌝ }
 {
     write_first(line, n);
 }
 
-// The line of a group's record of so many keys.
+// The line of `group`, a record of `keys` keys.
 pub fn write_group(keys: usize, group: &[u32], line: &[u8], n: usize)
     requires { ⌜ IsLine (groupLine (groupIn keys (now group))) (now line) n ⌝ }
 {

@@ -1,5 +1,5 @@
--- The turns of the uncut run are fixed by their quantum and their output: from one place on there is one turn, and so many turns from the
--- start end at one place.
+-- The turns of the uncut run are fixed by their quantum and their output: from one place on there is one turn, and the same number of turns from
+-- the start ends at one place.
 use Prim.Native.Nat.{ℕ, _+_, _-_, _≤_, _<_}
 use native.Mathlib.Omega.{arith}
 use native.Mathlib.Decide.{decLt}
@@ -89,7 +89,7 @@ module _ (t : Tables) (plan : List ℕ) (a : Accepted t plan) where
         let p : from ≡ from₁ = turns-once k l from from₁ ts us (omega arith) in
         turn-once from₁ to to₁ (subst (λ f. Turn t plan quantum room f to) p x) y
 
-    -- where so many turns end the run, no more are made
+    -- where `c` turns end the run, no more are made
     pub no-further : (c d m n : ℕ) → Turns t plan quantum room c m → EndsAt t q m → Turns t plan quantum room d n → c < d → ⊥
     no-further c d m n ts e none-made l = omega arith
     no-further c d m n ts e (one-more k from to us y g) l =

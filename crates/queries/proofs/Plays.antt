@@ -39,7 +39,7 @@ module _ (keep : Keeping) (v : Survey) (plan state : List ℕ) (saved : ℕ) (s 
   abbrev room : ℕ
   room = length output
 
-  -- ---- where so many rounds lead
+  -- ---- where `n` rounds lead
   abbrev pub Led : ℕ → Went → Lent → Type 0
   Led n (On left used) l =
       GoesAhead keep v plan (startAt state saved) kept quantum room n (l .state) left (l .kept) used × (length (l .output) ≡ room)
@@ -67,7 +67,7 @@ module _ (keep : Keeping) (v : Survey) (plan state : List ℕ) (saved : ℕ) (s 
       by-went n (p .went) (p .held) (subst (λ r. Becomes keep v plan first kept quantum (n + 1) r n (p .held .state) (p .held .kept) (p .went)) (g .1) b)
       (same-room keep (roundInput v plan quantum left l) (l .kept) used ∙ g .1)
 
-  -- a query that is over or stopped within so many turns is so within one more
+  -- a query that is over or stopped within `n` turns is so within one more
   later : (n : ℕ) (w : Went) (l : Lent) → at n ≡ record { went = w; held = l } → Led n w l → LedTo (n + 1) (at (n + 1))
   later n (On left used) l e g = subst⁻¹ (LedTo (n + 1)) (rounds-on keep v plan quantum start n left used l e) (turned n left used l g)
   later n (Over words) l e f =

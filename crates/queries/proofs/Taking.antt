@@ -14,7 +14,7 @@ use Rattle.plans.specs.declared.EndingKind.{EndingKind}
 use Rattle.plans.specs.declared.EndingKind.the-variants as last
 use Rattle.plans.specs.Endings.{Ending, rows, top, group, registers, endingAt}
 use Rattle.plans.specs.Plans.{readPlan, hasForm}
-use Rattle.plans.specs.Reading.{lastIn}
+use Rattle.plans.specs.Reading.{endingKindIn}
 use Rattle.turns.specs.declared.TurnEnding.{TurnEnding}
 use Rattle.turns.specs.declared.TurnEnding.the-variants as ending
 use Rattle.turns.specs.declared.Turned.{Turned}
@@ -37,14 +37,14 @@ rowsKind last.Group = false
 rowsKind last.Registers = false
 rowsKind last.Invalid = false
 
-pub by-kind : (e : Ending) → rowsKind (lastIn e) ≡ isRows e
+pub by-kind : (e : Ending) → rowsKind (endingKindIn e) ≡ isRows e
 by-kind (rows vs) = refl
 by-kind (top k vs keys) = refl
 by-kind (group vs m) = refl
 by-kind (registers v) = refl
 
 -- ending words of some kind, which end a plan
-pub rows-by-kind : (ws : List ℕ) (e : Ending) → endingAt ws ≡ e → (k k₁ : EndingKind) → k ≡ lastIn (endingAt ws) → k ≡ k₁
+pub rows-by-kind : (ws : List ℕ) (e : Ending) → endingAt ws ≡ e → (k k₁ : EndingKind) → k ≡ endingKindIn (endingAt ws) → k ≡ k₁
     → rowsKind k₁ ≡ isRows e
 rows-by-kind ws e f k k₁ g h = ap rowsKind (sym h ∙ g) ∙ by-kind (endingAt ws) ∙ ap isRows f
 

@@ -21,7 +21,7 @@ use Rattle.queries.specs.Stepping.{keptOf}
 abbrev pub startAt : List ℕ → ℕ → Phone
 startAt state saved = record { saved = take saved state; taken = []; waiting = []; kept = [] }
 
--- the buffers hold what a list of calls under demand 3's premises leaves, so many turns served and every list taken
+-- the buffers hold what a list of calls under demand 3's premises leaves, `count` turns served and every list taken
 pub record UnderWay (keep : Keeping) (v : Survey) (plan : List ℕ) (first : Phone) (before : List ℕ) (count : ℕ) (state : List ℕ) (saved : ℕ)
     (kept : List ℕ) (used : ℕ) : Type 0 where
   pub few : v .number < lowNumbers

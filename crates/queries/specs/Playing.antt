@@ -1,4 +1,4 @@
--- A query played to its end, or for so many turns: what it answers and leaves is the uncut run's. Assumes nothing: these are definitions.
+-- A query played to its end, or for a number of turns: what it answers and leaves is the uncut run's. Assumes nothing: these are definitions.
 use Prim.Native.Nat.{ℕ, _+_, _≤_, _<_}
 use mathlib.Core.Path.{_≡_}
 use mathlib.Core.Logic.{_↔_}
@@ -28,7 +28,7 @@ use Rattle.queries.specs.declared.Played.the-variants.{Finished, Unfinis
 use Rattle.queries.specs.Stepping.{keeps, keptOf}
 use Rattle.queries.specs.Rounds.{Lent, playOf}
 
--- the rows, best-of list or groups of the uncut run, whose lists are taken up to so many steps
+-- the rows, best-of list or groups of the uncut run, whose lists are taken up to `steps` steps
 abbrev pub listAfter : Tables → List ℕ → ℕ → List ℕ
 listAfter t plan steps = keptAfter t (planOf plan) steps
 
@@ -36,7 +36,7 @@ listAfter t plan steps = keptAfter t (planOf plan) steps
 abbrev pub partAfter : Keeping → Tables → List ℕ → ℕ → List ℕ
 partAfter keep t plan steps = keptOf keep (planOf plan .ending) (listAfter t plan steps)
 
--- a buffer holds what is kept over what it held before: no total of the list leaves its range, and so many words are kept
+-- a buffer holds, over what it held `before`, what is kept: no total of the list leaves its range, and `words` words are kept
 pub record Holds (keep : Keeping) (t : Tables) (plan : List ℕ) (steps : ℕ) (before now : List ℕ) (words : ℕ) : Type 0 where
   pub fits : runFits (planOf plan .ending) (after t (planOf plan) steps) ≡ true
   pub whole : now ≡ over (partAfter keep t plan steps) before
@@ -72,13 +72,13 @@ pub record Turn (t : Tables) (plan : List ℕ) (quantum room from to : ℕ) : Ty
   pub ending : TurnEnding
   pub ends : TurnEnds t plan quantum room from to ending
 
--- so many turns from the start take the uncut run so many steps on, and with each of their lists its totals are in their range
+-- turns from the start, by their number and by how many steps they take the uncut run on: with each of their lists its totals are in their range
 pub data Turns (t : Tables) (plan : List ℕ) (quantum room : ℕ) : ℕ → ℕ → Type 0 where
   none-made : Turns t plan quantum room 0 0
   one-more : (count from to : ℕ) → Turns t plan quantum room count from → Turn t plan quantum room from to
       → runFits (planOf plan .ending) (after t (planOf plan) to) ≡ true → Turns t plan quantum room (count + 1) to
 
--- where a query stands after so many turns: they are the uncut run's, and the saved words are, under the survey's number, its state after their steps
+-- where a query stands after `count` turns: they are the uncut run's, and the saved words are, under the survey's number, its state after their steps
 pub record StandsAfter (v : Survey) (plan : List ℕ) (quantum room count : ℕ) (state : List ℕ) (saved : ℕ) : Type 0 where
   pub steps : ℕ
   pub made : Turns (v .tables) plan quantum room count steps
@@ -101,7 +101,7 @@ pub record Pauses (keep : Keeping) (v : Survey) (plan : List ℕ) (quantum most 
   pub stands : StandsAfter v plan quantum room most state saved
   pub list : Holds keep (v .tables) plan (stands .steps) before kept words
 
--- why a query that was opened is stopped, its lists taken up to so many steps. By a turn: for an output of so many words, else for the quantum.
+-- why a query that was opened is stopped, its lists taken up to `steps` steps. By a turn: for an output of `room` words, else for the quantum.
 -- Where the list of the next turn is to be kept: for its totals, or for a kept buffer in which it has no room
 pub data Cause (keep : Keeping) (t : Tables) (plan : List ℕ) (quantum room : ℕ) (before : List ℕ) (steps : ℕ) : ℕ → Type 0 where
   output-short : room < leastOutput (planOf plan .ending) → Cause keep t plan quantum room before steps 7

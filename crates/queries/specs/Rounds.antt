@@ -47,7 +47,7 @@ roundAs keep v plan quantum (Stopped x) l = record { went = Stopped x; held = l 
 unfoldable pub round : Keeping → Survey → List ℕ → ℕ → QueryStanding → QueryStanding
 round keep v plan quantum p = roundAs keep v plan quantum (p .went) (p .held)
 
--- at most so many turns
+-- at most `most` turns
 unfoldable pub rounds : Keeping → Survey → List ℕ → ℕ → ℕ → QueryStanding → QueryStanding
 rounds keep v plan quantum most p = iterate (round keep v plan quantum) most p
 

@@ -6,7 +6,7 @@ ghost use mathlib.Core.Path.{_≡_};
 ghost use Rattle.queries.specs.Stepping.{isServed};
 ghost use Rattle.queries.specs.Rounds.{playAnswer};
 
-// Whether a turn with this ending was served.
+// Whether a turn with the ending `ending` was served.
 pub fn is_served(ending: TurnEnding) -> bool
     ensures { λ r. ⌜ r ≡ isServed ending ⌝ }
 {
@@ -18,7 +18,7 @@ pub fn is_served(ending: TurnEnding) -> bool
     }
 }
 
-// The answer of a play whose last turn left its query so.
+// The answer of a play whose query stands at `went` after its last turn.
 pub fn play_answer(went: Went) -> Played
     ensures { λ r. ⌜ r ≡ playAnswer went ⌝ }
 {

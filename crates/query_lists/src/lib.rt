@@ -11,7 +11,7 @@ ghost use Rattle.queries.specs.Stepping.{joinOf, rowsTaken, listTaken};
 // What a join that has no room is refused by.
 pub const ROOM: u32 = 14;
 
-// Whether a plan ends in rows.
+// Whether `plan` ends in rows.
 fn is_rows(plan: &[u32]) -> bool
     requires { ⌜ hasForm (readPlan (now plan)) ≡ true ⌝ }
     ensures { λ r. ⌜ r ≡ isRows (planOf (now (plan .entry)) .ending) ⌝ }
@@ -25,7 +25,7 @@ fn is_rows(plan: &[u32]) -> bool
     }
 }
 
-// Joins a turn's rows behind those kept, or refuses where the buffer has no room for them.
+// Joins the rows of `list` behind the first `used` words of `kept`, or refuses where there is no room for them.
 fn join(kept: &mut [u32], used: usize, list: &[u32]) -> Written
     ensures { λ r. ⌜ record { answer = r; kept = now (kept .exit) } ≡ joinOf (now (kept .entry)) used (now (list .entry)) ⌝ }
 {
@@ -39,7 +39,7 @@ fn join(kept: &mut [u32], used: usize, list: &[u32]) -> Written
     Written::Words(used + list.len())
 }
 
-// Takes a turn's rows: joined where all lists are kept, else left in the output.
+// Takes `list`, a turn's rows: joined behind the first `used` words of `kept` where all lists are kept, else left in the output.
 fn take_rows(kept: &mut [u32], used: usize, list: &[u32], keeping: Keeping) -> Written
     ensures { λ r. ⌜ record { answer = r; kept = now (kept .exit) } ≡ rowsTaken keeping (now (kept .entry)) used (now (list .entry)) ⌝ }
 {
@@ -49,7 +49,7 @@ fn take_rows(kept: &mut [u32], used: usize, list: &[u32], keeping: Keeping) -> W
     }
 }
 
-// Takes the list of a served turn: rows by which lists are kept, any other list merged.
+// Takes `list`, that of a served turn: rows as `keeping` says, any other list merged into the first `used` words of `kept`.
 pub fn take_list(
     plan: &[u32],
     kept: &mut [u32],

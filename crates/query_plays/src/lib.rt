@@ -1,4 +1,4 @@
-// A whole query, played over lent buffers, from its opening on: turns of one quantum, each list taken, until it is done or so many turns are made.
+// A whole query, played over lent buffers, from its opening on: turns of one quantum, each list taken, until it is done or `most` turns are made.
 use queries::Keeping;
 use queries::Played;
 use queries::Went;
@@ -10,7 +10,7 @@ ghost use Rattle.turns.specs.Surveys.{surveyOf};
 ghost use Rattle.queries.specs.declared.Keeping.the-variants.{All};
 ghost use Rattle.queries.specs.Rounds.{buffers, firstPosition, rounds, resultAt, playOf};
 
-// Turns from an opening's state on, at most so many, and the list of each taken.
+// At most `most` turns from an opening's state on, the first `opened` words of `state`, and the list of each taken.
 fn go_on(
     rows: &[u32],
     pos: &[u32],
@@ -62,7 +62,7 @@ fn go_on(
     }
 }
 
-// Opens a query and plays it: at most so many turns of the quantum, each turn's list taken into the kept buffer.
+// Opens a query and plays it: at most `most` turns of `quantum` steps, each turn's list taken into `kept`.
 pub fn play(
     rows: &[u32],
     pos: &[u32],

@@ -11,7 +11,7 @@ ghost use Rattle.turns.specs.Turns.{turnInput};
 ghost use Rattle.queries.specs.Stepping.{takeTurnOf, wentOf};
 ghost use Rattle.queries.specs.Rounds.{buffers, standingOf};
 
-// Runs one turn, with no threshold, and takes its list into the kept one, which is the first words of its buffer, so many.
+// Runs one turn, with no threshold, and takes its list into the kept one, which is the first `used` words of `kept`.
 pub fn take_turn(
     rows: &[u32],
     pos: &[u32],
@@ -57,7 +57,7 @@ pub fn take_turn(
     }
 }
 
-// How the query goes on after a turn whose list was taken, or not.
+// How the query goes on after `step`, a turn whose list was taken, or not.
 pub fn outcome(step: Step) -> Went
     ensures { λ r. ⌜ r ≡ wentOf step ⌝ }
 {

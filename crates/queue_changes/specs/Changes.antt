@@ -30,11 +30,11 @@ rotated n = record { gap = 0; last = n - 1; adds = true }
 abbrev pub roomBy : ℕ → ℕ → ℕ → ℕ → ℕ → Bool
 roomBy room spare given kept more = leb mostEntries room && (leb mostEntries spare && leb (given + kept + more) mostEntries)
 
--- of two numbers of tests that follow each other, the one that refuses
+-- of `number` and `late`, that of the tests which follow, the one that refuses first
 abbrev pub firstNumber : ℕ → ℕ → ℕ
 firstNumber number late = cond (eqb number 0) late number
 
--- a list after a change of it, with an entry
+-- the list `es` after the change `c`, with the entry `e`
 abbrev pub changed : List Entry → Change → Entry → List Entry
 changed es c e = settled es (c .gap) (c .last) (c .adds) e
 
@@ -56,13 +56,13 @@ pub record Decides (l : LentLists) (d : Queueing) (r : QueuedResult) : Type 0 wh
   pub aside : ChangeFits (d .aside) (l .aside)
   pub result : queuedBy l d ≡ r
 
--- an entry to the end of the line, or of the list set aside if it has no steps
+-- `e` to the end of the line, or of the list set aside if it has no steps
 abbrev pub admittedBy : Entry → ℕ → ℕ → Queueing
 admittedBy e n m =
     cond (eqb (e .allowance) 0)
     (record { answer = Lists n (m + 1); line = unchanged; aside = appended m; entry = e })
     (record { answer = Lists (n + 1) m; line = appended n; aside = unchanged; entry = e })
 
--- an entry from a place of the list set aside to the end of the line
+-- `e` from the place `g` of the list set aside to the end of the line
 abbrev pub toppedBy : ℕ → ℕ → ℕ → Entry → Queueing
 toppedBy g n m e = record { answer = Lists (n + 1) (m - 1); line = appended n; aside = removed g m; entry = e }

@@ -28,7 +28,7 @@ pub fn unchanged() -> Change
     }
 }
 
-// An entry is written behind the first ones.
+// An entry is written behind the first `count`.
 pub fn appended(count: usize) -> Change
     ensures { λ r. ⌜ r ≡ appended count ⌝ }
 {
@@ -39,7 +39,7 @@ pub fn appended(count: usize) -> Change
     }
 }
 
-// The entry at a place leaves the first ones.
+// The entry at `gap` leaves the first `count`.
 pub fn removed(gap: usize, count: usize) -> Change
     requires { ⌜ 1 ≤ count ⌝ }
     ensures { λ r. ⌜ r ≡ removed gap count ⌝ }
@@ -51,7 +51,7 @@ pub fn removed(gap: usize, count: usize) -> Change
     }
 }
 
-// The front entry leaves the first ones, and one is written behind them.
+// The front entry leaves the first `count`, and one is written behind them.
 pub fn rotated(count: usize) -> Change
     requires { ⌜ 1 ≤ count ⌝ }
     ensures { λ r. ⌜ r ≡ rotated count ⌝ }
@@ -63,7 +63,7 @@ pub fn rotated(count: usize) -> Change
     }
 }
 
-// Test 18: both buffers have room for the most entries, and with so many more there are not too many.
+// Test 18: both buffers, of `room` and of `spare` entries, have room for the most entries, and `given`, `kept` and `more` together are not too many.
 pub fn room_right(room: usize, spare: usize, given: usize, kept: usize, more: usize) -> bool
     ensures { λ r. ⌜ r ≡ roomBy room spare given kept more ⌝ }
 {
@@ -82,7 +82,7 @@ pub fn room_right(room: usize, spare: usize, given: usize, kept: usize, more: us
     more <= MOST_ENTRIES - given - kept
 }
 
-// The number of the first of tests 17 and 18 that fails, or 0.
+// The number of the first of tests 17 and 18 that fails, or 0: `entries` says whether the one passes, `room` whether the other does.
 pub fn lists_number(entries: bool, room: bool) -> u32
     ensures { λ r. ⌜ r ≡ numberOf (firstFailing (topUpTestsBy entries room)) ⌝ }
 {
@@ -95,7 +95,7 @@ pub fn lists_number(entries: bool, room: bool) -> u32
     0
 }
 
-// Of two numbers of tests that follow each other, the one that refuses, or 0.
+// Of `number` and `late`, that of the tests which follow, the one that refuses first, or 0.
 pub fn first_of(number: u32, late: u32) -> u32
     ensures { λ r. ⌜ r ≡ firstNumber number late ⌝ }
 {
@@ -105,7 +105,7 @@ pub fn first_of(number: u32, late: u32) -> u32
     number
 }
 
-// A refused call changes neither list.
+// A call that is refused by `number` changes neither list.
 pub fn refused(number: u32) -> Queueing
     ensures { λ r. ⌜ r ≡ queueingRefused number ⌝ }
 {

@@ -4,7 +4,7 @@ ghost use mathlib.Core.Path.{_≡_};
 ghost use mathlib.Core.Bool.{_&&_, not};
 ghost use lib.Dec.{leb, ltb};
 
-// Test 17 with the joining entry.
+// Test 17 of joining: both lists are right, and the joining owner has an entry in neither.
 pub fn join_right(seen: Seen) -> bool
     ensures { λ r. ⌜ r ≡ (seen .lined && seen .rested) && (not (ltb (seen .place) (seen .waiting)) && not (ltb (seen .found) (seen .resting))) ⌝ }
 {
@@ -20,7 +20,7 @@ pub fn join_right(seen: Seen) -> bool
     seen.found >= seen.resting
 }
 
-// Test 17 of a top-up.
+// Test 17 of a top-up with `amount` steps: both lists are right, `amount` is not 0, and the owner has an entry that is set aside.
 pub fn top_up_right(seen: Seen, amount: u64) -> bool
     ensures { λ r. ⌜ r ≡ (seen .lined && seen .rested) && (leb 1 amount && ltb (seen .found) (seen .resting)) ⌝ }
 {

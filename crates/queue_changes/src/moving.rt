@@ -10,7 +10,7 @@ ghost use Rattle.queues.specs.Lists.{mostEntries};
 ghost use Rattle.queues.specs.ToppingUp.{withAllowance};
 ghost use Rattle.queue_changes.specs.Changes.{toppedBy};
 
-// The entry with its new allowance.
+// `e` with the new allowance `amount`.
 pub fn with_allowance(e: Entry, amount: u64) -> Entry
     ensures { λ r. ⌜ r ≡ withAllowance amount e ⌝ }
 {
@@ -19,7 +19,7 @@ pub fn with_allowance(e: Entry, amount: u64) -> Entry
     next
 }
 
-// An entry goes from a place of the list set aside to the end of the line.
+// `e` goes from the place `found` of the list set aside, which has `kept` entries, to the end of the line, which has `given`.
 pub fn topped(found: usize, given: usize, kept: usize, e: Entry) -> Queueing
     requires { ⌜ (given < mostEntries) × (1 ≤ kept) ⌝ }
     ensures { λ r. ⌜ r ≡ toppedBy found given kept e ⌝ }

@@ -17,7 +17,7 @@ use Rattle.turns.specs.declared.TurnEnding.the-variants as ending
 use Rattle.turns.specs.Turns.{TurnResult}
 use Rattle.queues.specs.declared.Entry.{Entry}
 use Rattle.queues.specs.Lists.{LentLists, lineOf, asideOf, ownersIn, hasSteps, hasNone}
-use Rattle.queues.specs.Serving.{Serving, ServeResult, entryAfter, frontTurn, goesBack, turnedTo, frontServed, servedAs, serveOf, serveTests}
+use Rattle.queues.specs.Serving.{Serving, ServeResult, entryAfter, frontTurn, requeued, turnedTo, frontServed, servedAs, serveOf, serveTests}
 use Rattle.queues.specs.Serving.{serviceWith}
 use Rattle.queues.specs.Calls.{Queue, serve, MadeCall, lentTo, afterService, afterCall}
 use Rattle.queries.specs.Stepping.{isServed}
@@ -104,7 +104,7 @@ module _ (v : Survey) (q : Queue) (m : MadeCall) (s : Serving) where
         (sym (left (serviceWith held e r line aside) (r .answer .ending) h ∙ both-taken held line aside line aside′ refl f)) k
 
     back : ((x : ℕ) → r .answer .ending ≡ ending.Refused x → ⊥) → NotDone v s e
-        → Serviced v s q (goesBack held e es r) (afterService q (goesBack held e es r) (goesBack held e es r .answer .turned .ending))
+        → Serviced v s q (requeued held e es r) (afterService q (requeued held e es r) (requeued held e es r .answer .turned .ending))
     back h f = by-left (eqb (e .allowance - r .answer .steps) 0) refl
       where
         d : Entry

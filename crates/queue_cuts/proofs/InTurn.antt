@@ -107,7 +107,7 @@ module _ (v : Survey) where
               aside-room = roomy (q .aside);
             }
 
-    -- so many of them are so many turns
+    -- `n` of them are `n` turns
     row-turns : (n owner p : ℕ) (q : Queue) → QueueRight v q → placeInLine owner (q .line) ≡ some p → n ≤ p
         → turnsIn (deeds v q (leastCalls v quantum behind n q)) ≡ n
     unfolding afterCalls deeds turnsIn leastCalls

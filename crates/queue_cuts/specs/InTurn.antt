@@ -66,7 +66,7 @@ leastServe quantum q = record { quantum = quantum; threshold = []; output = repl
 abbrev pub leastCall : ℕ → List Entry → Queue → MadeCall
 leastCall quantum behind q = record { call = serve (leastServe quantum q); behindLine = behind; behindAside = behind }
 
--- so many of these, one after the other
+-- a number of these, one after the other
 unfoldable pub leastCalls : Survey → ℕ → List Entry → ℕ → Queue → List MadeCall
 leastCalls v quantum behind zero q = []
 leastCalls v quantum behind (suc n) q =

@@ -14,7 +14,7 @@ pub moved-up-length : (ys : List Entry) (at k : ℕ) → length (movedUp ys at k
 moved-up-length ys at zero = refl
 moved-up-length ys at (suc k) = simp length-set (moved-up-length ys at k)
 
--- the entries behind the gap, up to so many
+-- the entries before the gap `g`, and `k` of those behind it
 abbrev moved : List Entry → ℕ → ℕ → List Entry
 moved ys g k = take g ys ++ take k (drop (g + 1) ys)
 

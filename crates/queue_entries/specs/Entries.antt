@@ -12,7 +12,7 @@ use Rattle.queues.specs.Lists.{entryPlanRoom, entryStateRoom, ownersIn, hasStep
 abbrev pub nobody : Entry
 nobody = record { allowance = 0; owner = 0; planned = 0; saved = 0; plan = replicate entryPlanRoom 0; state = replicate entryStateRoom 0 }
 
--- the first place of an owner's entry from one place on, below another, or that other
+-- the first place from `start` on and below `end` at which an entry of `owner` stands, or `end` where there is none
 pub record FoundAt (es : List Entry) (start end owner r : ℕ) : Type 0 where
   pub least : start ≤ r
   pub most : r ≤ end
@@ -24,17 +24,17 @@ abbrev pub stepsRight : Bool → Entry → Bool
 stepsRight true e = hasSteps e
 stepsRight false e = hasNone e
 
--- the entries of one list are right: their steps, and no owner of them is among those behind or among others
+-- the entries of one list are right: their steps, and no owner of them is among those behind or among `others`
 unfoldable pub standing : Bool → List Entry → List ℕ → Bool
 standing waiting [] others = true
 standing waiting (e ∷ es) others =
     (stepsRight waiting e && (not (member (e .owner) (ownersIn es)) && not (member (e .owner) others))) && standing waiting es others
 
--- so many entries move up by one, each over the one before it, the first over the one at a place
+-- a number of entries move up by one, each over the one before it, the first over the one at the place `at`
 abbrev pub movedUp : List Entry → ℕ → ℕ → List Entry
 movedUp ys at zero = ys
 movedUp ys at (suc k) = set (movedUp ys at k) (at + k) (getD (movedUp ys at k) (at + k + 1) nobody)
 
--- the entries behind a place move up, up to the one at the last place; and there one is written, if it is to be
+-- the entries behind `gap` move up, up to the one at `last`; and there `e` is written, if `adds` says so
 abbrev pub settled : List Entry → ℕ → ℕ → Bool → Entry → List Entry
 settled ys gap last adds e = cond adds (set (movedUp ys gap (last - gap)) last e) (movedUp ys gap (last - gap))

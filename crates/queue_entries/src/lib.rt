@@ -23,7 +23,7 @@ pub fn nobody() -> Entry
     }
 }
 
-// The entry at a place of a list, or nobody's.
+// The entry at the place `at` of `list`, or nobody's.
 pub fn entry_at(list: &[Entry], at: usize) -> Entry
     ensures { λ r. ⌜ r ≡ getD (now (list .entry)) at nobody ⌝ }
 {
@@ -33,7 +33,7 @@ pub fn entry_at(list: &[Entry], at: usize) -> Entry
     nobody()
 }
 
-// The first place from one on, below another, at which an owner's entry stands; the end where there is none.
+// The first place from `from` on and below `to` at which an entry of `owner` stands; `to` where there is none.
 pub fn find_owner(list: &[Entry], from: usize, to: usize, owner: u32) -> usize
     requires { ⌜ (from ≤ to) × (to ≤ length (now list)) ⌝ }
     ensures { λ r. ⌜ FoundAt (now (list .entry)) from to owner r ⌝ }
@@ -48,7 +48,7 @@ pub fn find_owner(list: &[Entry], from: usize, to: usize, owner: u32) -> usize
     to
 }
 
-// The steps of an entry are right: of one in the line, some; of one set aside, none.
+// Whether an entry's steps are right: some if it is `waiting` in the line, none if it is set aside.
 pub fn steps_right(allowance: u64, waiting: bool) -> bool
     ensures { λ r. ⌜ r ≡ cond waiting (leb 1 allowance) (eqb allowance 0) ⌝ }
 {
@@ -58,7 +58,7 @@ pub fn steps_right(allowance: u64, waiting: bool) -> bool
     allowance == 0
 }
 
-// One entry is right: its steps are, and neither search found its owner again.
+// Whether one entry is right: its steps are, and its owner was found neither `again` in its own list nor `elsewhere`, in the other.
 pub fn entry_valid(
     allowance: u64,
     waiting: bool,
@@ -78,7 +78,7 @@ pub fn entry_valid(
     !(elsewhere < others)
 }
 
-// The entries of one list are right, and no owner of them is among the first entries of another.
+// Whether the first `count` entries of `list` are right, and no owner of them is among the first `few` entries of `others`.
 pub fn list_right(list: &[Entry], count: usize, others: &[Entry], few: usize, waiting: bool) -> bool
     requires { ⌜ (count ≤ length (now list)) × (few ≤ length (now others)) ⌝ }
     ensures { λ r. ⌜ r ≡ standing waiting (take count (now (list .entry))) (ownersIn (take few (now (others .entry)))) ⌝ }
@@ -96,7 +96,7 @@ pub fn list_right(list: &[Entry], count: usize, others: &[Entry], few: usize, wa
     true
 }
 
-// The lesser of two numbers.
+// The lesser of `a` and `b`.
 pub fn least(a: usize, b: usize) -> usize
     ensures { λ r. ⌜ r ≡ min a b ⌝ }
 {
@@ -119,7 +119,7 @@ pub struct Seen {
     pub spare: usize,
 }
 
-// Looks over both lists, for an owner.
+// Looks over the first `given` entries of `line` and the first `kept` of `aside`, for an entry of `owner`.
 pub fn look(line: &[Entry], given: usize, aside: &[Entry], kept: usize, owner: u32) -> Seen
     ensures { λ r. ⌜ SeenOf (lentAs (now (line .entry)) given (now (aside .entry)) kept) owner r ⌝ }
 {
@@ -141,7 +141,7 @@ pub fn look(line: &[Entry], given: usize, aside: &[Entry], kept: usize, owner: u
     }
 }
 
-// The entries behind a place move up by one, up to the one at the last place; and there an entry is written, if it is to be.
+// The entries of `list` behind `gap` move up by one, up to the one at `last`; and there `e` is written, if `adds` says so.
 pub fn remove_then_append(list: &mut [Entry], gap: usize, last: usize, adds: bool, e: Entry)
     requires { ⌜ (gap < last → last < length (now list)) × (adds ≡ true → last < length (now list)) ⌝ }
     ensures { λ _. ⌜ now (list .exit) ≡ settled (now (list .entry)) gap last adds e ⌝ }

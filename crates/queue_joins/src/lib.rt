@@ -1,4 +1,4 @@
-// Joining and topping up: each looks over both lists, decides on numbers and an entry by value, and settles both lists.
+// Joining and topping up: each looks over both lists, decides on numbers and an entry by value, and changes both lists.
 use queue_entries::entry_at;
 use queue_entries::look;
 use queue_entries::remove_then_append;
@@ -10,7 +10,7 @@ ghost use Rattle.queues.specs.ToppingUp.{topUpOf};
 ghost use Rattle.queues.specs.Joining.{joinQueueOf};
 ghost use Rattle.turns.specs.Surveys.{surveyOf};
 
-// An owner's query joins: with steps at the end of the line, without at the end of the list set aside.
+// A query of `owner` joins: with steps at the end of the line, without at the end of the list set aside.
 pub fn join(
     rows: &[u32],
     pos: &[u32],
@@ -49,7 +49,7 @@ pub fn join(
     d.answer
 }
 
-// Brings the entry of an owner that is set aside back to the end of the line, with so many steps.
+// Brings the entry of `owner` that is set aside back to the end of the line, with `amount` steps.
 pub fn top_up(
     line: &mut [Entry],
     given: usize,

@@ -22,12 +22,12 @@ use Rattle.queue_outcomes.specs.declared.ServeChanges.{ServeChanges}
 abbrev pub plannedIn : Entry → ℕ
 plannedIn e = cond (leb (e .planned) entryPlanRoom) (e .planned) 0
 
--- an entry after so many steps, with the words of its new state
+-- `e` after `steps` steps, with its new state, the first `saved` words of `state`
 abbrev pub entryWith : Entry → ℕ → ℕ → List ℕ → Entry
 entryWith e steps saved state =
     record { allowance = e .allowance - steps; owner = e .owner; planned = e .planned; saved = saved; plan = e .plan; state = state }
 
--- a turn of an entry, with this result, leaves this answer, this entry and this output
+-- a turn of `e` with the result `r` leaves the answer and the entry of `x`, and the output `written`
 pub record EndedBy (r : TurnResult) (e : Entry) (x : Ended) (written : List ℕ) : Type 0 where
   pub turned : x .turned ≡ r .answer
   pub entry : x .entry ≡ entryAfter e r
@@ -43,29 +43,29 @@ servingRefused x =
       entry = nobody;
     }
 
--- an answer, with so many entries in each list
+-- an answer, with `n` entries in the line and `m` set aside
 abbrev pub answeredBy : Ended → ℕ → ℕ → Service
 answeredBy x n m = record { turned = x .turned; owner = x .entry .owner; left = x .entry .allowance; waiting = n; resting = m }
 
 -- done, it leaves
-abbrev pub leavesBy : Ended → ℕ → ℕ → ServeChanges
-leavesBy x n m = record { answer = answeredBy x (n - 1) m; line = removed 0 n; aside = unchanged; entry = x .entry }
+abbrev pub dequeuedBy : Ended → ℕ → ℕ → ServeChanges
+dequeuedBy x n m = record { answer = answeredBy x (n - 1) m; line = removed 0 n; aside = unchanged; entry = x .entry }
 
--- unfinished, it goes to the back of the line, and to the end of the list set aside with no steps left
-abbrev pub backBy : Ended → ℕ → ℕ → ServeChanges
-backBy x n m =
+-- unfinished, it goes to the back of the line, or to the end of the list set aside if it has no steps left
+abbrev pub requeuedBy : Ended → ℕ → ℕ → ServeChanges
+requeuedBy x n m =
     cond (eqb (x .entry .allowance) 0)
     (record { answer = answeredBy x (n - 1) (m + 1); line = removed 0 n; aside = appended m; entry = x .entry })
     (record { answer = answeredBy x n m; line = rotated n; aside = unchanged; entry = x .entry })
 
-abbrev pub goesBy : TurnEnding → Ended → ℕ → ℕ → ServeChanges
-goesBy ending.Done x n m = leavesBy x n m
-goesBy ending.Spent x n m = backBy x n m
-goesBy ending.Full x n m = backBy x n m
-goesBy (ending.Refused y) x n m = servingRefused y
+abbrev pub turnOutcomeBy : TurnEnding → Ended → ℕ → ℕ → ServeChanges
+turnOutcomeBy ending.Done x n m = dequeuedBy x n m
+turnOutcomeBy ending.Spent x n m = requeuedBy x n m
+turnOutcomeBy ending.Full x n m = requeuedBy x n m
+turnOutcomeBy (ending.Refused y) x n m = servingRefused y
 
 -- ---- a whole call
--- the tests before those of both lists, where so many wait and this one is at the front
+-- the tests before those of both lists, where `waiting` entries are in the line and `e` is at its front
 abbrev pub frontBy : Survey → Serving → ℕ → Entry → List Test
 frontBy v s waiting e = cond (eqb waiting 0) (frontTests v s []) (frontTests v s (e ∷ []))
 
@@ -79,8 +79,8 @@ servedBy l d written =
       output = written;
     }
 
--- a decision of serving, with this output, leaves what its definition does
-pub record Settles (l : LentLists) (d : ServeChanges) (written : List ℕ) (r : ServeResult) : Type 0 where
+-- the decision `d` of serving, with the output `written`, leaves what its definition does
+pub record DecidesServing (l : LentLists) (d : ServeChanges) (written : List ℕ) (r : ServeResult) : Type 0 where
   pub line : ChangeFits (d .line) (l .line)
   pub aside : ChangeFits (d .aside) (l .aside)
   pub result : servedBy l d written ≡ r

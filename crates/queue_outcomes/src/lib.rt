@@ -2,8 +2,8 @@
 mod outcomes;
 
 pub use outcomes::entry_with;
-pub use outcomes::goes;
 pub use outcomes::refused;
+pub use outcomes::turn_outcome;
 use queue_changes::Change;
 use queues::Entry;
 use queues::Service;

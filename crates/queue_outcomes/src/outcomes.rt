@@ -13,9 +13,9 @@ use turns::Turned;
 ghost use mathlib.Core.Path.{_≡_};
 ghost use Prim.Native.Nat.{_+_, _≤_};
 ghost use Rattle.queues.specs.Lists.{mostEntries};
-ghost use Rattle.queue_outcomes.specs.Services.{entryWith, servingRefused, answeredBy, leavesBy, backBy, goesBy};
+ghost use Rattle.queue_outcomes.specs.Services.{entryWith, servingRefused, answeredBy, dequeuedBy, requeuedBy, turnOutcomeBy};
 
-// An entry after so many steps, with the words of its new state.
+// `e` after `steps` steps, with its new state, the first `saved` words of `state`.
 pub fn entry_with(e: Entry, steps: u32, saved: u32, state: [u32; 11]) -> Entry
     requires { ⌜ steps ≤ e .allowance ⌝ }
     ensures { λ r. ⌜ r ≡ entryWith e steps saved state ⌝ }
@@ -27,7 +27,7 @@ pub fn entry_with(e: Entry, steps: u32, saved: u32, state: [u32; 11]) -> Entry
     next
 }
 
-// A refused call changes neither list.
+// A call that is refused by `number` changes neither list.
 pub fn refused(number: u32) -> ServeChanges
     ensures { λ r. ⌜ r ≡ servingRefused number ⌝ }
 {
@@ -50,7 +50,7 @@ pub fn refused(number: u32) -> ServeChanges
     }
 }
 
-// The answer of a turn, with so many entries in each list.
+// The answer after the turn `ended`, with `waiting` entries in the line and `resting` set aside.
 fn answered(ended: Ended, waiting: usize, resting: usize) -> Service
     ensures { λ r. ⌜ r ≡ answeredBy ended waiting resting ⌝ }
 {
@@ -65,10 +65,10 @@ fn answered(ended: Ended, waiting: usize, resting: usize) -> Service
     }
 }
 
-// Done, it leaves.
-fn leaves(ended: Ended, given: usize, kept: usize) -> ServeChanges
+// Done, the entry of the turn `ended` leaves the line.
+fn dequeued(ended: Ended, given: usize, kept: usize) -> ServeChanges
     requires { ⌜ 1 ≤ given ⌝ }
-    ensures { λ r. ⌜ r ≡ leavesBy ended given kept ⌝ }
+    ensures { λ r. ⌜ r ≡ dequeuedBy ended given kept ⌝ }
 {
     let entry = ended.entry;
     ServeChanges {
@@ -79,10 +79,10 @@ fn leaves(ended: Ended, given: usize, kept: usize) -> ServeChanges
     }
 }
 
-// Unfinished, it goes to the back of the line, and to the end of the list set aside with no steps left.
-fn goes_back(ended: Ended, given: usize, kept: usize) -> ServeChanges
+// Unfinished, it goes to the back of the line, or to the end of the list set aside if it has no steps left.
+fn requeued(ended: Ended, given: usize, kept: usize) -> ServeChanges
     requires { ⌜ (1 ≤ given) × (given + kept ≤ mostEntries) ⌝ }
-    ensures { λ r. ⌜ r ≡ backBy ended given kept ⌝ }
+    ensures { λ r. ⌜ r ≡ requeuedBy ended given kept ⌝ }
 {
     let entry = ended.entry;
     if entry.allowance == 0 {
@@ -101,17 +101,17 @@ fn goes_back(ended: Ended, given: usize, kept: usize) -> ServeChanges
     }
 }
 
-// Where it goes, by the ending of its turn.
-pub fn goes(ended: Ended, given: usize, kept: usize) -> ServeChanges
+// Where the entry of the turn `ended` goes, by how it ended.
+pub fn turn_outcome(ended: Ended, given: usize, kept: usize) -> ServeChanges
     requires { ⌜ (1 ≤ given) × (given + kept ≤ mostEntries) ⌝ }
-    ensures { λ r. ⌜ r ≡ goesBy (ended .turned .ending) ended given kept ⌝ }
+    ensures { λ r. ⌜ r ≡ turnOutcomeBy (ended .turned .ending) ended given kept ⌝ }
 {
     let turned = ended.turned;
     let ending = turned.ending;
     match ending {
-        TurnEnding::Done => leaves(ended, given, kept),
-        TurnEnding::Spent => goes_back(ended, given, kept),
-        TurnEnding::Full => goes_back(ended, given, kept),
+        TurnEnding::Done => dequeued(ended, given, kept),
+        TurnEnding::Spent => requeued(ended, given, kept),
+        TurnEnding::Full => requeued(ended, given, kept),
         TurnEnding::Refused(number) => refused(number),
     }
 }

@@ -1,4 +1,4 @@
-// Serving: looks over both lists, makes a turn of the front entry by value, and settles both lists.
+// Serving: looks over both lists, makes a turn of the front entry by value, and changes both lists.
 use queue_entries::entry_at;
 use queue_entries::look;
 use queue_entries::remove_then_append;
@@ -9,7 +9,7 @@ ghost use Rattle.queues.specs.Lists.{lentAs};
 ghost use Rattle.queues.specs.Serving.{serveOf};
 ghost use Rattle.turns.specs.Surveys.{surveyOf};
 
-// Serves the front entry of the line: one turn of its query, for at most so many steps and no more than are left to it.
+// Serves the front entry of the line: one turn of its query, for at most `quantum` steps and no more than are left to it.
 pub fn serve(
     rows: &[u32],
     pos: &[u32],

@@ -44,7 +44,7 @@ fn query_number(
     state_loading::load(rows, pos, osp, survey, plan, state, &mut bound).refused
 }
 
-// The entry of a query that joins.
+// The entry of a query of `owner` that joins.
 fn entry_of(owner: u32, allowance: u64, plan: &[u32], state: &[u32]) -> Entry
     requires { ⌜ (length (now plan) ≤ entryPlanRoom) × (length (now state) ≤ entryStateRoom) ⌝ }
     ensures { λ r. ⌜ r ≡ newEntry (record { owner = owner; allowance = allowance; plan = now (plan .entry); state = now (state .entry) }) ⌝ }
@@ -63,7 +63,7 @@ fn entry_of(owner: u32, allowance: u64, plan: &[u32], state: &[u32]) -> Entry
     }
 }
 
-// An entry goes to the end of the line, and to the end of the list set aside if it has no steps.
+// `e` goes to the end of the line, or to the end of the list set aside if it has no steps.
 fn admitted(e: Entry, given: usize, kept: usize) -> Queueing
     requires { ⌜ given + kept < mostEntries ⌝ }
     ensures { λ r. ⌜ r ≡ admittedBy e given kept ⌝ }
@@ -84,7 +84,7 @@ fn admitted(e: Entry, given: usize, kept: usize) -> Queueing
     }
 }
 
-// How both lists change by a query that joins.
+// How both lists change by a query of `owner` that joins.
 pub fn join(
     rows: &[u32],
     pos: &[u32],

@@ -19,7 +19,7 @@ ghost use Rattle.queue_entries.specs.Entries.{nobody};
 ghost use Rattle.queue_entries.specs.Seeing.{SeenOf};
 ghost use Rattle.queue_changes.specs.Changes.{Decides};
 
-// How both lists change by a top-up of the owner's entry, which stands at the place found.
+// How both lists change by a top-up with `amount` steps of `e`, the entry of `owner`, which stands at the place found.
 pub fn top_up(seen: Seen, given: usize, kept: usize, owner: u32, amount: u64, e: Entry) -> Queueing
     requires { ⌜ seen .resting ≤ kept ⌝ }
     ensures { λ r. ⌜ ((line aside : List Entry) → SeenOf (lentAs line given aside kept) owner seen → e ≡ getD aside (seen .found) nobody

@@ -18,7 +18,7 @@ use Rattle.queue_entries.proofs.Placing.{settled-added, settled-gone, settled-b
 use Rattle.queue_changes.specs.Changes.{unchanged, appended, removed, rotated, changed}
 use Rattle.queue_outcomes.specs.declared.Ended.{Ended}
 use Rattle.queue_outcomes.specs.declared.ServeChanges.{ServeChanges}
-use Rattle.queue_outcomes.specs.Services.{answeredBy, leavesBy, goesBy, Settles}
+use Rattle.queue_outcomes.specs.Services.{answeredBy, dequeuedBy, turnOutcomeBy, DecidesServing}
 
 module _ (s : Serving) (line : List Entry) (given : ℕ) (aside : List Entry) (kept : ℕ) (e : Entry) (r : TurnResult) (some-wait : 0 < given)
     (line-long : given ≤ length line) (aside-long : kept < length aside) where
@@ -64,7 +64,7 @@ module _ (s : Serving) (line : List Entry) (given : ℕ) (aside : List Entry) (k
       settled-back line e′ 0 given some-wait line-long
       ∙ ap (λ (n : ℕ). entriesOver (take n (drop 1 line) ++ (e′ ∷ [])) line) (let z : given - 1 - 0 ≡ given - 1 = omega arith in z)
 
-  leaves : Settles l (leavesBy x given kept) (r .output) (serviceWith l e r es (asideOf l))
+  leaves : DecidesServing l (dequeuedBy x given kept) (r .output) (serviceWith l e r es (asideOf l))
   leaves =
       record {
         line = ((λ z. omega (arith, line-long)), (λ z. absurd-true z refl));
@@ -84,7 +84,7 @@ module _ (s : Serving) (line : List Entry) (given : ℕ) (aside : List Entry) (k
       }
 
   goes-back : (b : Bool)
-      → Settles l
+      → DecidesServing l
       (cond {A = ServeChanges} b
       (record { answer = answeredBy x (given - 1) (kept + 1); line = removed 0 given; aside = appended kept; entry = e′ })
       (record { answer = answeredBy x given kept; line = rotated given; aside = unchanged; entry = e′ }))
@@ -127,7 +127,7 @@ module _ (s : Serving) (line : List Entry) (given : ℕ) (aside : List Entry) (k
 
   -- by the ending; a refused turn wrote nothing
   pub goes-so : (y : TurnEnding) → ((z : ℕ) → y ≡ ending.Refused z → r .output ≡ s .output)
-      → Settles l (goesBy y x given kept) (r .output) (turnedTo l s e es r y)
+      → DecidesServing l (turnOutcomeBy y x given kept) (r .output) (turnedTo l s e es r y)
   goes-so ending.Done h = leaves
   goes-so ending.Spent h = goes-back (eqb (e .allowance - r .answer .steps) 0)
   goes-so ending.Full h = goes-back (eqb (e .allowance - r .answer .steps) 0)

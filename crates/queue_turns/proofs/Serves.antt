@@ -29,7 +29,7 @@ use Rattle.queue_changes.specs.Changes.{roomBy, firstNumber}
 use Rattle.queue_changes.proofs.Following.{numbers-follow}
 use Rattle.queue_changes.proofs.Seeing.{seen-entries, seen-room, Roomy, roomy}
 use Rattle.queue_outcomes.specs.declared.Ended.{Ended}
-use Rattle.queue_outcomes.specs.Services.{EndedBy, servingRefused, goesBy, frontBy, Settles}
+use Rattle.queue_outcomes.specs.Services.{EndedBy, servingRefused, turnOutcomeBy, frontBy, DecidesServing}
 use Rattle.queue_turns.proofs.Outcomes.{goes-so}
 
 -- ---- the front entry
@@ -163,7 +163,7 @@ module _ (v : Survey) (s : Serving) (line : List Entry) (given : ℕ) (aside : L
   same-late = λ i. queueTestsBy (seen-entries line given aside kept 0 seen is i) (seen-room line given aside kept 0 seen is 0 i) (same-end i)
 
   pub serve-refuses : (r : ℕ) → r ≡ numberOf (firstFailing (frontBy v s n e ++ queueTestsBy entries room (not (eqb n 0)))) → (r ≡ 0 → ⊥)
-      → Settles l (servingRefused r) (s .output) (serveOf v l s)
+      → DecidesServing l (servingRefused r) (s .output) (serveOf v l s)
   unfolding serveOf
   serve-refuses r f h =
       record {
@@ -260,7 +260,7 @@ module _ (v : Survey) (s : Serving) (line : List Entry) (given : ℕ) (aside : L
     ended-is x written g = λ i. record { turned = g .turned i; entry = g .entry i }
 
     pub serve-accepts : (x : Ended) (written : List ℕ) (steps : ℕ) → steps ≡ k → EndedBy (turnOf (entryTurn v s e steps)) e x written
-        → Settles l (goesBy (x .turned .ending) x given kept) written (serveOf v l s)
+        → DecidesServing l (turnOutcomeBy (x .turned .ending) x given kept) written (serveOf v l s)
     serve-accepts x written steps f h =
         let g = subst (λ (m : ℕ). EndedBy (turnOf (entryTurn v s e m)) e x written) f h in
         let a : seen .room ≡ length line = is .room in
@@ -268,9 +268,10 @@ module _ (v : Survey) (s : Serving) (line : List Entry) (given : ℕ) (aside : L
         let c = roomy-so .line in let d = roomy-so .aside in let q = roomy-so .entries in let w = some-given in
         let goes = goes-so s line given aside kept e (turnOf i′) some-given (let z : given ≤ length line = omega arith in z)
         (let z : kept < length aside = omega arith in z) (turnOf i′ .answer .ending) (λ y z. turn-refusals i′ .unchanged y z .output) in
-        subst (λ (y : ServeResult). Settles l (goesBy (x .turned .ending) x given kept) written y) (sym serve-is)
-        (subst (λ (y : Ended). Settles l (goesBy (y .turned .ending) y given kept) written (turnedTo l s e es (turnOf i′) (turnOf i′ .answer .ending)))
+        subst (λ (y : ServeResult). DecidesServing l (turnOutcomeBy (x .turned .ending) x given kept) written y) (sym serve-is)
+        (subst (λ (y : Ended). DecidesServing l (turnOutcomeBy (y .turned .ending) y given kept) written
+        (turnedTo l s e es (turnOf i′) (turnOf i′ .answer .ending)))
         (sym (ended-is x written g))
-        (subst (λ (o : List ℕ). Settles l (goesBy (ended .turned .ending) ended given kept) o
+        (subst (λ (o : List ℕ). DecidesServing l (turnOutcomeBy (ended .turned .ending) ended given kept) o
         (turnedTo l s e es (turnOf i′) (turnOf i′ .answer .ending)))
         (sym (g .output)) goes))

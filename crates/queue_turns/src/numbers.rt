@@ -46,7 +46,7 @@ pub fn list_number(entries: bool, room: bool, waiting: usize) -> u32
     0
 }
 
-// The number of the test of the quantum, or 0.
+// The number of the test that `quantum` fails, or 0.
 pub fn quantum_number(quantum: u32) -> u32
     ensures { λ r. ⌜ r ≡ numberOf (firstFailing (quantumTests quantum)) ⌝ }
 {
@@ -59,7 +59,7 @@ pub fn quantum_number(quantum: u32) -> u32
     0
 }
 
-// The number of the test of a survey's number alone, or 0.
+// The number of the test that `survey` fails whatever the state, or 0.
 fn survey_number(survey: u32) -> u32
     ensures { λ r. ⌜ r ≡ numberOf (firstFailing (numberTests survey)) ⌝ }
 {
@@ -80,7 +80,7 @@ pub fn empty_number(rows: &[u32], pos: &[u32], osp: &[u32], survey: u32, quantum
     )
 }
 
-// The words of an entry's plan: none where its count passes the array.
+// The words of the plan of `e`: none where its count passes the array.
 pub fn planned(e: Entry) -> usize
     ensures { λ r. ⌜ (r ≡ plannedIn e) × ((length (e .plan) ≡ entryPlanRoom) × (length (e .state) ≡ entryStateRoom)) ⌝ }
 {
@@ -90,7 +90,7 @@ pub fn planned(e: Entry) -> usize
     e.planned as usize
 }
 
-// The number of the first test of a turn that an entry fails, or 0.
+// The number of the first test of a turn that `e` fails, or 0.
 pub fn front_number(
     rows: &[u32],
     pos: &[u32],

@@ -8,8 +8,8 @@ use queue_changes::first_of;
 use queue_changes::room_right;
 use queue_entries::Seen;
 use queue_outcomes::ServeChanges;
-use queue_outcomes::goes;
 use queue_outcomes::refused;
+use queue_outcomes::turn_outcome;
 use queues::Entry;
 ghost use mathlib.Core.Path.{_≡_};
 ghost use mathlib.Core.Bool.{_&&_};
@@ -24,7 +24,7 @@ ghost use Rattle.queues.specs.Serving.{serveOf};
 ghost use Rattle.queue_entries.specs.Entries.{nobody};
 ghost use Rattle.queue_entries.specs.Seeing.{SeenOf};
 ghost use Rattle.queue_changes.specs.Changes.{firstNumber};
-ghost use Rattle.queue_outcomes.specs.Services.{frontBy, Settles};
+ghost use Rattle.queue_outcomes.specs.Services.{frontBy, DecidesServing};
 
 // Test 17 of both lists.
 fn lists_right(seen: Seen) -> bool
@@ -36,7 +36,7 @@ fn lists_right(seen: Seen) -> bool
     seen.rested
 }
 
-// The most steps of a turn: those of the call, and no more than are left.
+// The most steps of a turn: `quantum`, and no more than `allowance`, which are left.
 fn least_steps(quantum: u32, allowance: u64) -> u32
     ensures { λ r. ⌜ r ≡ min quantum allowance ⌝ }
 {
@@ -46,7 +46,7 @@ fn least_steps(quantum: u32, allowance: u64) -> u32
     quantum
 }
 
-// The number of the first test that fails, or 0: those of the front entry, or of an empty line; then the number of both lists.
+// The number of the first test that fails, or 0: those of the front entry `e`, or of an empty line; then `late`, the number of both lists.
 fn serve_number(
     rows: &[u32],
     pos: &[u32],
@@ -71,7 +71,7 @@ fn serve_number(
     )
 }
 
-// How both lists change by a turn of the front entry, and what serving answers. The tables are checked once: where no test of both lists
+// How both lists change by a turn of the front entry `e`, and what serving answers. The tables are checked once: where no test of both lists
 // and of the quantum fails, by the turn.
 pub fn serve(
     rows: &[u32],
@@ -88,8 +88,8 @@ pub fn serve(
 ) -> ServeChanges
     requires { ⌜ seen .waiting ≤ given ⌝ }
     ensures { λ r. ⌜ ((line aside : List Entry) → SeenOf (lentAs line given aside kept) 0 seen → e ≡ getD line 0 nobody
-        → Settles (lentAs line given aside kept) r (now (output .exit)) (serveOf (surveyOf (now (rows .entry)) (now (pos .entry)) (now (osp .entry)) survey)
-        (lentAs line given aside kept)
+        → DecidesServing (lentAs line given aside kept) r (now (output .exit))
+        (serveOf (surveyOf (now (rows .entry)) (now (pos .entry)) (now (osp .entry)) survey) (lentAs line given aside kept)
         (record { quantum = quantum; threshold = now (threshold .entry); output = now (output .entry) }))) ⌝ }
 {
     let room = room_right(seen.room, seen.spare, given, kept, 0);
@@ -109,7 +109,7 @@ pub fn serve(
         ));
     }
     let steps = least_steps(quantum, e.allowance);
-    goes(
+    turn_outcome(
         turn_entry(rows, pos, osp, survey, e, steps, threshold, output),
         given,
         kept,

@@ -9,7 +9,7 @@ ghost use Rattle.turns.specs.Turns.{turnOf};
 ghost use Rattle.queues.specs.Serving.{entryTurn};
 ghost use Rattle.queue_outcomes.specs.Services.{EndedBy};
 
-// A turn of an entry, for at most so many steps.
+// A turn of `e`, for at most `steps` steps.
 pub fn turn_entry(
     rows: &[u32],
     pos: &[u32],

@@ -23,7 +23,7 @@ use Rattle.queues.specs.declared.Entry.{Entry}
 use Rattle.queues.specs.Lists.{LentLists, hasSteps, hasNone, lineOf, asideOf, entriesOver, ownersIn, owners, entriesRight, hasOwner}
 use Rattle.queues.specs.Joining.{Joining, newEntry, joinedAs, joinQueueOf, joinTests, listsWith}
 use Rattle.queues.specs.ToppingUp.{notOwner, withAllowance, topUpTests, toppedAs, topUpOf}
-use Rattle.queues.specs.Serving.{Serving, entryTurn, ServeResult, entryAfter, goesBack, turnedTo, frontTurn, frontServed, servedAs, serveOf}
+use Rattle.queues.specs.Serving.{Serving, entryTurn, ServeResult, entryAfter, requeued, turnedTo, frontTurn, frontServed, servedAs, serveOf}
 use Rattle.queues.specs.Serving.{serveTests, serviceWith}
 use Rattle.queues.specs.Calls.{Queue, QueueCall, join, serve, topUp, MadeCall, lentTo, Deed, grants, turns, nothing}
 use Rattle.queues.specs.Calls.{afterQueued, afterService, afterCall}
@@ -267,8 +267,8 @@ module _ (v : Survey) (q : Queue) (m : MadeCall) (s : Serving) where
         → Moves q (queue (take (y .answer .waiting) (y .line)) (take (y .answer .resting) (y .aside)))
         (turns (y .answer .owner) x (y .answer .turned .steps) (y .answer .left))
         → Moves q (afterService q y z) (tookTurn y z))
-        → Moves q (afterService q (goesBack held e es r) (goesBack held e es r .answer .turned .ending))
-        (tookTurn (goesBack held e es r) (goesBack held e es r .answer .turned .ending))
+        → Moves q (afterService q (requeued held e es r) (requeued held e es r .answer .turned .ending))
+        (tookTurn (requeued held e es r) (requeued held e es r .answer .turned .ending))
     back x is not-done served k = by-left (eqb (e .allowance - n) 0) refl
       where
         d : Entry

@@ -29,7 +29,7 @@ use Rattle.queues.specs.Lists.{LentLists, lineOf, asideOf, hasSteps, has
 use Rattle.queues.specs.Joining.{Joining, QueuedResult, joinTests, joinedAs, joinQueueOf, newEntry, listsAsWere, listsWith}
 use Rattle.queues.specs.ToppingUp.{topUpTests, toppedAs, topUpOf}
 use Rattle.queues.specs.Serving.{Serving, ServeResult, entryTurn, frontTests, queueTests, serveTests, turnedTo, entryAfter, frontTurn, frontServed}
-use Rattle.queues.specs.Serving.{servedAs, serveOf, refusedService, serviceWith, goesBack}
+use Rattle.queues.specs.Serving.{servedAs, serveOf, refusedService, serviceWith, requeued}
 use Rattle.queues.specs.Refusals.{refusalBy, lineBy, asideBy, QueuedRefusals, JoinRefusals, TopUpRefusals, serveNumbers, Serves}
 use Rattle.queues.specs.Refusals.{ServeRefusals}
 
@@ -108,7 +108,7 @@ module _ (v : Survey) (l : LentLists) (s : Serving) where
   either-ends true y z x e f = e
   either-ends false y z x e f = f
 
-  back-ends : (e : Entry) (es : List Entry) → goesBack l e es (frontTurn v s e) .answer .turned .ending ≡ frontTurn v s e .answer .ending
+  back-ends : (e : Entry) (es : List Entry) → requeued l e es (frontTurn v s e) .answer .turned .ending ≡ frontTurn v s e .answer .ending
   back-ends e es =
       let r = frontTurn v s e in
       either-ends (eqb (e .allowance - r .answer .steps) 0) (serviceWith l e r es (asideOf l ++ (entryAfter e r ∷ [])))

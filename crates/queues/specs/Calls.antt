@@ -43,7 +43,7 @@ lentTo q m =
       resting = length (q .aside);
     }
 
--- what a call that was not refused did: steps were granted to an owner, or an owner's turn took steps, with so many left
+-- what a call that was not refused did: it granted an owner steps; or an owner had a turn, with its ending, its steps and the steps left
 pub data Deed : Type 0 where
   grants : ℕ → ℕ → Deed
   turns : ℕ → TurnEnding → ℕ → ℕ → Deed

@@ -63,7 +63,7 @@ listsWith l line aside =
 abbrev pub listsAsWere : LentLists → ℕ → QueuedResult
 listsAsWere l x = record { answer = Refused x; line = l .line; aside = l .aside }
 
--- an entry goes to the end of the line, and to the end of the list set aside if it has no steps
+-- `e` goes to the end of the line, or to the end of the list set aside if it has no steps
 abbrev pub admitted : LentLists → Entry → QueuedResult
 admitted l e =
     cond (eqb (e .allowance) 0) (listsWith l (lineOf l) (asideOf l ++ (e ∷ []))) (listsWith l (lineOf l ++ (e ∷ [])) (asideOf l))

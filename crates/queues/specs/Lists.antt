@@ -39,7 +39,7 @@ asideOf l = take (l .resting) (l .aside)
 abbrev pub entryPlan : Entry → List ℕ
 entryPlan e = cond (leb (e .planned) (length (e .plan))) (take (e .planned) (e .plan)) []
 
--- some words, and 0 in the rest of an array
+-- the words `ws`, and 0 in the rest of an array of `n`
 abbrev pub filled : ℕ → List ℕ → List ℕ
 filled n ws = ws ++ replicate (n - length ws) 0
 
@@ -69,7 +69,7 @@ abbrev pub entriesRight : LentLists → Bool
 entriesRight l = distinct (owners l) && (all hasSteps (lineOf l) && all hasNone (asideOf l))
 
 -- ---- test 18
--- each buffer has room for the most entries, and with so many more there are not too many. So no count passes its buffer
+-- each buffer has room for the most entries, and with `more` there are not too many. So no count passes its buffer
 abbrev pub spaceRight : ℕ → LentLists → Bool
 spaceRight more l =
     leb mostEntries (length (l .line)) && (leb mostEntries (length (l .aside)) && leb (l .waiting + l .resting + more) mostEntries)

@@ -96,8 +96,8 @@ serviceWith l e r line aside =
     }
 
 -- unfinished, it goes to the back with steps left, and to the end of the list set aside with none
-abbrev pub goesBack : LentLists → Entry → List Entry → TurnResult → ServeResult
-goesBack l e es r =
+abbrev pub requeued : LentLists → Entry → List Entry → TurnResult → ServeResult
+requeued l e es r =
     cond (eqb (e .allowance - r .answer .steps) 0)
     (serviceWith l e r es (asideOf l ++ (entryAfter e r ∷ [])))
     (serviceWith l e r (es ++ (entryAfter e r ∷ [])) (asideOf l))
@@ -121,8 +121,8 @@ refusedService l s x =
 -- done, it leaves
 abbrev pub turnedTo : LentLists → Serving → Entry → List Entry → TurnResult → TurnEnding → ServeResult
 turnedTo l s e es r ending.Done = serviceWith l e r es (asideOf l)
-turnedTo l s e es r ending.Spent = goesBack l e es r
-turnedTo l s e es r ending.Full = goesBack l e es r
+turnedTo l s e es r ending.Spent = requeued l e es r
+turnedTo l s e es r ending.Full = requeued l e es r
 turnedTo l s e es r (ending.Refused x) = refusedService l s x
 
 -- for at most the call's quantum, and at most the steps left

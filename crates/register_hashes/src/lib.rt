@@ -22,7 +22,7 @@ const FOURTH_BYTE: u64 = 0x100_0000;
 // The values of the 60 bits below the top four.
 const RANKED: u64 = 0x1000_0000_0000_0000;
 
-// The product modulo 2^64, from the halves of both: the product of the high halves has no part in it.
+// The product of `a` and `b` modulo 2^64, from the halves of both: the product of the high halves has no part in it.
 pub fn wrapping_mul(a: u64, b: u64) -> u64
     ensures wraps { λ r. ⌜ r ≡ (a * b) % 2 ^ 64 ⌝ }
 {
@@ -34,7 +34,7 @@ pub fn wrapping_mul(a: u64, b: u64) -> u64
     wrapping_add_u64(low * other_low, cross % HALF * HALF)
 }
 
-// A hash with one byte more.
+// `hash` with `byte` mixed in.
 fn mix(hash: u64, byte: u64) -> u64
     requires { ⌜ byte < 256 ⌝ }
     ensures { λ r. ⌜ r ≡ mixed hash byte ⌝ }
@@ -42,7 +42,7 @@ fn mix(hash: u64, byte: u64) -> u64
     wrapping_mul(hash ^ byte, PRIME)
 }
 
-// The hash of a word's bytes.
+// The hash of the bytes of `word`.
 pub fn hash_of(word: u32) -> u64
     ensures { λ r. ⌜ r ≡ hashOf word ⌝ }
 {
@@ -53,14 +53,14 @@ pub fn hash_of(word: u32) -> u64
     mix(c, w / FOURTH_BYTE % BYTE_VALUES)
 }
 
-// The register that a hash picks.
+// The register that `hash` picks.
 pub fn picked_by(hash: u64) -> usize
     ensures { λ r. ⌜ r ≡ pickedBy hash ⌝ }
 {
     (hash / RANKED) as usize
 }
 
-// What a hash gives its register: of 64 bits the top four are 0, so the zeros leading them are three more.
+// What `hash` gives its register: of 64 bits the top four are 0, so the zeros leading them are three more.
 pub fn rank_in(hash: u64) -> u32
     ensures { λ r. ⌜ r ≡ rankIn hash ⌝ }
 {

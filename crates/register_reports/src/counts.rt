@@ -11,7 +11,7 @@ ghost use Rattle.registers.specs.Reporting.{reportWords};
 // The count of all registers.
 const ALL: u32 = 16;
 
-// How many words have this value.
+// How many words of `list` are `value`.
 fn count_at(list: &[u32], value: u32) -> u32
     requires { ⌜ length (now list) ≤ registerCount ⌝ }
     ensures { λ r. ⌜ r ≡ countAt value (now (list .entry)) ⌝ }
@@ -29,7 +29,7 @@ fn count_at(list: &[u32], value: u32) -> u32
     count
 }
 
-// How many registers of an empty list have it: all have 0.
+// How many registers of an empty list are `value`: all are 0.
 fn counted_none(value: u32) -> u32
     ensures { λ r. ⌜ r ≡ countAt value (registersIn []) ⌝ }
 {
@@ -39,7 +39,7 @@ fn counted_none(value: u32) -> u32
     0
 }
 
-// How many registers have it.
+// How many registers of `list` are `value`.
 fn counted(list: &[u32], value: u32) -> u32
     requires { ⌜ length (now list) ≤ registerCount ⌝ }
     ensures { λ r. ⌜ r ≡ countAt value (registersIn (now (list .entry))) ⌝ }
@@ -50,7 +50,7 @@ fn counted(list: &[u32], value: u32) -> u32
     count_at(list, value)
 }
 
-// Writes the report on a list.
+// Writes the report on `list` to `report`.
 pub fn write_counts(list: &[u32], report: &mut [u32])
     requires { ⌜ length (now list) ≤ registerCount ⌝ }
     requires { ⌜ reportWords ≤ length (now report) ⌝ }

@@ -1,4 +1,4 @@
-// A report on a kept list of registers, which is the first words of its buffer, as many as the call gives.
+// A report on a kept list of registers, which is the first `given` words of its buffer.
 mod counts;
 
 use counts::write_counts;
@@ -16,8 +16,8 @@ pub const LISTS: u32 = 12;
 // A count for each value that a register may have.
 pub const REPORT_WORDS: usize = 62;
 
-// Writes how many registers have each value from 0 to 61. It is refused by the number of the first test that fails, and then nothing is
-// written.
+// Writes to `report` how many registers, in the first `given` words of `kept`, have each value from 0 to 61. It is refused by the number of the first test
+// that fails, and then nothing is written.
 pub fn report(kept: &[u32], given: usize, report: &mut [u32]) -> Written
     ensures { λ r. ⌜ record { answer = r; report = now (report .exit) }
         ≡ reportOf (reportInput (now (kept .entry)) given (now (report .entry))) ⌝ }

@@ -14,11 +14,11 @@ abbrev pub mostRank : ℕ
 mostRank = 61
 
 -- ---- from values to registers
--- what a value gives a register: nothing where it picks another
+-- what the value `x` gives register `i`: nothing where it picks another
 unfoldable pub givenTo : ℕ → ℕ → ℕ
 givenTo i x = cond (eqb (pickedBy (hashOf x)) i) (rankIn (hashOf x)) 0
 
--- a register of some values: the greatest that one of them gives it, 0 where none picks it
+-- register `i` of some values: the greatest that one of them gives it, 0 where none picks it
 unfoldable pub registerOf : ℕ → List ℕ → ℕ
 registerOf i [] = 0
 registerOf i (x ∷ xs) = max (givenTo i x) (registerOf i xs)

@@ -24,7 +24,7 @@ pub mod Numbers
 pub mod SortedStrictly
 pub mod SortedNumbers
 pub mod Neighbours
-pub mod Weaving
+pub mod MergingInPlace
 pub mod Halving
 pub mod Joining
 pub mod PutIn

@@ -58,7 +58,7 @@ lexBefore xs [] = false
 lexBefore [] (y ∷ ys) = false
 lexBefore (x ∷ xs) (y ∷ ys) = ltb x y || (eqb x y && lexBefore xs ys)
 
--- f, so many times
+-- `f`, a number of times
 unfoldable pub iterate {ℓ} : {A : Type ℓ} → (A → A) → ℕ → A → A
 iterate f zero a = a
 iterate f (suc n) a = f (iterate f n a)

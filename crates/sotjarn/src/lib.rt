@@ -33,7 +33,7 @@ ghost use Rattle.queues.specs.Serving.{serveOf};
 ghost use Rattle.queues.specs.ToppingUp.{topUpOf};
 ghost use Rattle.call_numbers.specs.Numbers.{writtenNumbers, turnedNumbers, madeNumbers, queuedNumbers, serviceNumbers, tablesNumbers};
 
-// Writes the start state of a query to the state buffer, or refuses.
+// Writes the start state of a query to `state`, or refuses.
 #[no_mangle]
 pub extern "C" fn sotjarn_open(
     rows: &[u32],
@@ -51,7 +51,7 @@ pub extern "C" fn sotjarn_open(
     written_numbers(turn_calls::open(rows, pos, osp, survey, plan, state))
 }
 
-// Runs one turn of a query, or refuses.
+// Runs one turn of a query from its state, the first `given` words of `state`, or refuses.
 #[no_mangle]
 pub extern "C" fn sotjarn_turn(
     rows: &[u32],
@@ -88,7 +88,7 @@ pub extern "C" fn sotjarn_turn(
     ))
 }
 
-// Merges a list into the kept one, or refuses.
+// Merges `list` into the kept one, the first `given` words of `kept`, or refuses.
 #[no_mangle]
 pub extern "C" fn sotjarn_merge(
     plan: &[u32],
@@ -102,7 +102,7 @@ pub extern "C" fn sotjarn_merge(
     written_numbers(merge_calls::merge(plan, kept, given, list))
 }
 
-// Writes how many registers of a kept list have each value, or refuses.
+// Writes to `report` how many registers of the kept list, the first `given` words of `kept`, have each value, or refuses.
 #[no_mangle]
 pub extern "C" fn sotjarn_report(kept: &[u32], given: usize, report: &mut [u32]) -> WrittenNumbers
     ensures answer { λ r. ⌜ r ≡ writtenNumbers (reportOf (reportInput (now (kept .entry)) given (now (report .entry))) .answer) ⌝ }
@@ -111,7 +111,7 @@ pub extern "C" fn sotjarn_report(kept: &[u32], given: usize, report: &mut [u32])
     written_numbers(register_reports::report(kept, given, report))
 }
 
-// The words that a turn's output has at least by a plan, which test 7 asks for, or the number of the test that refuses the plan.
+// The fewest words that a turn's output may have for `plan`, which test 7 asks for, or the number of the test that refuses the plan.
 #[no_mangle]
 pub extern "C" fn sotjarn_least_output(plan: &[u32]) -> WrittenNumbers
     ensures { λ r. ⌜ r ≡ writtenNumbers (planOutput (now (plan .entry))) ⌝ }
@@ -119,7 +119,7 @@ pub extern "C" fn sotjarn_least_output(plan: &[u32]) -> WrittenNumbers
     written_numbers(list_limits::plan_output(plan))
 }
 
-// Makes tables from an upload, and a report of the rows that it drops, or refuses.
+// Makes tables from `upload`, and a report of the rows that it drops, or refuses.
 #[no_mangle]
 pub extern "C" fn sotjarn_make(
     upload: &[u32],
@@ -142,7 +142,7 @@ pub extern "C" fn sotjarn_make(
     made_numbers(upload_calls::make(upload, rows, pos, osp, report))
 }
 
-// An owner's query joins the queue: the line with steps, the list set aside without; or it is refused.
+// A query of `owner` joins the queue: the line with steps, the list set aside without; or it is refused.
 #[no_mangle]
 pub extern "C" fn sotjarn_join(
     rows: &[u32],
@@ -184,7 +184,7 @@ pub extern "C" fn sotjarn_join(
     ))
 }
 
-// Runs one turn of the query at the front of the line, or refuses.
+// Runs one turn of the query at the front of the line, for at most `quantum` steps, or refuses.
 #[no_mangle]
 pub extern "C" fn sotjarn_serve(
     rows: &[u32],
@@ -227,7 +227,7 @@ pub extern "C" fn sotjarn_serve(
     ))
 }
 
-// Brings the query of an owner that is set aside back to the end of the line, with so many steps, or refuses.
+// Brings the query of `owner` that is set aside back to the end of the line, with `amount` steps, or refuses.
 #[no_mangle]
 pub extern "C" fn sotjarn_top_up(
     line: &mut [Entry],
@@ -244,7 +244,7 @@ pub extern "C" fn sotjarn_top_up(
     queued_numbers(queue_joins::top_up(line, given, aside, kept, owner, amount))
 }
 
-// Writes the tables of the rows that an adviser's grant makes visible, or refuses.
+// Writes the tables of the rows that an adviser's `grant` makes visible, or refuses.
 #[no_mangle]
 pub extern "C" fn sotjarn_view(
     rows: &[u32],
@@ -277,7 +277,7 @@ pub extern "C" fn sotjarn_view(
     ))
 }
 
-// Writes the wood of a seed, with so many stems in a year, or refuses.
+// Writes the wood of `seed`, with `stems` stems in the year `year`, or refuses.
 #[no_mangle]
 pub extern "C" fn sotjarn_grow(
     seed: u32,

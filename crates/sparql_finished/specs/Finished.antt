@@ -17,8 +17,8 @@ use Rattle.sparql.specs.Terms.{Vocabulary}
 use Rattle.sparql.specs.Reading.{isWord}
 use Rattle.sparql.specs.Answers.{Readings, YearByYearOver, AnswerOver, readByNumber}
 
--- the uncut run of so many steps is whole, it has delivered SPARQL's solutions, each as often, year after year, and a list is SPARQL's answer, in words
--- of 32 bits
+-- the uncut run of `steps` steps is whole, it has delivered SPARQL's solutions, each as often, year after year, and `list` is SPARQL's answer, in
+-- words of 32 bits
 pub record SparqlAnswerOver {N : Vocabulary} (r : Readings N) (t : Tables) (plan : List ℕ) (steps : ℕ) (list : List ℕ) : Type 0 where
   pub ends : EndsAt t (planOf plan) steps
   pub run : ToList (r .solutions) (map (r .mapping) (after t (planOf plan) steps .delivered))
@@ -39,7 +39,7 @@ pub record FinishedOver {N : Vocabulary} (r : Readings N) (t : Tables) (plan : L
   pub years : BestUnsent (planOf plan .ending) (servedIn h) → YearByYearOver r t (planOf plan) rows
   pub as-many : BestUnsent (planOf plan .ending) (servedIn h) → stepsIn (h .taken) ≡ steps
 
--- the first words of the kept buffer, so many as answered, are the answer, and those past them are as they were
+-- the first `words` words of `kept` are the answer, and those past them are as they were before
 pub record PlayedOver {N : Vocabulary} (r : Readings N) (t : Tables) (plan before kept : List ℕ) (words : ℕ) : Type 0 where
   pub steps : ℕ
   pub front : SparqlAnswerOver r t plan steps (take words kept)

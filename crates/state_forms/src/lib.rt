@@ -13,7 +13,7 @@ ghost use Rattle.tables.specs.Right.{Right};
 ghost use Rattle.plans.specs.Plans.{readPlan, hasForm, planOf};
 ghost use Rattle.steps.specs.Saved.{isPlace, depthRight, positionRight, shapeBehind, shapeRight, numberRight};
 
-// Whether each word is a place.
+// Whether each word of `state` is a place.
 fn all_places(state: &[u32]) -> bool
     ensures { λ r. ⌜ r ≡ all isPlace (now (state .entry)) ⌝ }
 {
@@ -27,7 +27,7 @@ fn all_places(state: &[u32]) -> bool
     true
 }
 
-// Whether a branch with these terms has levels to a depth.
+// Whether a branch with the terms `terms` has a level at the depth `depth`, from 1.
 fn depth_right(terms: &[u32], depth: u32) -> bool
     ensures { λ r. ⌜ r ≡ depthRight (now (terms .entry)) depth ⌝ }
 {
@@ -37,7 +37,7 @@ fn depth_right(terms: &[u32], depth: u32) -> bool
     (words::wide(depth) - 1) * PATTERN_WIDTH < terms.len()
 }
 
-// Whether the word behind a year's names a branch of the plan and a depth of that branch.
+// Whether `word`, the one behind a year's, names a branch of `plan` and a depth of that branch.
 fn position_right(plan: &[u32], word: u32) -> bool
     requires { ⌜ hasForm (readPlan (now plan)) ≡ true ⌝ }
     ensures { λ r. ⌜ r ≡ positionRight (planOf (now (plan .entry))) word ⌝ }
@@ -56,7 +56,7 @@ fn position_right(plan: &[u32], word: u32) -> bool
     )
 }
 
-// Whether the words behind a year's are a position in the plan and a place for each level to its depth.
+// Whether `state`, the words behind a year's, is a position in `plan` and a place for each level to its depth.
 fn has_shape(plan: &[u32], state: &[u32]) -> bool
     requires { ⌜ hasForm (readPlan (now plan)) ≡ true ⌝ }
     ensures { λ r. ⌜ r ≡ shapeBehind (planOf (now (plan .entry))) (now (state .entry)) ⌝ }
@@ -74,7 +74,7 @@ fn has_shape(plan: &[u32], state: &[u32]) -> bool
     all_places(&state[1..])
 }
 
-// Whether a state's words are a survey's, whatever its number, a year that is being read, and the shape behind it. (9)
+// Whether the words of `state` are a survey's, whatever its number, a year that is being read, and the shape behind it. (9)
 pub fn has_form(rows: &[u32], pos: &[u32], osp: &[u32], plan: &[u32], state: &[u32]) -> bool
     requires { ⌜ Right (tablesOf (now rows) (now pos) (now osp)) ⌝ }
     requires { ⌜ hasForm (readPlan (now plan)) ≡ true ⌝ }
@@ -97,14 +97,14 @@ pub fn has_form(rows: &[u32], pos: &[u32], osp: &[u32], plan: &[u32], state: &[u
     has_shape(plan, &state[2..])
 }
 
-// Whether a survey's number has 28 bits.
+// Whether `survey`, a survey's number, has 28 bits.
 pub fn number_right(survey: u32) -> bool
     ensures { λ r. ⌜ r ≡ numberRight survey ⌝ }
 {
     survey < NUMBERS
 }
 
-// Whether a survey's number has 28 bits and is that of a state's first word. (22)
+// Whether `survey` has 28 bits and is the number in `word`, a state's first. (22)
 pub fn of_survey(survey: u32, word: u32) -> bool
     ensures { λ r. ⌜ r ≡ (numberRight survey && eqb (low word) survey) ⌝ }
 {

@@ -31,7 +31,7 @@ pub record Whole (ws : List ℕ) : Type 0 where
   pub whole : length ws ≡ 1 + depthOf (getD ws 0 0)
   pub few : length ws ≤ mostPositionWords
 
--- a place is from a range's first place up to and including its end
+-- `place` is from the first place of the range of `x` up to and including its end
 abbrev pub upToEnd : Tables → Prefix → ℕ → Bool
 upToEnd t x place = leb (rangeStart t x) place && leb place (rangeEnd t x)
 

@@ -11,7 +11,7 @@ ghost use Rattle.steps.specs.Saved.{positionWords, mostPositionWords, stateWord
 ghost use Rattle.step_cursors.specs.Held.{positionOf, stateOf};
 ghost use Rattle.state_saving.specs.Loading.{Storable};
 
-// Writes the words of the position that a cursor stands for, and answers how many.
+// Writes the words of the position that `c` stands for to `state`, and answers how many.
 fn save_behind(c: Cursor, state: &mut [u32]) -> usize
     requires { ⌜ Storable c × (mostPositionWords ≤ length (now state)) ⌝ }
     ensures { λ r. ⌜ (r ≡ length (positionWords (positionOf c))) × (now (state .exit) ≡ over (positionWords (positionOf c)) (now (state .entry))) ⌝ }
@@ -30,7 +30,7 @@ fn save_behind(c: Cursor, state: &mut [u32]) -> usize
     level + 2
 }
 
-// Writes the words of the state that a cursor stands for, under a survey's number, and answers how many.
+// Writes the words of the state that `c` stands for to `state`, under the survey's number `survey`, and answers how many.
 pub fn save(survey: u32, c: Cursor, state: &mut [u32]) -> usize
     requires { ⌜ Storable c × (survey < lowNumbers) × (leastStateWords ≤ length (now state)) ⌝ }
     ensures { λ r. ⌜ (r ≡ length (stateWords survey (stateOf c)))

@@ -32,7 +32,7 @@ pub struct Walk {
     pub ends: [Place; 8],
 }
 
-// Whether each upper place of a cursor is in its range at a row that passes. The array then holds what they bind, and the ends are found.
+// Whether each upper place of `c` is in its range at a row that passes. Then `bound` holds what they bind, and the ends are found.
 fn upper_right(
     rows: &[u32],
     pos: &[u32],
@@ -77,7 +77,7 @@ fn upper_right(
     }
 }
 
-// Whether the last place of a level is from its range's first place up to and including its end; and that end.
+// Whether `place`, the last of a cursor, is from its level's first place up to and including the end of the range; and that end.
 fn last_right(
     rows: &[u32],
     pos: &[u32],
@@ -110,8 +110,8 @@ fn last_right(
     }
 }
 
-// Whether a cursor's places are those of a state that the run passes through. (10) The array then holds what the upper ones bind, and the ends
-// of all levels are found.
+// Whether the places of `c` are those of a state that the run passes through. (10) Then `bound` holds what the upper ones bind, and the ends of all
+// levels are found.
 pub fn places_right(
     rows: &[u32],
     pos: &[u32],

@@ -45,7 +45,7 @@ module _ (t : Tables) (w : tables-right.Right t) (q : Plan) (form : PlanForm q) 
         final = x .final;
       }
 
-  -- with at most so many rows behind those of the year, which get fewer from year to year
+  -- with at most `n` rows behind those of the year, which get fewer from year to year
   ending : (n year : ℕ) → rowCount t ≤ n + yearEnd t year → Ending year
   ending zero year h = go (nextYear t (q .years) year) refl
     where

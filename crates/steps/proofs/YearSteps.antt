@@ -37,7 +37,7 @@ module _ (t : Tables) (q : Plan) (lengths : (year : ℕ) → YearLength t q year
   stepsOver [] = 0
   stepsOver (year ∷ years) = lengths year .steps + stepsOver years
 
-  -- a run from a state that is done after so many steps
+  -- a run from the state `s` that is done after `n` steps
   abbrev Takes : State → ℕ → Type 0
   Takes s n = (r : RunLength (runFrom (step t q) s)) × (r .steps ≡ n)
 

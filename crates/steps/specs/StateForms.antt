@@ -22,8 +22,8 @@ YearRead t Latest year = YearAmong t (λ row. suc row ≡ rowCount t) year
 YearRead t Every year = YearAmong t (λ row. row < rowCount t) year
 YearRead t (Named named) year = year ≡ named
 
--- a survey's word, the word of a year that is read, the word of a branch of the plan and a depth, and so many places' words: from one to as many as the
--- branch has patterns. The survey's number and the places are any numbers of 28 bits
+-- a survey's word, the word of a year that is read, the word of a branch of the plan and a depth, and a place's word for each level to that depth:
+-- from one to as many as the branch has patterns. The survey's number and the places are any numbers of 28 bits
 pub record StateForm (t : Tables) (q : Plan) (ws : List ℕ) : Type 0 where
   pub survey : ℕ
   pub year : ℕ

@@ -23,7 +23,7 @@ ghost use Rattle.tables.specs.Tables.{tablesOf, columnCount, rowCount};
 ghost use Rattle.tables.specs.Right.{Sized};
 ghost use Rattle.table_walk_keys.specs.Walk.{yearRead, keysOf, readingAt};
 
-// A row's year, where it is compared: where all are alike it is not read.
+// The year of `row`, where it is compared: where all are `alike` it is not read.
 fn year_read(rows: &[u32], row: RowNumber, alike: bool) -> u32
     requires { ⌜ row .0 * columnCount + columnCount ≤ length (now rows) ⌝ }
     ensures { λ r. ⌜ r ≡ yearRead alike (now (rows .entry)) (row .0) ⌝ }
@@ -31,8 +31,7 @@ fn year_read(rows: &[u32], row: RowNumber, alike: bool) -> u32
     if alike { 0 } else { field(rows, row, YEAR) }
 }
 
-// What the walk compares of a row in POS: the year and the predicate, then the object and the row's number. Predicate and object are read at
-// once.
+// What the walk compares of `row` in POS: the year and the predicate, then the object and the row's number. Predicate and object are read at once.
 fn pos_keys(rows: &[u32], row: RowNumber, alike: bool) -> [u64; KEYS]
     requires { ⌜ row .0 * columnCount + columnCount ≤ length (now rows) ⌝ }
     ensures { λ r. ⌜ r ≡ keysOf alike Pos (now (rows .entry)) (row .0) ⌝ }
@@ -54,7 +53,7 @@ fn osp_keys(rows: &[u32], row: RowNumber, alike: bool) -> [u64; KEYS]
     [front, back]
 }
 
-// What the walk compares of a row.
+// What the walk compares of `row` in `order`.
 fn keys(rows: &[u32], order: Order, row: RowNumber, alike: bool) -> [u64; KEYS]
     requires { ⌜ row .0 * columnCount + columnCount ≤ length (now rows) ⌝ }
     ensures { λ r. ⌜ r ≡ keysOf alike order (now (rows .entry)) (row .0) ⌝ }
@@ -66,7 +65,7 @@ fn keys(rows: &[u32], order: Order, row: RowNumber, alike: bool) -> [u64; KEYS]
     }
 }
 
-// What an order has at a place; where all years are alike, without them.
+// What `order` has at `place`; where all years are `alike`, without them.
 pub fn read(
     rows: &[u32],
     pos: &[u32],

@@ -7,7 +7,7 @@ use Rattle.tables.specs.Tables.{Tables, kindsRight, yearsRight}
 abbrev pub rowsRefusal : Tables → ℕ
 rowsRefusal t = cond (kindsRight t) (cond (yearsRight t) 0 23) 2
 
--- the number of the test that so many right orders leave to fail, 0 where all are right
+-- the number of the test that is left to fail, by how many orders are right; 0 where all are
 abbrev pub refusalAfter : ℕ → ℕ
 refusalAfter zero = 3
 refusalAfter (suc zero) = 4

@@ -46,7 +46,7 @@ const ACCEPTED: u32 = 0;
 // How many orders there are.
 const ALL_ORDERS: u32 = 3;
 
-// Whether the words of a year, a subject, a predicate and an object are right.
+// Whether the words `year`, `subject`, `predicate` and `object` are right in their columns.
 fn bounds_right(year: u32, subject: u32, predicate: u32, object: u32) -> bool
     ensures { λ r. ⌜ r ≡ boundsFine year subject predicate object ⌝ }
 {
@@ -105,7 +105,7 @@ fn rows_refusal(rows: &[u32]) -> u32
     ACCEPTED
 }
 
-// The number of the test that fails where the walk ends after so many right orders, 0 where it found all right.
+// The number of the test that fails where the walk ends after `orders` right orders, 0 where it found all right.
 fn refusal_after(orders: u32) -> u32
     ensures { λ r. ⌜ r ≡ refusalAfter orders ⌝ }
 {
@@ -136,7 +136,7 @@ fn ends_right(rows: &[u32], pos: &[u32], osp: &[u32]) -> bool
     bounds_right(year, subject, predicate, object)
 }
 
-// Whether tables whose orders were walked pass by what stands last in them. Only where there is one year: else no is said, which says nothing.
+// Whether tables with `orders` right orders pass by what stands last in them. Only where there is one year: else no is said, which says nothing.
 fn passes(rows: &[u32], pos: &[u32], osp: &[u32], alike: bool, orders: u32) -> bool
     requires { ⌜ Sized (tablesOf (now rows) (now pos) (now osp)) ⌝ }
     requires { ⌜ 0 < rowCount (tablesOf (now rows) (now pos) (now osp)) ⌝ }
@@ -152,7 +152,7 @@ fn passes(rows: &[u32], pos: &[u32], osp: &[u32], alike: bool, orders: u32) -> b
     ends_right(rows, pos, osp)
 }
 
-// The number of the test that fails first where so many orders are right: kinds and years are looked at by themselves, and come before.
+// The number of the test that fails first where `orders` orders are right: kinds and years are looked at by themselves, and come before.
 fn first_refusal(rows: &[u32], orders: u32) -> u32
     requires { ⌜ length (now rows) % columnCount ≡ 0 ⌝ }
     ensures { λ r. ⌜ r ≡ refusalWith (rowsRefusal (tablesOf (now (rows .entry)) [] [])) orders ⌝ }
@@ -164,7 +164,7 @@ fn first_refusal(rows: &[u32], orders: u32) -> u32
     refusal_after(orders)
 }
 
-// Whether the first and the last of some rows have one year: then all that ascend do.
+// Whether the first and the last of `count` rows have one year: then all that ascend do.
 fn years_alike(rows: &[u32], count: u32) -> bool
     requires { ⌜ count * columnCount ≡ length (now rows) ⌝ }
     requires { ⌜ 0 < count ⌝ }

@@ -22,14 +22,14 @@ pub struct Reading {
     pub keys: [u64; KEYS],
 }
 
-// Two words as a long one: it is compared as the first is, and where that is the same as the second.
+// `first` and `second` as a long word: it is compared as the first is, and where that is the same as the second.
 pub fn long(first: u32, second: u32) -> u64
     ensures { λ r. ⌜ r ≡ longOf first second ⌝ }
 {
     first as u64 * HALF + second as u64
 }
 
-// The words of a long one.
+// The two words of `long`.
 pub fn first_of(long: u64) -> u32
     ensures { λ r. ⌜ r ≡ long / 4294967296 ⌝ }
 {
@@ -42,7 +42,7 @@ pub fn second_of(long: u64) -> u32
     (long % HALF) as u32
 }
 
-// Two words that stand side by side, the later first, which is how a processor reads both at once. A function of its own: joined before
+// The words of `rows` at `at` and behind it, the later first, which is how a processor reads both at once. A function of its own: joined before
 // it is put into its callers, the two stay one reading.
 pub fn pair_at(rows: &[u32], at: usize) -> u64
     requires { ⌜ at + 1 < length (now rows) ⌝ }
@@ -51,14 +51,14 @@ pub fn pair_at(rows: &[u32], at: usize) -> u64
     long(rows[at + 1], rows[at])
 }
 
-// The same two words, the earlier first.
+// The two words of `pair`, the earlier first.
 pub fn turned(pair: u64) -> u64
     ensures { λ r. ⌜ r ≡ longOf (pair % 4294967296) (pair / 4294967296) ⌝ }
 {
     long(second_of(pair), first_of(pair))
 }
 
-// What is compared of a row in the rows' own order.
+// What is compared of `row` in the rows' own order.
 pub fn own_keys(rows: &[u32], row: RowNumber) -> [u64; KEYS]
     requires { ⌜ row .0 * columnCount + columnCount ≤ length (now rows) ⌝ }
     ensures { λ r. ⌜ r ≡ keysOf false Spo (now (rows .entry)) (row .0) ⌝ }
@@ -69,7 +69,7 @@ pub fn own_keys(rows: &[u32], row: RowNumber) -> [u64; KEYS]
     [front, back]
 }
 
-// One of the long words. Reading it by its number keeps them in registers where the loop over them is unrolled.
+// The long word number `at` of `keys`. Reading it by its number keeps them in registers where the loop over them is unrolled.
 pub fn key_at(keys: [u64; KEYS], at: usize) -> u64
     requires { ⌜ at < keyCount ⌝ }
     ensures { λ r. ⌜ r ≡ getD keys at 0 ⌝ }

@@ -20,7 +20,7 @@ const LAST_KEY: usize = 1;
 // The greatest long word.
 const MOST_LONG: u64 = 18446744073709551615;
 
-// The orders in the sequence of the walk.
+// The order that the walk takes in its turn number `turn`.
 fn order_at(turn: u32) -> Order
     ensures { λ r. ⌜ r ≡ orderAt turn ⌝ }
 {
@@ -31,15 +31,15 @@ fn order_at(turn: u32) -> Order
     }
 }
 
-// 1 for yes, 0 for no.
+// 1 if `yes`, else 0.
 fn one_if(yes: bool) -> u64
     ensures { λ r. ⌜ r ≡ cond yes 1 0 ⌝ }
 {
     if yes { 1 } else { 0 }
 }
 
-// Whether a row comes before another from a column on: by its key in that column, or where it is the same by the columns after it. One sum and one
-// comparison, and no branch that depends on the keys but for a sum that is too great.
+// Whether a row comes before another from a column on: by their keys there, `earlier` and `later`, or where these are the same by the columns behind it,
+// as `after` says. One sum and one comparison, and no branch that depends on the keys but for a sum that is too great.
 fn before_from(earlier: u64, later: u64, after: bool) -> bool
     ensures { λ r. ⌜ r ≡ cond after (leb earlier later) (ltb earlier later) ⌝ }
 {
@@ -50,7 +50,7 @@ fn before_from(earlier: u64, later: u64, after: bool) -> bool
     earlier < later + further
 }
 
-// Walks the orders, the rows' own first: each row against the one before it, key by key from the last to the first; where all years are alike,
+// Walks the orders, the rows' own first: each row against the one before it, key by key from the last to the first; where all years are `alike`,
 // the lists without them. The first place that names no row, or whose row does not come after the one before it, ends the walk; the answer is
 // how many orders were right.
 pub fn walk(rows: &[u32], pos: &[u32], osp: &[u32], alike: bool) -> u32

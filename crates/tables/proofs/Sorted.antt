@@ -11,7 +11,7 @@ use Rattle.sequences.specs.Sequences.{lexBefore}
 use Rattle.sequences.proofs.Booleans.{absurd-true}
 use Rattle.sequences.proofs.Orders.{Three, less, same, more, three, lex-trans, lex-asym}
 
--- so many places with a field for each of so many columns, which come before those of the next place
+-- `count` places with a field for each of `columns` columns, which come before those of the next place
 pub record Sorted (columns count : ℕ) (fields : ℕ → List ℕ) : Type 0 where
   pub width : (place : ℕ) → place < count → length (fields place) ≡ columns
   pub up : (place : ℕ) → suc place < count → lexBefore (fields place) (fields (suc place)) ≡ true

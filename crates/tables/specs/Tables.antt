@@ -11,7 +11,7 @@ use Rattle.words.specs.Tests.{Test}
 use Rattle.tables.specs.declared.Order.{Order}
 use Rattle.tables.specs.declared.Order.the-variants.{Spo, Pos, Osp}
 
--- rows, some words each; the row numbers in the orders POS and OSP
+-- rows, of four words each; the row numbers in the orders POS and OSP
 pub record Tables : Type 0 where
   pub rows : List ℕ
   pub pos : List ℕ
@@ -89,7 +89,7 @@ fieldRight column w =
     cond (eqb column objectColumn) (ltb (termKind w) variableKind)
     (cond (eqb column yearColumn) (eqb (termKind w) numberKind) (eqb (termKind w) nameKind))
 
--- each field of the row that starts at a word has a kind that its column may have
+-- each field of the row that starts at `word` has a kind that its column may have
 unfoldable pub rowRight : List ℕ → ℕ → Bool
 rowRight rows word = allBelow (λ column. fieldRight column (getD rows (word + column) 0)) columnCount
 

@@ -13,7 +13,7 @@ fn in_span(c: u32, least: u32, greatest: u32) -> bool
     c <= greatest
 }
 
-// Whether one of the spans has the character; each is two words, its least and its greatest.
+// Whether one of `spans` has the character `c`; each is two words, its least and its greatest.
 pub fn in_spans(spans: &[u32], c: u32) -> bool
     ensures { λ r. ⌜ r ≡ inSpans (spansOf (now (spans .entry))) c ⌝ }
 {
@@ -27,7 +27,7 @@ pub fn in_spans(spans: &[u32], c: u32) -> bool
     false
 }
 
-// A letter that a name may begin with, by the spans of names.
+// Whether `c` is a letter that a name may begin with, by the spans of `names`.
 pub fn is_name_base(names: &[u32], c: u32) -> bool
     requires { ⌜ spansOf (now names) ≡ nameSpans ⌝ }
     ensures { λ r. ⌜ r ≡ isNameBase c ⌝ }
@@ -53,7 +53,7 @@ pub fn is_ascii_letter(c: u32) -> bool
     false
 }
 
-// What a word goes on with.
+// Whether a word may go on with `c`.
 pub fn is_word_character(c: u32) -> bool
     ensures { λ r. ⌜ r ≡ isWordCharacter c ⌝ }
 {

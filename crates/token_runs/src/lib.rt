@@ -34,7 +34,7 @@ fn blank_step(comment: bool, c: u32) -> BlankStep
     BlankStep::Stays
 }
 
-// The first place from one on that is neither blank nor in a comment.
+// The first place from `from` on that is neither blank nor in a comment.
 pub fn skip_blanks(points: &[u32], from: usize) -> usize
     requires { ⌜ from ≤ length (now points) ⌝ }
     ensures { λ r. ⌜ (r ≡ from + blanksLength false (drop from (now (points .entry)))) × (r ≤ length (now (points .entry))) ⌝ }
@@ -54,7 +54,7 @@ pub fn skip_blanks(points: &[u32], from: usize) -> usize
     at
 }
 
-// Where the characters of a word end.
+// Where the characters of a word end, from `from` on.
 pub fn word_end(points: &[u32], from: usize) -> usize
     requires { ⌜ from ≤ length (now points) ⌝ }
     ensures { λ r. ⌜ (r ≡ from + runLength isWordCharacter (drop from (now (points .entry)))) × (r ≤ length (now (points .entry))) ⌝ }

@@ -26,8 +26,8 @@ blanksLength inComment [] = 0
 blanksLength true (c ∷ cs) = cond (eqb c noPoint) 0 (blanksLength (not (isLineEnd c)) cs + 1)
 blanksLength false (c ∷ cs) = cond (eqb c 0x23) (blanksLength true cs + 1) (cond (isBlank c) (blanksLength false cs + 1) 0)
 
--- a run of items, each of so many characters, and of dots, up to its last item: n characters are read, of which k are still of the item before, and e is where
--- the last item ends
+-- a run of items, whose characters `size` counts, and of dots, up to its last item: `n` characters are read, the next `k` are still of the item that
+-- has begun, and `e` is where the last item ends
 unfoldable pub dottedEnd : (ℕ → List ℕ → ℕ) → ℕ → List ℕ → ℕ → ℕ → ℕ
 dottedEnd size k [] n e = e
 dottedEnd size (suc k) (c ∷ cs) n e = dottedEnd size k cs (n + 1) e

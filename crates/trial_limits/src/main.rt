@@ -52,7 +52,7 @@ fn say_turned(what: &[u8], answer: Turned) {
     say(b"\n");
 }
 
-// Opening over no rows, under a number, with a plan and a state buffer.
+// Opens the plan `d` over no rows, under the number `survey`, with `state` as its buffer.
 fn opened(survey: u32, d: Draft, state: &mut [u32]) -> Written {
     let all = d.words;
     let words: &[u32] = &all;

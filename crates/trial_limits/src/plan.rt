@@ -17,7 +17,7 @@ pub fn empty() -> Draft {
     }
 }
 
-// One word more; the draft as it is where there is no room.
+// `d` with `word` behind it; `d` as it is where there is no room.
 pub fn with(d: Draft, word: u32) -> Draft {
     let mut next = d;
     let at = next.used;
@@ -28,7 +28,7 @@ pub fn with(d: Draft, word: u32) -> Draft {
     next
 }
 
-// The same word so many times more.
+// `d` with `word` behind it, `times` times.
 fn repeated(d: Draft, word: u32, times: u32) -> Draft {
     let mut next = d;
     let mut n: u32 = 0;
@@ -55,7 +55,7 @@ fn with_comparison(d: Draft) -> Draft {
     )
 }
 
-// The pairs that open before a leaf of a whole tree with so many levels of pairs, in the sequence of a plan.
+// The pairs that open before leaf number `leaf` of a whole tree with `levels` levels of pairs, in the sequence of a plan.
 fn pairs_before(leaf: u32, levels: u32) -> u32 {
     if leaf == 0 {
         return levels;
@@ -63,7 +63,7 @@ fn pairs_before(leaf: u32, levels: u32) -> u32 {
     u32::trailing_zeros(leaf)
 }
 
-// A condition: so many nots over a whole tree with so many levels of pairs, and leaves.
+// A condition: `nots` nots over a whole tree with `levels` levels of pairs, and `leaves` leaves.
 fn with_condition(d: Draft, nots: u32, levels: u32, leaves: u32) -> Draft {
     let mut next = repeated(d, PlanWord::not().0, nots);
     let mut leaf: u32 = 0;
@@ -74,7 +74,7 @@ fn with_condition(d: Draft, nots: u32, levels: u32, leaves: u32) -> Draft {
     next
 }
 
-// A branch of so many patterns, and such a condition.
+// A branch of `patterns` patterns, and such a condition.
 fn with_branch(d: Draft, patterns: u32, nots: u32, levels: u32, leaves: u32) -> Draft {
     let mut next = with(d, PlanWord::branch(patterns).0);
     let mut n: u32 = 0;
@@ -90,18 +90,18 @@ fn ended(d: Draft) -> Draft {
     with(with(d, PlanWord::rows(1).0), Term::variable(0).0)
 }
 
-// One branch with one pattern, its condition of so many nots over a tree.
+// One branch with one pattern, its condition of `nots` nots over a tree.
 pub fn with_tree(nots: u32, levels: u32, leaves: u32) -> Draft {
     ended(with_branch(with(empty(), PlanWord::head(1).0), 1, nots, levels, leaves))
 }
 
-// The same of a year that it names, with one comparison.
+// The same of `year`, which the plan names, with one comparison.
 pub fn of_year(year: u32) -> Draft {
     let named = with(empty(), PlanWord::year(year).0);
     ended(with_branch(with(named, PlanWord::head(1).0), 1, 0, 0, 1))
 }
 
-// Four branches, 254 words and so many nots.
+// Four branches, 254 words and `nots` nots.
 pub fn long(nots: u32) -> Draft {
     let first = with_branch(with(empty(), PlanWord::head(4).0), 8, 0, 4, 16);
     let second = with_branch(first, 8, 0, 4, 16);

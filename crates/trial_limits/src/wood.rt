@@ -15,7 +15,7 @@ pub const MOST_ROWS: u32 = 65536;
 // The most that a survey's number may be: every call is tried with it.
 pub const MOST_SURVEY: u32 = 268435455;
 
-// One row more than there may be, and the words of so many.
+// One row more than there may be, and the words of all these rows.
 const ROWS: usize = 65537;
 
 const ROW_WORDS: usize = COLUMNS * ROWS;
@@ -34,7 +34,7 @@ fn total() -> [u32; 8] {
     ]
 }
 
-// Opens, and runs one turn of so many steps, over rows whose two lists are one.
+// Opens, and runs one turn of `quantum` steps, over `rows`, of which `list` is both lists.
 fn turned(rows: &[u32], list: &[u32], quantum: u32) -> Turned {
     let p = total();
     let mut state = [0u32; STATE_WORDS];
@@ -78,7 +78,7 @@ pub fn quanta() {
     say_turned(b"quantum 0", turned(none, none, 0));
 }
 
-// One row of a year.
+// One row of `year`.
 fn try_year(what: &[u8], year: u32) {
     let row = [
         Term::number(year).0,
@@ -98,7 +98,7 @@ pub fn years() {
     try_year(b"year 10000", 10000);
 }
 
-// One turn over the first rows, so many.
+// One turn over the first `count` rows.
 fn over_first(rows: &[u32], list: &[u32], count: u32) -> Turned {
     let end = count as usize * COLUMNS;
     if end <= rows.len() {

@@ -20,13 +20,13 @@ fn say(text: &[u8]) {
     io::write_all(STDOUT_FILENO, text);
 }
 
-// A number after its name.
+// The number `x` after its `name`.
 fn say_number(name: &[u8], x: u32) {
     say(name);
     io::print_decimal(STDOUT_FILENO, x as u64);
 }
 
-// The plan's number, the quantum and the output's words.
+// The plan's `number`, the `quantum`, and `room`, the output's words.
 pub fn heading(number: u32, quantum: u32, room: u32) {
     say_number(b"plan ", number);
     say_number(b" quantum ", quantum);
@@ -39,7 +39,7 @@ pub fn print_refused(x: u32) {
     say(b"\n");
 }
 
-// Writes the first bytes of a line, so many.
+// Writes the first `n` bytes of `line`.
 fn write_first(line: &[u8], n: usize) {
     if n <= line.len() {
         let text = &line[..n];
@@ -76,7 +76,7 @@ fn print_record(groups: bool, record: &[u32]) {
     }
 }
 
-// The rows or groups of a list, each on its line.
+// The rows or groups of `list`, each on its line.
 fn print_list(form: Form, list: &[u32]) {
     let width = form.width;
     if width == 0 {
@@ -90,7 +90,7 @@ fn print_list(form: Form, list: &[u32]) {
     }
 }
 
-// The list in the first words of the kept buffer, so many.
+// The list in the first `words` words of `kept`.
 fn print_kept(form: Form, kept: &[u32], words: usize) {
     if words <= kept.len() {
         let list = &kept[..words];

@@ -38,7 +38,7 @@ fn words_ahead() -> usize {
     pair(head[0], head[1]) + 65536 * pair(head[2], head[3])
 }
 
-// The wood in the first words of a file, and its plans behind it.
+// The wood in `file`, and its plans behind it: `parts` says where they begin.
 fn play_wood(file: &[u32], parts: FileParts)
     requires { ⌜ (Laid parts) × (parts .words ≤ length (now file)) ⌝ }
 {
@@ -63,7 +63,7 @@ fn play_bytes(bytes: &[u8]) {
     }
 }
 
-// Reads so many bytes, a wood and its plans, and plays them.
+// Reads a wood and its plans, as many bytes as `bytes` has, and plays them.
 fn read_wood(bytes: &mut [u8]) {
     let n = io::read_full(STDIN_FILENO, bytes);
     play_bytes(&bytes[..n]);

@@ -20,7 +20,7 @@ pub const SURVEY: u32 = 0;
 
 pub const MOST_TURNS: u64 = 18446744073709551615;
 
-// Opens a plan and runs it in turns of a quantum, over an output of so many words; prints the rows, joined, or the merged list.
+// Opens `plan` and runs it in turns of `quantum` steps, over an output of `room` words; prints the rows, joined, or the merged list.
 fn play_cut(
     rows: &[u32],
     pos: &[u32],
@@ -51,7 +51,7 @@ fn play_cut(
     print_played(played, form, &kept);
 }
 
-// A plan by each of its cuts.
+// `plan` by each of its `cuts`.
 fn play_cuts(
     rows: &[u32],
     pos: &[u32],

@@ -1,7 +1,7 @@
 // Prints each file that its arguments name, one after the other: its name on a line, and then what the turn printer prints for it.
 use libc::STDOUT_FILENO;
 
-// The file that an argument names.
+// The file that argument number `i` names.
 fn print_argument(i: usize) {
     let mut path = io::buffer();
     let length = os::arg(i, &mut path);

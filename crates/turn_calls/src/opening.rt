@@ -9,7 +9,7 @@ ghost use Rattle.turns.specs.Surveys.{surveyOf};
 ghost use Rattle.turns.specs.Opening.{openOf};
 ghost use Rattle.turns.specs.Refusals.{OpenAnswers};
 
-// Writes the start state of a query to the state buffer, or refuses by the number of the first test that fails.
+// Writes the start state of a query to `state`, or refuses by the number of the first test that fails.
 pub fn open(
     rows: &[u32],
     pos: &[u32],

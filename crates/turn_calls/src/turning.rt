@@ -20,7 +20,7 @@ ghost use Rattle.turns.specs.Refusals.{TurnAnswers};
 ghost use Rattle.turn_savings.specs.Leaving.{leftAt};
 ghost use Rattle.turn_runs.specs.Running.{answerOf};
 
-// The answer of a turn whose steps are made.
+// The answer of a turn whose steps are made, as `ran` says.
 fn finish(survey: u32, ran: Ran, state: &mut [u32]) -> Turned
     requires { ⌜ (survey < lowNumbers) × (leastStateWords ≤ length (now state))
         × ((ran .ending ≡ TurnEnding.Done → ⊥) → Storable (ran .next)) ⌝ }
@@ -38,7 +38,7 @@ fn finish(survey: u32, ran: Ran, state: &mut [u32]) -> Turned
     }
 }
 
-// Runs one turn of a query: at most so many steps from its state, which is the first words of its buffer, as many as are given.
+// Runs one turn of a query: at most `quantum` steps from its state, which is the first `given` words of `state`.
 pub fn turn(
     rows: &[u32],
     pos: &[u32],

@@ -11,7 +11,7 @@ ghost use Rattle.state_saving.specs.Loading.{Storable};
 ghost use Rattle.turns.specs.declared.TurnEnding.{TurnEnding};
 ghost use Rattle.turn_savings.specs.Leaving.{leftAt};
 
-// Writes the state that a turn's steps leave, under the survey's number, and answers its words: none when done.
+// Writes the state that a turn's steps leave, under the survey's number `survey`, and answers its words: none when done.
 pub fn save_left(survey: u32, ending: TurnEnding, next: Cursor, state: &mut [u32]) -> usize
     requires { ⌜ (survey < lowNumbers) × (leastStateWords ≤ length (now state)) × ((ending ≡ TurnEnding.Done → ⊥) → Storable next) ⌝ }
     ensures { λ r. ⌜ (r ≡ length (savedWords survey (leftAt ending next)))

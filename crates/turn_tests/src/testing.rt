@@ -37,7 +37,7 @@ pub fn check(rows: &[u32], pos: &[u32], osp: &[u32], plan: &[u32]) -> u32
     plan_tests::check(plan)
 }
 
-// Tests 9, 22, 10 and 11: the cursor of the state, or the number of the first test that fails.
+// Tests 9, 22, 10 and 11: the cursor of the state in the first `given` words of `state`, or the number of the first test that fails.
 fn load(
     rows: &[u32],
     pos: &[u32],

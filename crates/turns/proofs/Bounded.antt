@@ -129,7 +129,7 @@ module _ {S R : Type 0} (f : Machine S R) (fits : List R → Bool) where
     attempt k (stopped Spent n o bs) h = absurd (h .how)
     attempt k (stopped (Refused x) n o bs) h = absurd (h .how)
 
-    -- so many attempts from a state
+    -- `k` attempts from the state `s`
     pub after-attempts : (k : ℕ) → AfterAttempts s k (progress f fits k s)
     unfolding progress iterate
     after-attempts zero = record { run = refl; taken = λ m l. absurd (omega arith); fitted = λ e. e; how = refl }

@@ -1,4 +1,4 @@
--- A served turn stands on the uncut run: it was given a state that the run passes through, and leaves the run so many steps on.
+-- A served turn stands on the uncut run: it was given a state that the run passes through, and leaves the run some steps on.
 -- Its buffers keep their lengths.
 use Prim.Native.Nat.{ℕ, _+_, _-_, _≤_, _<_}
 use native.Mathlib.Omega.{arith}

@@ -51,12 +51,12 @@ valuesOf a = valuesBy (a .ending) (a .steps) (a .saved) (a .listed)
 abbrev pub Progress : Type 0
 Progress = bounded.Progress State Bindings
 
--- at most so many steps from a state, as long as the rows that they deliver fit: a partial match that the threshold leaves out is passed by
+-- at most `quantum` steps from the state `s`, as long as the rows that they deliver fit: a partial match that the threshold leaves out is passed by
 unfoldable pub progress : Tables → Plan → List ℕ → (List Bindings → Bool) → ℕ → State → Progress
 unfolding bounded.progress
 progress t q threshold fits quantum s = bounded.progress (prunedStep t q threshold) fits quantum s
 
--- the list of some rows fits an output of so many words
+-- the list of the rows `bs` fits an output of `room` words
 abbrev pub fitsIn : Ending → List ℕ → ℕ → List Bindings → Bool
 fitsIn e threshold room bs = leb (length (gathered e threshold bs)) room
 

@@ -17,7 +17,7 @@ pub const ROOM: u32 = 16;
 // The places that a sort works in: half of the most rows.
 const HALF: usize = MOST_ROWS / 2;
 
-// Makes tables from an upload, and a report of the rows that it drops. It is refused by the number of the first test that fails, and then
+// Makes tables from `upload`, and a report of the rows that it drops. It is refused by the number of the first test that fails, and then
 // nothing is written.
 pub fn make(
     upload: &[u32],

@@ -14,7 +14,7 @@ ghost use lib.ListN.{length};
 ghost use Rattle.tables.specs.Tables.{mostRows};
 ghost use Rattle.uploads.specs.Making.{makeInput, makeBuffers, uploadRight, makeOf};
 
-// Makes the tables of an upload of whole rows that are not too many.
+// Makes the tables of `upload`, whole rows that are not too many.
 pub fn make_within(
     upload: &[u32],
     rows: &mut [u32],

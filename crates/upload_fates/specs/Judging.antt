@@ -17,19 +17,19 @@ pub record Fits (up : List ℕ) (list fates : ℕ) : Type 0 where
   pub listed : uploadCount up ≤ list
   pub judged : uploadCount up ≤ fates
 
--- some numbers are the first so many of a list
+-- `numbers` are the first `count` of `list`
 pub record NumbersListed (count : ℕ) (list numbers : List ℕ) : Type 0 where
   pub fits : count ≤ length list
   pub front : take count list ≡ numbers
 
--- the numbers below n of rows of right kinds; those of an upload, in the rows' own order
+-- the numbers below `n` of rows of right kinds; those of an upload, in the rows' own order
 abbrev pub goodNumbers : List ℕ → ℕ → List ℕ
 goodNumbers up n = keep (kindsGood up) (numbers n)
 
 unfoldable pub rightNumbers : List ℕ → List ℕ
 rightNumbers up = sortBy (numberBefore Spo up) (goodNumbers up (uploadCount up))
 
--- the first n rows are marked: kept, or of a wrong kind
+-- the first `n` rows are marked: kept, or of a wrong kind
 pub record Marked (up fates : List ℕ) (n : ℕ) : Type 0 where
   pub mark : (row : ℕ) → row < n → getD fates row 0 ≡ cond (kindsGood up row) keptCode wrongCode
 
@@ -37,7 +37,7 @@ pub record Marked (up fates : List ℕ) (n : ℕ) : Type 0 where
 pub record Judged (up fates : List ℕ) : Type 0 where
   pub fate : (row : ℕ) → row < uploadCount up → getD fates row 0 ≡ fateOf up row
 
--- the row at a place of a list is not after its neighbour
+-- the row at `place` of `list` is not after its neighbour
 abbrev pub follows : List ℕ → List ℕ → ℕ → Bool
 follows up list place = not (numberBefore Spo up (getD list (place - 1) 0) (getD list place 0))
 

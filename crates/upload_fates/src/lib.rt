@@ -20,7 +20,7 @@ ghost use Rattle.tables.specs.RowLists.{inRows};
 ghost use Rattle.uploads.specs.Uploads.{uploadCount, kindsGood};
 ghost use Rattle.upload_fates.specs.Judging.{Fits, goodNumbers, NumbersListed, Marked, marked, rightNumbers, Judged};
 
-// Whether a row has right kinds, and a year that is one.
+// Whether row number `row` of `upload` has right kinds, and a year that is one.
 fn kinds_good(upload: &[u32], row: usize) -> bool
     requires { ⌜ row * columnCount + columnCount ≤ length (now upload) ⌝ }
     ensures { λ r. ⌜ r ≡ kindsGood (now (upload .entry)) row ⌝ }
@@ -32,7 +32,7 @@ fn kinds_good(upload: &[u32], row: usize) -> bool
     false
 }
 
-// Marks each row as kept or of a wrong kind, and lists the numbers of those of right kinds.
+// Marks each row in `fates` as kept or of a wrong kind, and lists the numbers of those of right kinds in `list`; answers how many these are.
 fn mark_kinds(upload: &[u32], list: &mut [u32], fates: &mut [u8]) -> usize
     requires { ⌜ Fits (now upload) (length (now list)) (length (now fates)) ⌝ }
     ensures listed { λ r. ⌜ NumbersListed r (now (list .exit)) (goodNumbers (now (upload .entry)) (uploadCount (now (upload .entry)))) ⌝ }
@@ -55,7 +55,7 @@ fn mark_kinds(upload: &[u32], list: &mut [u32], fates: &mut [u8]) -> usize
     right
 }
 
-// Marks the repeats in the sorted list of the rows of right kinds: each row that its neighbour does not come before.
+// Marks in `fates` the repeats in `list`, the sorted rows of right kinds: each row that its neighbour does not come before.
 fn mark_repeats(upload: &[u32], list: &[u32], fates: &mut [u8])
     requires { ⌜ all (inRows (now upload)) (now list) ≡ true ⌝ }
     requires { ⌜ uploadCount (now upload) ≤ length (now fates) ⌝ }
@@ -78,7 +78,7 @@ fn mark_repeats(upload: &[u32], list: &[u32], fates: &mut [u8])
     }
 }
 
-// The fate of each row. The list gets the numbers of the rows of right kinds, in the rows' own order, and says how many they are.
+// Writes the fate of each row to `fates`, and to `list` the numbers of the rows of right kinds, in the rows' own order; answers how many these are.
 pub fn judge(upload: &[u32], list: &mut [u32], spare: &mut [u32], fates: &mut [u8]) -> usize
     requires { ⌜ Fits (now upload) (length (now list)) (length (now fates)) ⌝ }
     requires { ⌜ length (now list) ≤ length (now spare) + length (now spare) ⌝ }

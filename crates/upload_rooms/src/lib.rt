@@ -6,7 +6,7 @@ ghost use Prim.Native.Nat.{_≤_};
 ghost use Rattle.tables.specs.Tables.{mostRows};
 ghost use Rattle.upload_rooms.specs.Rooms.{makeRoomFor};
 
-// Whether buffers of these lengths have room for the kept rows, for both lists and for the report.
+// Whether buffers of these lengths have room for `kept` rows, for both lists and for the report on `dropped` rows.
 pub fn has_room(
     kept: usize,
     dropped: usize,

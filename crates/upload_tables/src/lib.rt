@@ -10,7 +10,7 @@ ghost use Rattle.tables.specs.Tables.{columnCount, mostRows};
 ghost use Rattle.uploads.specs.Uploads.{madeTables};
 ghost use Rattle.upload_writes.specs.Writing.{ReadyToWrite};
 
-// Writes the tables of the kept rows.
+// Writes the tables of the rows in `list` that `fates` keeps, `kept` of them; answers the words of the rows.
 pub fn write_tables(
     upload: &[u32],
     list: &[u32],

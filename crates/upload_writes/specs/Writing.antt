@@ -11,7 +11,7 @@ use Rattle.tables.specs.Tables.{mostRows, fieldsOf}
 use Rattle.uploads.specs.Uploads.{uploadCount, keptCode, keptCount}
 use Rattle.upload_fates.specs.Judging.{rightNumbers, Judged}
 
--- the words that some numbers make, of those that pass a test
+-- the words that `g` makes of those numbers of `ns` that pass `f`
 unfoldable pub writtenFor : (ℕ → Bool) → (ℕ → List ℕ) → List ℕ → List ℕ
 writtenFor f g ns = flatten (map g (keep f ns))
 
@@ -25,7 +25,7 @@ keptWords up fates list = writtenFor (isKeptIn fates) (fieldsOf Spo up) list
 abbrev pub droppedWords : List ℕ → ℕ → List ℕ
 droppedWords fates count = writtenFor (λ row. not (isKeptIn fates row)) (λ row. row ∷ getD fates row 0 ∷ []) (numbers count)
 
--- the rows of an upload are judged, and those of right kinds listed in the rows' own order; so many are kept
+-- the rows of an upload are judged, and those of right kinds listed in the rows' own order; `kept` rows are kept
 pub record ReadyToWrite (up list fates : List ℕ) (kept : ℕ) : Type 0 where
   pub few : uploadCount up ≤ mostRows
   pub listed : list ≡ rightNumbers up

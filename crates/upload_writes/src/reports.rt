@@ -9,7 +9,7 @@ ghost use Rattle.sequences.specs.Sequences.{keep, numbers, over};
 ghost use Rattle.tables.specs.Tables.{mostRows};
 ghost use Rattle.upload_writes.specs.Writing.{isKeptIn, droppedWords};
 
-// How many rows are kept.
+// How many of the first `count` rows are kept.
 pub fn count_kept(fates: &[u8], count: usize) -> usize
     requires { ⌜ (count ≤ length (now fates)) × (count ≤ mostRows) ⌝ }
     ensures { λ r. ⌜ r ≡ length (keep (isKeptIn (now (fates .entry))) (numbers count)) ⌝ }
@@ -27,7 +27,7 @@ pub fn count_kept(fates: &[u8], count: usize) -> usize
     kept
 }
 
-// Writes place and fate of each row that is dropped.
+// Writes to `report` the place and the fate of each of the first `count` rows that is dropped; answers its words.
 pub fn write_report(fates: &[u8], count: usize, report: &mut [u32]) -> usize
     requires { ⌜ (count ≤ length (now fates)) × (count ≤ mostRows) ⌝ }
     requires { ⌜ length (droppedWords (now fates) count) ≤ length (now report) ⌝ }

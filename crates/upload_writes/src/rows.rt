@@ -14,7 +14,7 @@ ghost use Rattle.tables.specs.RowLists.{inRows};
 ghost use Rattle.uploads.specs.Uploads.{uploadCount};
 ghost use Rattle.upload_writes.specs.Writing.{keptWords};
 
-// Writes the rows of a list that are kept.
+// Writes to `rows` the rows in `list` that are kept; answers their words.
 pub fn write_rows(upload: &[u32], list: &[u32], fates: &[u8], rows: &mut [u32]) -> usize
     requires { ⌜ all (inRows (now upload)) (now list) ≡ true ⌝ }
     requires { ⌜ uploadCount (now upload) ≤ length (now fates) ⌝ }

@@ -16,8 +16,7 @@ pub const GRANT: u32 = 20;
 
 pub const ROOM: u32 = 21;
 
-// Writes the tables of the rows that a grant makes visible. It is refused by the number of the first test that fails, and then nothing is
-// written.
+// Writes the tables of the rows that `grant` makes visible. It is refused by the number of the first test that fails, and then nothing is written.
 pub fn view(
     rows: &[u32],
     pos: &[u32],

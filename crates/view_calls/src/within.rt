@@ -16,7 +16,7 @@ ghost use Rattle.table_answers.specs.Writing.{tableBuffers};
 ghost use Rattle.views.specs.Viewing.{viewInput, grantRight, viewCallOf};
 ghost use Rattle.view_members.specs.Flags.{Unflagged};
 
-// Writes the view of right tables for a right grant.
+// Writes the view of right tables for a right `grant`.
 pub fn view_within(
     rows: &[u32],
     pos: &[u32],

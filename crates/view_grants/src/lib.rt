@@ -14,7 +14,7 @@ pub struct Sought {
     pub found: bool,
 }
 
-// Whether the words of a grant ascend strictly.
+// Whether the words of `grant` ascend strictly.
 fn ascends(grant: &[u32]) -> bool
     ensures { λ r. ⌜ r ≡ neighbours ltb (now (grant .entry)) ⌝ }
 {
@@ -30,7 +30,7 @@ fn ascends(grant: &[u32]) -> bool
     true
 }
 
-// Whether each word of a grant that ascends is a name: names are the least words, so the last tells.
+// Whether each word of `grant`, which ascends, is a name: names are the least words, so the last tells.
 fn last_named(grant: &[u32]) -> bool
     requires { ⌜ neighbours ltb (now grant) ≡ true ⌝ }
     ensures { λ r. ⌜ r ≡ all isName (now (grant .entry)) ⌝ }
@@ -43,7 +43,7 @@ fn last_named(grant: &[u32]) -> bool
     Term(last).kind() == Term::NAME
 }
 
-// Whether a grant is right: names alone, strictly ascending.
+// Whether `grant` is right: names alone, strictly ascending.
 pub fn grant_right(grant: &[u32]) -> bool
     ensures { λ r. ⌜ r ≡ grantRight (now (grant .entry)) ⌝ }
 {
@@ -53,7 +53,7 @@ pub fn grant_right(grant: &[u32]) -> bool
     last_named(grant)
 }
 
-// Looks for a word in a grant, from a place on that is not past the first word that is not less.
+// Looks for `word` in `grant`, from `from` on, a place that is not past the first word that is not less.
 pub fn seek(grant: &[u32], from: usize, word: u32) -> Sought
     requires { ⌜ neighbours ltb (now grant) ≡ true ⌝ }
     requires { ⌜ from ≤ firstFrom (now grant) word ⌝ }

@@ -9,7 +9,7 @@ use Rattle.sequences.specs.Sequences.{someBelow, member}
 use Rattle.tables.specs.Tables.{columnCount, yearColumn, subjectColumn, fieldOf}
 use Rattle.views.specs.Views.{isOf}
 
--- a row of a subject in a year is flagged
+-- `row` is of `subject` in `year`, and is flagged
 unfoldable pub told : List ℕ → List ℕ → ℕ → ℕ → ℕ → Bool
 told rows flags year subject row = isOf rows year subject row && eqb (getD flags row 0) 1
 

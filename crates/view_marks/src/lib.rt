@@ -31,14 +31,14 @@ pub struct Seeing {
     pub from: usize,
 }
 
-// Whether something is seen, or by a flag more.
+// Whether a subject is `seen` already, or `flag` admits it.
 fn either(seen: bool, flag: u8) -> bool
     ensures { λ r. ⌜ r ≡ (seen || eqb flag 1) ⌝ }
 {
     seen | (flag == ADMITS)
 }
 
-// Whether a row is of a subject in a year.
+// Whether `row` is of `subject` in `year`.
 fn is_of(rows: &[u32], row: u32, year: u32, subject: u32) -> bool
     requires { ⌜ row * columnCount + columnCount ≤ length (now rows) ⌝ }
     ensures { λ r. ⌜ r ≡ isOf (now (rows .entry)) year subject row ⌝ }
@@ -49,7 +49,7 @@ fn is_of(rows: &[u32], row: u32, year: u32, subject: u32) -> bool
     field(rows, RowNumber(row), YEAR) == year
 }
 
-// Whether a subject that is granted or not is seen: its rows of the year, from the first on, are looked at for a flag.
+// Whether the subject of `row`, `granted` or not, is seen: its rows of the year, from `row` on, which is the first, are looked at for a flag.
 fn subject_seen(rows: &[u32], flags: &[u8], row: u32, granted: bool) -> bool
     requires { ⌜ RowsRight (now rows) ⌝ }
     requires { ⌜ FirstOfSubject (now rows) row ⌝ }
@@ -72,7 +72,7 @@ fn subject_seen(rows: &[u32], flags: &[u8], row: u32, granted: bool) -> bool
     seen
 }
 
-// Whether the first row of a subject in a year is visible.
+// Whether `row`, the first of a subject in a year, is visible; the subject is looked for in `grant` from `from` on.
 fn first_seen(rows: &[u32], grant: &[u32], flags: &[u8], row: u32, from: usize) -> Seeing
     requires { ⌜ RowsRight (now rows) ⌝ }
     requires { ⌜ neighbours ltb (now grant) ≡ true ⌝ }
@@ -89,7 +89,7 @@ fn first_seen(rows: &[u32], grant: &[u32], flags: &[u8], row: u32, from: usize) 
     }
 }
 
-// Whether a row is visible, where it is known of the row before it.
+// Whether `row` is visible, where `before` says it of the row before it.
 fn next_seen(rows: &[u32], grant: &[u32], flags: &[u8], row: u32, before: Seeing) -> Seeing
     requires { ⌜ RowsRight (now rows) ⌝ }
     requires { ⌜ neighbours ltb (now grant) ≡ true ⌝ }
@@ -115,14 +115,14 @@ fn next_seen(rows: &[u32], grant: &[u32], flags: &[u8], row: u32, before: Seeing
     first_seen(rows, grant, flags, row, from)
 }
 
-// The mark of a row, where so many before it are visible.
+// The mark of a row that is `seen` or not, where `number` rows before it are visible.
 fn mark_by(seen: bool, number: u32) -> u32
     ensures { λ r. ⌜ r ≡ markBy seen number ⌝ }
 {
     if seen { number } else { HIDDEN }
 }
 
-// How many are visible with one row more.
+// How many rows are visible with one more, `seen` or not, where `number` before it are.
 fn one_more(seen: bool, number: u32) -> u32
     requires { ⌜ number ≤ mostRows ⌝ }
     ensures { λ r. ⌜ r ≡ cond seen (number + 1) number ⌝ }
@@ -130,7 +130,7 @@ fn one_more(seen: bool, number: u32) -> u32
     number + seen as u32
 }
 
-// Marks each row, and tells how many are visible.
+// Marks each row in `marks`, and tells how many are visible.
 pub fn mark(rows: &[u32], grant: &[u32], flags: &[u8], marks: &mut [u32]) -> usize
     requires { ⌜ RowsRight (now rows) ⌝ }
     requires { ⌜ neighbours ltb (now grant) ≡ true ⌝ }

@@ -31,7 +31,7 @@ fn flag_by(found: bool) -> u8
     if found { ADMITS } else { SILENT }
 }
 
-// Flags each row of a year that has the membership predicate and a granted object, where those of earlier years are flagged.
+// Flags each row of `year` that has the predicate `membership` and a granted object, where those of earlier years are flagged.
 fn flag_year(
     rows: &[u32],
     pos: &[u32],
@@ -65,7 +65,7 @@ fn flag_year(
     }
 }
 
-// Flags each row that has the membership predicate and a granted object, year after year.
+// Flags each row that has the predicate `membership` and a granted object, year after year.
 pub fn flag_members(
     rows: &[u32],
     pos: &[u32],

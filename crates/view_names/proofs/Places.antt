@@ -31,7 +31,7 @@ some-place f g rows d h =
     ∙ sym (all-below (λ r. not (g r)) d rows))
     ∙ not-all g rows
 
--- so many of the first
+-- what is kept of the first `n`
 kept-first : {A B : Type 0} (h : ℕ → B) (k : A → B) (f : ℕ → Bool) (g : A → Bool) (xs : List A) (d : A)
     → ((i : ℕ) → i < length xs → f i ≡ g (getD xs i d)) → ((i : ℕ) → i < length xs → h i ≡ k (getD xs i d))
     → (n : ℕ) → n ≤ length xs → map h (keep f (numbers n)) ≡ map k (keep g (take n xs))

@@ -18,7 +18,7 @@ ghost use Rattle.views.specs.Renumbered.{passedBefore};
 ghost use Rattle.view_marks.specs.Marks.{hiddenMark};
 ghost use Rattle.view_writes.specs.Writing.{shownBy, shownWords, shownNumbers};
 
-// How many are written with one mark more.
+// How many are written with one row more, marked `mark`, where `used` are before it.
 fn one_more(mark: u32, used: usize) -> usize
     requires { ⌜ used ≤ mostRows ⌝ }
     ensures { λ r. ⌜ r ≡ cond (ltb mark hiddenMark) (used + 1) used ⌝ }
@@ -26,7 +26,7 @@ fn one_more(mark: u32, used: usize) -> usize
     if mark < HIDDEN { used + 1 } else { used }
 }
 
-// The words of a row, read from a part that is theirs: where indices are tested, one test does for all.
+// The words of `row`, read from a part that is theirs: where indices are tested, one test does for all.
 fn row_words(rows: &[u32], row: u32) -> [u32; COLUMNS]
     requires { ⌜ row * columnCount + columnCount ≤ length (now rows) ⌝ }
     ensures { λ r. ⌜ r ≡ fieldsOf Spo (now (rows .entry)) row ⌝ }
@@ -36,7 +36,7 @@ fn row_words(rows: &[u32], row: u32) -> [u32; COLUMNS]
     fields(&rows[from..end], Order::Spo, RowNumber(0))
 }
 
-// Puts a row's words where they belong. They are copied to a part as long as they are: where indices are tested, one test does for all.
+// Puts a row's `words` at `at`. They are copied to a part as long as they are: where indices are tested, one test does for all.
 fn put_row(view: &mut [u32], at: usize, words: &[u32])
     requires { ⌜ at + length (now words) ≤ length (now view) ⌝ }
     ensures { λ _. ⌜ now (view .exit) ≡ paste (now (view .entry)) at (now (words .entry)) (length (now (words .entry))) ⌝ }
@@ -45,7 +45,7 @@ fn put_row(view: &mut [u32], at: usize, words: &[u32])
     copy_in(&mut view[at..end], 0, words);
 }
 
-// Writes the rows that are not marked as hidden, so many of them. A hidden row is written too where the next one belongs, and then written
+// Writes the rows that are not marked as hidden, `seen` of them. A hidden row is written too where the next one belongs, and then written
 // over: so no branch of the loop depends on what is hidden.
 pub fn write_rows(rows: &[u32], marks: &[u32], seen: usize, view: &mut [u32])
     requires { ⌜ (length (now rows) / columnCount ≤ mostRows) × (length (now rows) / columnCount ≤ length (now marks)) ⌝ }
@@ -63,7 +63,7 @@ pub fn write_rows(rows: &[u32], marks: &[u32], seen: usize, view: &mut [u32])
     }
 }
 
-// Writes the new numbers of the rows in a list that are not marked as hidden, so many of them, in the same way.
+// Writes the new numbers of the rows in `list` that are not marked as hidden, `seen` of them, in the same way.
 pub fn write_numbers(list: &[u32], marks: &[u32], seen: usize, view: &mut [u32])
     requires { ⌜ all (λ row. ltb row (length (now marks))) (now list) ≡ true ⌝ }
     requires { ⌜ (seen ≡ length (shownNumbers (now marks) (now list))) × (seen ≤ length (now view)) × (seen ≤ mostRows) ⌝ }

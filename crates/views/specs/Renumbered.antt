@@ -6,10 +6,10 @@ use lib.ListN.{length}
 use Rattle.sequences.specs.Sequences.{keep, numbers}
 use Rattle.views.specs.Views.{visible}
 
--- how many numbers before one pass a test
+-- how many numbers below `n` pass `f`
 abbrev pub passedBefore : (ℕ → Bool) → ℕ → ℕ
 passedBefore f n = length (keep f (numbers n))
 
--- how many visible rows come before a row
+-- how many visible rows come before `row`
 abbrev pub newNumber : List ℕ → List ℕ → ℕ → ℕ → ℕ
 newNumber rows grant membership row = passedBefore (visible rows grant membership) row

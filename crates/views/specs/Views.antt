@@ -10,11 +10,11 @@ use Rattle.tables.specs.declared.Order.the-variants.{Spo}
 use Rattle.tables.specs.Tables.{Tables, columnCount, yearColumn, subjectColumn, predicateColumn, objectColumn, fieldOf, fieldsOf}
 use Rattle.tables.specs.RowLists.{tablesFrom}
 
--- a row is of a subject in a year
+-- `row` is of `subject` in `year`
 abbrev pub isOf : List ℕ → ℕ → ℕ → ℕ → Bool
 isOf rows year subject row = eqb (fieldOf rows row yearColumn) year && eqb (fieldOf rows row subjectColumn) subject
 
--- a row says of a subject in a year that it belongs to something granted: its predicate is that of membership, its object is granted
+-- `row` says of `subject` in `year` that it belongs to something granted: its predicate is that of membership, its object is granted
 unfoldable pub admits : List ℕ → List ℕ → ℕ → ℕ → ℕ → ℕ → Bool
 admits rows grant membership year subject row =
     isOf rows year subject row && (eqb (fieldOf rows row predicateColumn) membership && member (fieldOf rows row objectColumn) grant)

@@ -19,7 +19,7 @@ pub const ROOM: u32 = 25;
 // The places that a sort works in: half of the most rows.
 const HALF: usize = MOST_ROWS / 2;
 
-// Whether there may be so many stems in such a year.
+// Whether a wood may have `stems` stems, in the year `year`.
 fn asked_right(stems: u32, year: u32) -> bool
     ensures { λ r. ⌜ r ≡ askedRight stems year ⌝ }
 {
@@ -32,8 +32,7 @@ fn asked_right(stems: u32, year: u32) -> bool
     year <= MOST_YEAR
 }
 
-// Writes the wood of a seed, with so many stems in a year. It is refused by the number of the first test that fails, and then nothing is
-// written.
+// Writes the wood of `seed`, with `stems` stems in `year`. It is refused by the number of the first test that fails, and then nothing is written.
 pub fn grow(
     seed: u32,
     stems: u32,

@@ -26,14 +26,14 @@ const HAS_DIAMETER: u32 = 12;
 // What x is used as: its upper half.
 const USED: u32 = 65536;
 
-// One draw more.
+// The draw after `x`.
 pub fn draw(x: u32) -> u32
     ensures { λ r. ⌜ r ≡ nextDraw x ⌝ }
 {
     ((1664525 * (x as u64) + 1013904223) % 4294967296) as u32
 }
 
-// The words of a stem's rows, where its draws have moved x to these.
+// The words of the rows of `stem` in `year`, where its draws have moved x to `first` and to `second`.
 pub fn stem_words(year: u32, stem: u32, first: u32, second: u32) -> [u32; STEM_WORDS]
     requires { ⌜ (year ≤ mostYear) × (stem < mostStems) ⌝ }
     ensures { λ r. ⌜ r ≡ stemWords year stem first second ⌝ }
@@ -45,7 +45,7 @@ pub fn stem_words(year: u32, stem: u32, first: u32, second: u32) -> [u32; STEM_W
     [y, s, IN_STAND, stand, y, s, HAS_DIAMETER, diameter]
 }
 
-// Writes the rows of so many stems.
+// Writes the rows of `stems` stems in `year`, drawn from `seed`; answers their words.
 pub fn write_rows(seed: u32, stems: u32, year: u32, rows: &mut [u32]) -> usize
     requires { ⌜ (stems ≤ mostStems) × (year ≤ mostYear) ⌝ }
     requires { ⌜ rowsFor stems * columnCount ≤ length (now rows) ⌝ }

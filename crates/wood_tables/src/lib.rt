@@ -12,7 +12,7 @@ ghost use Rattle.woods.specs.Woods.{woodOf};
 ghost use Rattle.woods.specs.Growing.{mostStems};
 ghost use Rattle.woods.specs.Refusals.{rowsFor};
 
-// Writes the tables of so many stems, which have `count` rows.
+// Writes the tables of `stems` stems, which have `count` rows.
 pub fn write_tables(
     seed: u32,
     stems: u32,

@@ -18,7 +18,7 @@ firstStems =
     ∷ 0x400007EA ∷ 0x000F4241 ∷ 0x0000000A ∷ 0x0000006A ∷ 0x400007EA ∷ 0x000F4241 ∷ 0x0000000C ∷ 0x40000267 ∷ [])
     (2 ∷ 0 ∷ 1 ∷ 3 ∷ []) (2 ∷ 0 ∷ 1 ∷ 3 ∷ [])
 
--- a call with buffers of so many words, which hold 9 in rows, 8 in POS and 7 in OSP
+-- a call with buffers of `rows`, `pos` and `osp` words, which hold 9 in rows, 8 in POS and 7 in OSP
 abbrev pub growCall : ℕ → ℕ → ℕ → ℕ → ℕ → ℕ → GrowInput
 growCall seed stems year rows pos osp = growInput seed stems year (replicate rows 9) (replicate pos 8) (replicate osp 7)
 

@@ -1,4 +1,4 @@
--- A wood made from a seed: so many stems, each with a stand and a diameter, in one year. Assumes nothing: these are definitions.
+-- A wood made from a seed: stems, each with a stand and a diameter, in one year. Assumes nothing: these are definitions.
 use Prim.Native.Nat.{ℕ, zero, suc, _+_, _*_, _/_, _%_}
 use mathlib.Core.List.{List, [], _∷_, _++_, flatten}
 use Rattle.words.specs.Words.{name, number}
@@ -47,6 +47,6 @@ unfoldable pub woodRows : ℕ → ℕ → ℕ → List (List ℕ)
 woodRows seed year zero = []
 woodRows seed year (suc j) = woodRows seed year j ++ (standRow seed year j ∷ diameterRow seed year j ∷ [])
 
--- the wood of a seed, with so many stems in a year
+-- the wood of `seed`, with `stems` stems in `year`
 abbrev pub woodOf : ℕ → ℕ → ℕ → Tables
 woodOf seed stems year = tablesFrom (flatten (woodRows seed year stems))

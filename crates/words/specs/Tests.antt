@@ -25,12 +25,12 @@ abbrev pub AllPass : List Test → Type 0
 AllPass [] = Unit {0}
 AllPass (x ∷ xs) = (x .1 ≡ true) × AllPass xs
 
--- a test with a number fails, and those before it in the list pass
+-- the test with the number `n` fails, and those before it in the list pass
 pub data FirstFails (n : ℕ) : List Test → Type 0 where
   here : {xs : List Test} → FirstFails n ((n, false) ∷ xs)
   there : {m : ℕ} {xs : List Test} → FirstFails n xs → FirstFails n ((m, true) ∷ xs)
 
--- the tests of a list before the one with a number
+-- the tests of a list before the one with the number `n`
 abbrev pub testsBefore : ℕ → List Test → List Test
 testsBefore n [] = []
 testsBefore n (x ∷ xs) = cond (eqb n (x .0)) [] (x ∷ testsBefore n xs)

@@ -62,7 +62,7 @@ abbrev pub isValue : ℕ → Bool
 isValue w = not (isVariable w) || eqb w unbound
 
 -- ---- values and the order of keys
--- two's complement, with so many values from zero up and as many below: n from the half on stands for n less the whole
+-- two's complement, with `half` values from zero up and as many below: `n` from the half on stands for `n` less the whole
 unfoldable pub signed : ℕ → ℕ → ℤ
 signed half n = subℕ n (cond (ltb n half) 0 (half + half))
 

@@ -181,7 +181,7 @@ impl PlanWord {
     // The last of them.
     pub const LAST_OPERATOR: u32 = 5;
 
-    // A year, or 0 for every year there is.
+    // The year `number`, or 0 for every year there is.
     pub fn year(number: u32) -> Self
         ensures { λ r. ⌜ r .0 ≡ yearWord (number % lowNumbers) ⌝ }
     {
@@ -305,7 +305,7 @@ impl StateWord {
         StateWord(StateWord::YEAR * NUMBERS + number % NUMBERS)
     }
 
-    // Branch (from 0) and depth.
+    // The branch number `branch` (from 0) and `depth`.
     pub fn position(branch: u32, depth: u32) -> Self
         requires { ⌜ (branch < 4) × (depth < depths) ⌝ }
         ensures { λ r. ⌜ r .0 ≡ positionWord branch depth ⌝ }
@@ -345,14 +345,14 @@ impl StateWord {
     }
 }
 
-// A word as an index.
+// `x` as an index.
 pub fn wide(x: u32) -> usize
     ensures { λ r. ⌜ r ≡ x ⌝ }
 {
     x as usize
 }
 
-// The value of a term: a variable's binding, and a constant itself.
+// The value of the term `word`: a variable's binding, and a constant itself.
 pub fn value_of(word: u32, bound: &[u32; 16]) -> u32
     ensures { λ r. ⌜ r ≡ valueOf (now (bound .entry)) word ⌝ }
 {
@@ -368,7 +368,7 @@ pub fn value_of(word: u32, bound: &[u32; 16]) -> u32
     word
 }
 
-// Copies some words to the buffer from a on.
+// Copies `words` to `buf`, from `a` on.
 pub fn copy_in(buf: &mut [u32], a: usize, words: &[u32])
     requires { ⌜ a + length (now words) ≤ length (now buf) ⌝ }
     ensures { λ _. ⌜ now (buf .exit) ≡ paste (now (buf .entry)) a (now (words .entry)) (length (now (words .entry))) ⌝ }

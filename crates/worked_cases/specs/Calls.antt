@@ -76,7 +76,7 @@ stateBuffer ws = over ws (replicate 11 7)
 abbrev pub keptBuffer : ℕ → List ℕ → List ℕ
 keptBuffer room ws = over ws (replicate room 4)
 
--- a turn from a state, with a quantum, a threshold and an output of so many words
+-- a turn from `state`, with a quantum, a threshold and an output of `room` words
 abbrev pub turnUnder : Survey → List ℕ → List ℕ → ℕ → List ℕ → ℕ → TurnInput
 turnUnder v plan state quantum threshold room =
     record {

@@ -53,7 +53,7 @@ withoutKey =
 abbrev pub inSecond : ℕ → List ℕ
 inSecond place = surveyWord 7 ∷ yearWord 2026 ∷ positionWord 1 1 ∷ placeWord place ∷ []
 
--- ---- short forms: a turn to the end, and one of so many steps to a state, each from a state with a threshold
+-- ---- short forms: a turn to the end, and one of `steps` steps to a state, each from a state with a threshold
 abbrev pub ends : Tables → List ℕ → List ℕ → List ℕ → ℕ → List ℕ → Case
 ends t plan from threshold steps list = turnCase (turnCall t plan from 100 threshold 128) Done steps [] list
 

@@ -31,7 +31,7 @@ ofTables =
     ∷ []
 
 -- ---- plans, 5 and 6
--- "true" under so many "not"
+-- "true" under seven "not"s
 abbrev pub seven : List ℕ
 seven = word notKind 0 ∷ word notKind 0 ∷ word notKind 0 ∷ word notKind 0 ∷ word notKind 0 ∷ word notKind 0 ∷ word notKind 0 ∷ always
 

@@ -47,7 +47,7 @@ planOfYear year plan = yearWord year ∷ plan
 abbrev pub opens : Tables → List ℕ → List ℕ → Case
 opens t plan words = (opening (surveyed t) plan (replicate 11 7), opened (record { answer = Words 4; state = stateBuffer words }))
 
--- a turn of so many steps from a state to another
+-- a turn of `steps` steps, from the state `from` to the state `to`
 abbrev pub goesInYears : List ℕ → ℕ → List ℕ → List ℕ → List ℕ → Case
 goesInYears plan steps from to list = turnCase (turnCall twoYears plan from steps [] 128) Spent steps to list
 

@@ -17,7 +17,7 @@ abbrev pub evaluatedAt : Read Condition → Read Evaluated
 evaluatedAt none = none
 evaluatedAt (some x) = some (evaluated [] (x .0), x .1)
 
--- a condition of these words has this truth, and so many of its comparisons are read
+-- a condition of the words `ws` has the truth `t`, and `n` of its comparisons are read
 abbrev pub Reads : List ℕ → Truth → ℕ → Type 0
 Reads ws t n = evaluatedAt (readCondition mostDepth ws) ≡ some (record { truth = t; reads = n }, length ws)
 

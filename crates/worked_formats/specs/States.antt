@@ -15,7 +15,7 @@ twoBranches =
     ∷ 0x20000002 ∷ 0xC0000000 ∷ 0x0000000A ∷ 0x00000064 ∷ 0xC0000000 ∷ 0x0000000C ∷ 0xC0000001 ∷ 0x70000005 ∷ 0xC0000001 ∷ 0x40000046
     ∷ 0x80000002 ∷ 0xC0000000 ∷ 0xC0000001 ∷ []
 
--- a turn of so many steps from a state's words to the next state's, with its list
+-- a turn of `n` steps from a state's words to the next state's, with its list
 abbrev pub goes : ℕ → List ℕ → List ℕ → List ℕ → Case
 goes n from to list = turnCase (turnCall stems twoBranches from n [] 128) Spent n to list
 

@@ -75,7 +75,7 @@ keptLengths =
     )
     ∷ []
 
--- so many times n1 i45
+-- n1 i45, `n` times
 abbrev pub equalRows : ℕ → List ℕ
 equalRows n = flatten (replicate n stem1)
 

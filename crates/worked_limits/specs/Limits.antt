@@ -11,7 +11,7 @@ use Rattle.worked_cases.specs.Literals.{stems, stem1, stem2, stem3, ending0, en
 use Rattle.worked_cases.specs.Literals.{opensTo, refuses, wholeFrom}
 
 -- ---- plans, by test 5
--- the pattern ?0 n10 n100, so many times
+-- the pattern ?0 n10 n100, `n` times
 abbrev pub patterns : ℕ → List ℕ
 patterns n = flatten (replicate n (0xC0000000 ∷ 0x0000000A ∷ 0x00000064 ∷ []))
 
@@ -30,11 +30,11 @@ allowed plan = opensTo stems plan (atPlace 0xF0000000)
 abbrev pub tooMany : List ℕ → Case
 tooMany plan = refuses stems plan 5
 
--- so many branches of one pattern
+-- `n` branches of one pattern
 abbrev pub equalBranches : ℕ → List ℕ
 equalBranches n = flatten (replicate n (0x20000001 ∷ (patterns 1 ++ (0x30000000 ∷ []))))
 
--- so many "not"s; a whole tree of "and"s, so many levels of them over leaves; so many "or"s, each the second part of the one before
+-- `n` "not"s; a whole tree of "and"s, `n` levels of them over leaves; `n` "or"s, each the second part of the one before
 abbrev pub nots : ℕ → List ℕ
 nots n = replicate n 0x60000000
 
@@ -157,7 +157,7 @@ ofEndings =
     ∷ []
 
 -- ---- buffers, by test 7, and the quantum, by test 8
--- ?0 n12 ?1 with an ending: the number of the test that refuses a turn over an output of so many words, none where it is accepted
+-- ?0 n12 ?1 with an ending: the number of the test that refuses a turn over an output of `n` words, none where it is accepted
 abbrev pub output : ℕ → List ℕ → Option ℕ → Case
 output n ending x = (testing (turnCall stems (allDiameters ending) (atPlace 0xF0000003) 1 [] n), tested x)
 

@@ -15,7 +15,7 @@ use Rattle.uploads.specs.Making.{MadeBuffers, uploadRight, makeOf}
 use Rattle.worked_cases.specs.Calls.{surveyed, turnCall}
 use Rattle.worked_cases.specs.Literals.{stems}
 
--- so many rows, all words 0: for test 1, which looks at lengths alone
+-- `n` rows, all words 0: for test 1, which looks at lengths alone
 abbrev pub zeroRows : ℕ → Tables
 zeroRows n = record { rows = replicate (n * 4) 0; pos = replicate n 0; osp = replicate n 0 }
 

@@ -13,7 +13,7 @@ use Rattle.worked_limits.specs.Closings.{stemsWith}
 abbrev pub literalPlanA : List ℕ
 literalPlanA = stemsWith (0x70000005 ∷ 0xC0000001 ∷ 0x40000046 ∷ []) ending01
 
--- an opening under a number writes these words, or is refused by a number over a state buffer of so many words
+-- an opening under the number `n` writes `words`, or is refused by the number `x` over a state buffer of `room` words
 abbrev pub opensUnder : ℕ → List ℕ → Case
 opensUnder n words = (opening (underNumber n stems) literalPlanA (replicate 11 7), opened (record { answer = Words (length words); state = stateBuffer words }))
 

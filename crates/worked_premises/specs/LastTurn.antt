@@ -27,7 +27,7 @@ twoServed =
 abbrev pub oneServed : List MadeCall
 oneServed = take 5 twoServed
 
--- the next call serves an owner, who ends so after so many steps, with so many left
+-- the next call serves `owner`, whose turn has the ending `e` after `steps` steps, with `left` steps left
 abbrev pub NextServed : List MadeCall → ℕ → TurnEnding → ℕ → ℕ → Type 0
 NextServed ms owner e steps left =
     deedOf (surveyed wood) (lentTo (afterCalls (surveyed wood) lineOfThree ms) (withRoom serveTen)) serveTen ≡ turns owner e steps left

@@ -21,7 +21,7 @@ twoSmallest =
 abbrev pub everyStem : List ℕ
 everyStem = allDiameters ending01
 
--- ---- events: a turn with a quantum, a threshold and so many words of output; a merge with so many words behind the kept list
+-- ---- events: a turn with a quantum, a threshold and `room` words of output; a merge with `room` words behind the kept list
 abbrev pub turnsFor : ℕ → List ℕ → ℕ → Event
 turnsFor quantum threshold room = turns (replicate 11 1) quantum threshold (replicate room 9)
 

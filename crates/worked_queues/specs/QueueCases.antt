@@ -62,7 +62,7 @@ entryHolding plan state owner steps =
 abbrev pub waits : ℕ → ℕ → Entry
 waits owner steps = entryHolding stemsQuery atStart owner steps
 
--- so many owners from a number on, with so many steps each
+-- `count` owners from the number `first` on, with `steps` steps each
 abbrev pub crowd : ℕ → ℕ → ℕ → List Entry
 crowd first count steps = map (λ (n : ℕ). waits (first + n) steps) (numbers count)
 
@@ -73,7 +73,7 @@ leftover = record { allowance = 9; owner = 1; planned = 3; saved = 2; plan = 5 �
 abbrev pub inBuffer : ℕ → List Entry → List Entry
 inBuffer room es = es ++ replicate (room - length es) leftover
 
--- both lists in buffers of so many entries; of 32
+-- both lists in buffers of `m` and of `n` entries; of 32
 abbrev pub inBuffers : ℕ → ℕ → List Entry → List Entry → LentLists
 inBuffers m n line aside = record { line = inBuffer m line; waiting = length line; aside = inBuffer n aside; resting = length aside }
 
@@ -103,7 +103,7 @@ notJoined v l j x = (joining v l j, queued (record { answer = Refused x; line = 
 abbrev pub notToppedUp : LentLists → ℕ → ℕ → ℕ → QueueCase
 notToppedUp l owner amount x = (topping l owner amount, queued (record { answer = Refused x; line = l .line; aside = l .aside }))
 
--- ---- serving with a quantum, and an output of so many words that hold 9
+-- ---- serving with a quantum, and an output of `room` words that hold 9
 abbrev pub plainly : ℕ → ℕ → Serving
 plainly quantum room = record { quantum = quantum; threshold = []; output = replicate room 9 }
 

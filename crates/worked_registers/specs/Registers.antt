@@ -103,7 +103,7 @@ registerLists =
     ∷ []
 
 -- ---- merging
--- a list merged into a kept one in a buffer of so many words, and what is then kept
+-- `list` merged into a kept one in a buffer of `room` words, and what is then kept
 abbrev pub keepsRegisters : List ℕ → ℕ → List ℕ → List ℕ → Case
 keepsRegisters kept room list result = (
   merging (mergeCall species kept room list),

@@ -32,7 +32,7 @@ wideWords = 0x0000FFFF ∷ 0x00010000 ∷ 0x007FFFFF ∷ 0x01000000 ∷ 0x8000FE
 abbrev pub ofWideWords : List (List ℕ)
 ofWideWords = touched 9 1 ∷ touched 4 1 ∷ touched 9 2 ∷ touched 4 1 ∷ touched 5 13 ∷ touched 2 15 ∷ touched 10 16 ∷ []
 
--- a report on a kept list in a buffer of so many words, into a buffer of so many
+-- a report on a kept list in a buffer of `room` words, into a buffer of `words` words
 abbrev pub reportCall : List ℕ → ℕ → ℕ → ReportInput
 reportCall kept room words = record { kept = keptBuffer room kept; given = length kept; report = replicate words 9 }
 

@@ -11,7 +11,7 @@ use Rattle.queues.specs.Joining.{Joining, newEntry}
 use Rattle.queues.specs.Calls.{Queue, QueueCall, join, serve, topUp, MadeCall, Deed, grants, turns, nothing}
 use Rattle.worked_cases.specs.Wood.{planA, yearState, startOfA}
 
--- an owner's query, plan A from its start, with so many steps
+-- a query of `owner`, plan A from its start, with `steps` steps
 abbrev pub byOwner : ℕ → ℕ → Joining
 byOwner owner steps = record { owner = owner; allowance = steps; plan = planA; state = startOfA }
 

@@ -7,7 +7,7 @@ use Rattle.uploads.specs.Making.{MakeInput, makeInput, madeWith}
 use Rattle.worked_cases.specs.Calls.{making, made, Case, notMade}
 use Rattle.worked_cases.specs.Literals.{stems}
 
--- ---- short forms. Buffers of so many words hold 9 in rows, 8 in POS, 7 in OSP and 6 in the report before the call
+-- ---- short forms. Before the call the buffers hold 9 in rows, 8 in POS, 7 in OSP and 6 in the report, as many words as their numbers say
 abbrev pub makeCall : List ℕ → ℕ → ℕ → ℕ → ℕ → MakeInput
 makeCall upload rows pos osp report = makeInput upload (replicate rows 9) (replicate pos 8) (replicate osp 7) (replicate report 6)
 
@@ -73,7 +73,7 @@ ofFates =
     (tablesOf (0x400007EA ∷ 0x00000001 ∷ 0x0000000A ∷ 0x80000064 ∷ []) (0 ∷ []) (0 ∷ [])) (0 ∷ 1 ∷ 1 ∷ 1 ∷ 2 ∷ 1 ∷ [])
     ∷ []
 
--- ---- years: so many rows (n1,n10,n100), each with a year's word before it
+-- ---- years: rows (n1,n10,n100), each with a year's word before it
 abbrev pub inYears : List ℕ → List ℕ
 inYears ys = flatten (map (λ y. y ∷ 0x00000001 ∷ 0x0000000A ∷ 0x00000064 ∷ []) ys)
 

@@ -8,7 +8,7 @@ use Rattle.views.specs.Viewing.{ViewInput}
 use Rattle.worked_cases.specs.Calls.{viewing, viewed, Case, notViewed}
 use Rattle.worked_cases.specs.Literals.{stems}
 
--- ---- short forms. Buffers of so many words hold 9 in rows, 8 in POS and 7 in OSP before the call
+-- ---- short forms. Before the call the buffers hold 9 in rows, 8 in POS and 7 in OSP, as many words as `rows`, `pos` and `osp` say
 abbrev pub viewCall : Tables → List ℕ → ℕ → ℕ → ℕ → ℕ → ViewInput
 viewCall t grant membership rows pos osp =
     record { tables = t; grant = grant; membership = membership; buffers = tableBuffers (replicate rows 9) (replicate pos 8) (replicate osp 7) }

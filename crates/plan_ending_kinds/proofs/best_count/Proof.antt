@@ -3,7 +3,7 @@ use borrow.Author.Needs.{needs}
 use mathlib.Core.Path.{refl, sym, ap, _∙_}
 use lib.ListN.{getD}
 use borrow.Author.Tests.{eq-eqb, ne-eqb}
-use Rattle.plans.specs.Endings.{lastOf}
+use Rattle.plans.specs.Endings.{endingKindOf}
 use Rattle.plans.specs.Reading.{bestIn}
 use Rattle.plans.proofs.EndingRead.{last-in, ending-top}
 use Rattle.plan_ending_kinds.proofs.best_count.Statement.{statement}
@@ -24,7 +24,7 @@ returns c =
     let pre = c .before .before .before .before .before .pre in
     let first = c .before .before .before .first in
     let low = c .before .before .low in
-    c .wide .ensures ∙ sym (ap bestIn (ending-top e (lastOf (getD e 0 0)) refl (sym (last-in e (pre .0)) ∙ pre .1))
+    c .wide .ensures ∙ sym (ap bestIn (ending-top e (endingKindOf (getD e 0 0)) refl (sym (last-in e (pre .0)) ∙ pre .1))
     ∙ rw (← first .ensures, ← low .ensures, eq-eqb _ _ (c .before .if1 .taken)))
 
 wide-requires-2 : tie.Need-wide-requires-2
@@ -36,7 +36,7 @@ returns-2 c =
     let pre = c .before .before .before .before .before .pre in
     let first = c .before .before .before .first in
     let low = c .before .before .low in
-    c .wide2 .ensures ∙ sym (ap bestIn (ending-top e (lastOf (getD e 0 0)) refl (sym (last-in e (pre .0)) ∙ pre .1))
+    c .wide2 .ensures ∙ sym (ap bestIn (ending-top e (endingKindOf (getD e 0 0)) refl (sym (last-in e (pre .0)) ∙ pre .1))
     ∙ rw (← first .ensures, ← low .ensures, ne-eqb _ _ (c .before .if1 .left)))
 
 pub best-count-spec : {M : Type 1} → statement M

@@ -4,7 +4,7 @@ use mathlib.Core.Path.{refl, sym, ap, _∙_}
 use native.Mathlib.Omega.{arith}
 use lib.ListN.{getD}
 use Rattle.words.specs.Words.{low}
-use Rattle.plans.specs.Endings.{lastOf}
+use Rattle.plans.specs.Endings.{endingKindOf}
 use Rattle.plans.specs.Reading.{measuredIn}
 use Rattle.plans.proofs.EndingForms.{group-room}
 use Rattle.plans.proofs.EndingRead.{last-in, ending-group}
@@ -35,7 +35,7 @@ shared-slice-read-result c =
     let first = c .before .before .before .first in
     omega (
       arith,
-      group-room e (lastOf (getD e 0 0)) refl (pre .0) (sym (last-in e (pre .0)) ∙ pre .1) (w .result)
+      group-room e (endingKindOf (getD e 0 0)) refl (pre .0) (sym (last-in e (pre .0)) ∙ pre .1) (w .result)
           (w .ensures ∙ the-low .ensures ∙ ap low (first .ensures)),
     )
 
@@ -46,7 +46,7 @@ returns c =
     let pre = c .before .before .before .before .before .pre in
     let the-low = c .before .before .low in
     let first = c .before .before .before .first in
-    sym (ap measuredIn (ending-group e (lastOf (getD e 0 0)) refl (sym (last-in e (pre .0)) ∙ pre .1) (w .result)
+    sym (ap measuredIn (ending-group e (endingKindOf (getD e 0 0)) refl (sym (last-in e (pre .0)) ∙ pre .1) (w .result)
     (w .ensures ∙ the-low .ensures ∙ ap low (first .ensures))))
 
 pub measured-spec : {M : Type 1} → statement M

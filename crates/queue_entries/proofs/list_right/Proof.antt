@@ -97,7 +97,7 @@ behind (exit n) = skip
 behind return = skip
 behind (call n xs p) = skip
 
--- what follows the two statements of a loop's test, and what follows so many
+-- what follows the first `n` statements, as the two of a loop's test
 abbrev after : ℕ → Body → Body
 after zero b = b
 after (suc n) b = after n (behind b)

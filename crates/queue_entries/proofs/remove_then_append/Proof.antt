@@ -110,7 +110,7 @@ module _ {M : Type 1} (𝓤 : URA M) (H : Heap 𝓤) (A : Atoms 𝓤) (W : Given
   others = fsep (usize .own gap (vint w64 gap ∷ []))
       (fsep (usize .own last (vint w64 last ∷ [])) (fsep (bool .own adds (vbool adds ∷ [])) (fsep (T.the-row .own e (vals e)) ftrue)))
 
-  -- the list after so many moves
+  -- the list after `k` moves
   abbrev zs : ℕ → List Entry
   zs k = movedUp ys gap k
 

@@ -58,7 +58,7 @@ use Rattle.queue_entries.specs.Seeing.{SeenOf}
 use Rattle.queue_entries.proofs.Seen as S
 use Rattle.queue_entries.proofs.Seen.Laws as S′
 use Rattle.queue_outcomes.specs.declared.ServeChanges.{ServeChanges}
-use Rattle.queue_outcomes.specs.Services.{Settles}
+use Rattle.queue_outcomes.specs.Services.{DecidesServing}
 use Rattle.queue_outcomes.proofs.ServeChanges as D
 use Rattle.queue_outcomes.proofs.ServeChanges.Laws as D′
 use Rattle.queue_joins.proofs.Shared.{LentShared, lends-shared, back-shared}
@@ -166,7 +166,7 @@ module _ {M : Type 1} (𝓤 : URA M) (H : Heap 𝓤) (A : Atoms 𝓤) (mem : Mem
       (threshold output : RefT (List ℕ)) → ServeChanges → List ℕ → Type 0
   Told rows pos osp survey seen given kept e quantum threshold output d written =
       (line aside : List Entry) → SeenOf (lentAs line given aside kept) 0 seen → e ≡ getD line 0 nobody
-      → Settles (lentAs line given aside kept) d written
+      → DecidesServing (lentAs line given aside kept) d written
       (serveOf (lent-survey (rows .now) (pos .now) (osp .now) survey) (lentAs line given aside kept)
       (record { quantum = quantum; threshold = threshold .now; output = output .now }))
 

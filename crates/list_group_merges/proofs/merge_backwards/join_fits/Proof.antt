@@ -1,7 +1,7 @@
 -- `join_fits` meets its contract.
 use borrow.Author.Needs.{needs}
 use mathlib.Core.Path.{_∙_}
-use Rattle.list_group_merges.proofs.Laying.{fits-lent}
+use Rattle.list_group_merges.proofs.PuttingRecords.{fits-lent}
 use Rattle.list_group_merges.proofs.merge_backwards.join_fits.Statement.{statement}
 use Rattle.list_group_merges.proofs.merge_backwards.join_fits.Tie as tie
 

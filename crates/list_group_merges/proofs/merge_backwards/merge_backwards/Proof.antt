@@ -6,16 +6,16 @@ use mathlib.Core.Path.{_≡_, refl, sym, _∙_, ap}
 use mathlib.Core.List.{_++_}
 use lib.ListN.{length, take, drop}
 use Rattle.lists.specs.declared.Comes.the-variants.{Before, Same, After}
-use Rattle.list_group_merges.specs.Weaving.{woven}
+use Rattle.list_group_merges.specs.MergingBackwards.{mergedRecords}
 use Rattle.list_group_merges.specs.MergingGroups.{lastRecord}
-use Rattle.list_group_merges.proofs.Weaves.{HalfWoven, half-start, half-below, half-first, half-room, half-new, half-old, half-lays}
-use Rattle.list_group_merges.proofs.Weaves.{half-next, half-end}
+use Rattle.list_group_merges.proofs.HalfMerges.{HalfMerged, half-start, half-below, half-first, half-room, half-new, half-old, half-puts}
+use Rattle.list_group_merges.proofs.HalfMerges.{half-next, half-end}
 use Rattle.list_group_merges.proofs.merge_backwards.merge_backwards.Statement.{statement}
 use Rattle.list_group_merges.proofs.merge_backwards.merge_backwards.Tie as tie
 
 abbrev Inv-loop : tie.InvT-loop
 Inv-loop g kept₀ used list words w x₀ y₀ to₀ kept x y to =
-    HalfWoven g kept₀ list (woven g kept₀ list (used / (g + 8)) (length list / (g + 8)) ++ drop words kept₀) kept x y to
+    HalfMerged g kept₀ list (mergedRecords g kept₀ list (used / (g + 8)) (length list / (g + 8)) ++ drop words kept₀) kept x y to
 
 abbrev μ-loop : tie.MeasureT-loop
 μ-loop g kept₀ used list words w x₀ y₀ to₀ kept x y to = x + y
@@ -43,7 +43,7 @@ pick-requires c κs =
 put-record-requires : tie.Need-put-record-requires Inv-loop μ-loop
 put-record-requires c κs =
     let i = c .before .before .before .before .loop .inv in
-    (c .before .before .before .before .before .before .before .pre .0, half-lays i (omega arith) (c .before .pick .result) (sym (c .before .pick .ensures)))
+    (c .before .before .before .before .before .before .before .pre .0, half-puts i (omega arith) (c .before .pick .result) (sym (c .before .pick .ensures)))
 
 enum-told : tie.Need-enum-told Inv-loop μ-loop
 enum-told c = search needs

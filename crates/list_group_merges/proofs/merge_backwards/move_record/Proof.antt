@@ -1,7 +1,7 @@
 -- `move_record` meets its contract.
 use borrow.Author.Needs.{needs}
 use mathlib.Core.Path.{_∙_}
-use Rattle.list_group_merges.proofs.Laying.{moved-up}
+use Rattle.list_group_merges.proofs.PuttingRecords.{moved-up}
 use Rattle.list_group_merges.proofs.merge_backwards.move_record.Statement.{statement}
 use Rattle.list_group_merges.proofs.merge_backwards.move_record.Tie as tie
 

@@ -5,7 +5,7 @@ use native.Mathlib.Omega.{arith}
 use mathlib.Core.Path.{sym, _∙_}
 use Rattle.list_groups.proofs.KeySides.{not-first}
 use Rattle.list_group_merges.proofs.WalkSteps.{pick-none}
-use Rattle.list_group_merges.proofs.Laying.{pick-lent}
+use Rattle.list_group_merges.proofs.PuttingRecords.{pick-lent}
 use Rattle.list_group_merges.proofs.merge_backwards.pick.Statement.{statement}
 use Rattle.list_group_merges.proofs.merge_backwards.pick.Tie as tie
 

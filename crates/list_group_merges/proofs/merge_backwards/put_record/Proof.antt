@@ -1,7 +1,7 @@
 -- `put_record` meets its contract: one record is put, whichever list it comes from.
 use borrow.Author.Needs.{needs}
 use native.Mathlib.Omega.{arith}
-use Rattle.list_group_merges.proofs.Laying.{new-size, new-laid, old-laid, joined-laid, joined-fits, same-old, after-old}
+use Rattle.list_group_merges.proofs.PuttingRecords.{new-size, new-put, old-put, joined-put, joined-fits, same-old, after-old}
 use Rattle.list_group_merges.proofs.merge_backwards.put_record.Statement.{statement}
 use Rattle.list_group_merges.proofs.merge_backwards.put_record.Tie as tie
 
@@ -36,26 +36,26 @@ copy-in-requires c κs =
 enum-told-2 : tie.Need-enum-told-2
 enum-told-2 c = search needs
 
-sub-lay-both : tie.Need-sub-lay-both
-sub-lay-both c =
+sub-merge-record : tie.Need-sub-merge-record
+sub-merge-record c =
     let s = c .before .before .before .before .before in
     same-old (s .args .g) (s .args .kept .now) (s .args .x) (s .args .list .now) (s .args .y) (s .args .to) (s .args .side) (s .pre .1)
     (c .before .enum-told2 .given .1) .0
 
-mul-lay-both : tie.Need-mul-lay-both
-mul-lay-both c = search needs
+mul-merge-record : tie.Need-mul-merge-record
+mul-merge-record c = search needs
 
-sub-lay-both-2 : tie.Need-sub-lay-both-2
-sub-lay-both-2 c = search needs
+sub-merge-record-2 : tie.Need-sub-merge-record-2
+sub-merge-record-2 c = search needs
 
-part-lay-both-start : tie.Need-part-lay-both-start
-part-lay-both-start c = search needs
+part-merge-record-start : tie.Need-part-merge-record-start
+part-merge-record-start c = search needs
 
-part-lay-both-end : tie.Need-part-lay-both-end
-part-lay-both-end c = search needs
+part-merge-record-end : tie.Need-part-merge-record-end
+part-merge-record-end c = search needs
 
-lay-both-requires : tie.Need-lay-both-requires
-lay-both-requires c κs =
+merge-record-requires : tie.Need-merge-record-requires
+merge-record-requires c κs =
     let s = c .before .before .before .before .before .before in
     let e = c .before .before .enum-told2 .given .1 in (
       s .pre .0,
@@ -91,7 +91,7 @@ same-length c = search needs
 returns : tie.Need-returns
 returns c =
     let s = c .before .before .before .before .before .before .before .before .before in
-    new-laid (s .args .g) (s .args .kept .now) (s .args .x) (s .args .list .now) (s .args .y) (s .args .to) (s .args .side) (s .pre .1)
+    new-put (s .args .g) (s .args .kept .now) (s .args .x) (s .args .list .now) (s .args .y) (s .args .to) (s .args .side) (s .pre .1)
     (c .before .before .before .before .before .enum-told .given .1) (c .before .before .copy-in .last .0) (c .before .before .copy-in .ensures)
 
 same-length-2 : tie.Need-same-length-2
@@ -100,8 +100,8 @@ same-length-2 c = search needs
 returns-2 : tie.Need-returns-2
 returns-2 c =
     let s = c .before .before .before .before .before .before .before .before .before in
-    joined-laid (s .args .g) (s .args .kept .now) (s .args .x) (s .args .list .now) (s .args .y) (s .args .to) (s .args .side) (s .pre .1)
-    (c .before .before .before .before .before .enum-told2 .given .1) (c .before .before .lay-both .last .1 .0) (c .before .before .lay-both .ensures)
+    joined-put (s .args .g) (s .args .kept .now) (s .args .x) (s .args .list .now) (s .args .y) (s .args .to) (s .args .side) (s .pre .1)
+    (c .before .before .before .before .before .enum-told2 .given .1) (c .before .before .merge-record .last .1 .0) (c .before .before .merge-record .ensures)
 
 same-length-3 : tie.Need-same-length-3
 same-length-3 c = search needs
@@ -109,7 +109,7 @@ same-length-3 c = search needs
 returns-3 : tie.Need-returns-3
 returns-3 c =
     let s = c .before .before .before .before .before .before .before .before in
-    old-laid (s .args .g) (s .args .kept .now) (s .args .x) (s .args .list .now) (s .args .y) (s .args .to) (s .args .side) (s .pre .1)
+    old-put (s .args .g) (s .args .kept .now) (s .args .x) (s .args .list .now) (s .args .y) (s .args .to) (s .args .side) (s .pre .1)
     (c .before .before .before .before .enum-told3 .given .1) (c .before .before .move-record .last .0) (c .before .before .move-record .ensures)
 
 pub put-record-spec : {M : Type 1} → statement M
@@ -125,12 +125,12 @@ put-record-spec =
     part-copy-in-end
     copy-in-requires
     enum-told-2
-    sub-lay-both
-    mul-lay-both
-    sub-lay-both-2
-    part-lay-both-start
-    part-lay-both-end
-    lay-both-requires
+    sub-merge-record
+    mul-merge-record
+    sub-merge-record-2
+    part-merge-record-start
+    part-merge-record-end
+    merge-record-requires
     enum-told-3
     sub-move-record
     move-record-requires

@@ -7,7 +7,7 @@ use mathlib.Core.Path.{_≡_, refl, sym, _∙_}
 use lib.ListN.{length}
 use borrow.Author.Tests.{not-true, not-false}
 use Rattle.lists.specs.declared.Comes.the-variants.{Before, Same, After}
-use Rattle.list_group_merges.specs.Weaving.{unionOf}
+use Rattle.list_group_merges.specs.MergingBackwards.{unionOf}
 use Rattle.list_group_merges.proofs.Unions.{UnionCounted, counted-start, counted-first, counted-new, counted-old}
 use Rattle.list_group_merges.proofs.Unions.{counted-next, counted-over, counted-end}
 use Rattle.list_group_merges.proofs.merge_backwards.union_of.Statement.{statement}

@@ -4,7 +4,7 @@ use native.Mathlib.Omega.{arith}
 use mathlib.Core.Path.{_∙_, ap, ap₂}
 use lib.ListN.{length}
 use Rattle.plans.specs.Plans.{planOf}
-use Rattle.plans.specs.Reading.{lastIn, variablesIn}
+use Rattle.plans.specs.Reading.{endingKindIn, variablesIn}
 use Rattle.print_writing.specs.Listings.{widthOf}
 use Rattle.print_writing.proofs.Widths.{ending-form, few-variables, width-of}
 use Rattle.print_writing.proofs.plan_lists.lists_of.Statement.{statement}
@@ -30,7 +30,7 @@ returns : tie.Need-returns
 returns c =
     let s = c .before .before .before .before .before in
     let e = c .before .before .before .ending-part .ensures .1 in
-    let k = c .before .before .ending-kind .ensures ∙ ap lastIn e in
+    let k = c .before .before .ending-kind .ensures ∙ ap endingKindIn e in
     let n = ap length (c .before .variables .ensures ∙ ap variablesIn e) in
     let w = c .record-width .ensures ∙ ap₂ widthOf k n ∙ width-of (planOf (s .args .plan .now) .ending) in
     rw (k, w)

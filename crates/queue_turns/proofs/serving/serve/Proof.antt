@@ -11,7 +11,7 @@ use Rattle.queues.specs.Serving.{Serving, queueTestsBy, serveOf}
 use Rattle.queue_changes.specs.Changes.{roomBy}
 use Rattle.queue_changes.proofs.Seeing.{roomy}
 use Rattle.queue_outcomes.specs.declared.ServeChanges.{ServeChanges}
-use Rattle.queue_outcomes.specs.Services.{Settles}
+use Rattle.queue_outcomes.specs.Services.{DecidesServing}
 use Rattle.queue_turns.proofs.Serves.{serve-number, not-served, passed, serve-refuses, serve-accepts}
 use Rattle.queue_turns.proofs.serving.serve.Statement.{statement}
 use Rattle.queue_turns.proofs.serving.serve.Tie as tie
@@ -60,7 +60,8 @@ returns c =
     let some = not-served v s (a .seen .waiting) (a .e) entries room (m .serve-number .result) (k .list-number .result) (q .quantum-number .result)
     is late (q .quantum-number .ensures) (λ z. w .if1 .taken (f .first-of .ensures ∙ z)) in
     λ line aside seen its.
-    subst (λ (d : ServeChanges). Settles (lentAs line (a .given) aside (a .kept)) d (a .output .now) (serveOf v (lentAs line (a .given) aside (a .kept)) s))
+    subst (λ (d : ServeChanges). DecidesServing (lentAs line (a .given) aside (a .kept)) d (a .output .now)
+    (serveOf v (lentAs line (a .given) aside (a .kept)) s))
     (sym (c .refused .ensures))
     (serve-refuses v s line (a .given) aside (a .kept) (a .seen) seen (a .e) its (m .serve-number .result) is some)
 
@@ -70,8 +71,8 @@ least-steps-requires c κs = search needs
 turn-entry-requires : tie.Need-turn-entry-requires
 turn-entry-requires c κs = search needs
 
-goes-requires : tie.Need-goes-requires
-goes-requires c κs =
+turn-outcome-requires : tie.Need-turn-outcome-requires
+turn-outcome-requires c κs =
     let w = c .before .before .before .before .before in
     let f = w .before in
     let q = f .before in
@@ -116,8 +117,8 @@ returns-2 c =
     (sym (f .first-of .ensures) ∙ w .if1 .left) in
     let o = u .turn-entry .last .1 .1 .1 .1 .1 .1 .1 .0 in
     λ line aside seen its.
-    subst (λ (d : ServeChanges). Settles (lentAs line (a .given) aside (a .kept)) d o (serveOf v (lentAs line (a .given) aside (a .kept)) s))
-    (sym (c .goes .ensures))
+    subst (λ (d : ServeChanges). DecidesServing (lentAs line (a .given) aside (a .kept)) d o (serveOf v (lentAs line (a .given) aside (a .kept)) s))
+    (sym (c .turn-outcome .ensures))
     (serve-accepts v s line (a .given) aside (a .kept) (a .seen) seen (a .e) its p (u .turn-entry .result) o (l .least-steps .result)
     (l .least-steps .ensures) (u .turn-entry .ensures))
 
@@ -126,4 +127,4 @@ serve-spec =
     tie.close
     (tie.spec
     room-right-requires lists-right-requires list-number-requires quantum-number-requires first-of-requires serve-number-requires refused-requires same-length
-    returns least-steps-requires turn-entry-requires goes-requires same-length-2 returns-2)
+    returns least-steps-requires turn-entry-requires turn-outcome-requires same-length-2 returns-2)
