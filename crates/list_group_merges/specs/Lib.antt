@@ -1,2 +1,3 @@
+pub mod GroupTests
 pub mod MergingBackwards
 pub mod MergingGroups

@@ -1,5 +1,6 @@
 // The tables that an adviser may see: the call.
 mod within;
+mod writing;
 
 use table_answers::TablesWritten;
 use table_tests::check;
