@@ -1,4 +1,4 @@
-// Conditions evaluated in code: true, false or error, and how many comparisons were read.
+// Conditions evaluated in code, the short side of an "and" first: true, false or error, and how many comparisons were read.
 use condition_comparisons::compared;
 use condition_joins::is_short;
 use condition_joins::joined;

@@ -1,4 +1,4 @@
-// Two lists of groups merged over the kept list.
+// Two lists of groups merged over the kept list: tests 13 and 14, then the first write.
 mod merge_backwards;
 
 pub use merge_backwards::merge_groups;

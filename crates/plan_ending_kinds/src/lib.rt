@@ -1,4 +1,4 @@
-// Endings: the kind of one, and the numbers in its first words.
+// The kind of an ending, and how many rows it keeps or variables it names.
 use plans::EndingKind;
 use plans::count_in;
 use plans::first;

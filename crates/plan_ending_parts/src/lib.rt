@@ -1,4 +1,4 @@
-// Endings: what stands in one that has the form.
+// The variables and the keys of an ending that has the form.
 use plan_ending_kinds::last_of;
 use plan_ending_kinds::row_width;
 use plans::EndingKind;

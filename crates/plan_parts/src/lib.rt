@@ -1,4 +1,4 @@
-// Plans: where the branches and the ending of one that has the form stand.
+// Where the branches and the ending of a plan that has the form stand.
 mod branches;
 
 pub use branches::branch_words;

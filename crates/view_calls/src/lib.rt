@@ -1,4 +1,4 @@
-// The tables that an adviser may see: the call.
+// The call `view`: the tables that an adviser may see.
 mod within;
 
 use table_answers::TablesWritten;

@@ -1,1 +1,1 @@
-// The worked cases of registers and of a report on them: tables in specs/, proved by computation.
+// The worked cases of registers and of reports on them.
