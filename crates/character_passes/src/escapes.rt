@@ -1,5 +1,5 @@
 // The escapes of SPARQL 1.1, 19.2.
-use crate::sequences::left_of;
+use crate::utf8::left_of;
 use characters::Character;
 use dictionary_checks::is_in;
 ghost use mathlib.Core.Path.{_≡_};

@@ -1,10 +1,10 @@
 // A text's bytes read to code points and places, in one pass over two lent buffers.
 mod escapes;
-mod sequences;
+mod utf8;
 
 use characters::Character;
 use escapes::escape;
-use sequences::sequence;
+use utf8::sequence;
 ghost use mathlib.Core.Path.{_≡_};
 ghost use Prim.Native.Nat.{_+_, _<_, _≤_};
 ghost use lib.ListN.{length, getD, drop};

@@ -3,8 +3,8 @@ use Rattle.dictionaries.specs.Utf8.{firstBits}
 use Rattle.dictionary_checks.specs.Steps.{spansIn}
 use borrow.Author.Needs.{needs}
 use mathlib.Core.Path.{sym, ap, _∙_}
-use Rattle.character_passes.proofs.sequences.first_bits.Statement.{statement}
-use Rattle.character_passes.proofs.sequences.first_bits.Tie as tie
+use Rattle.character_passes.proofs.utf8.first_bits.Statement.{statement}
+use Rattle.character_passes.proofs.utf8.first_bits.Tie as tie
 
 enum-told : tie.Need-enum-told
 enum-told c = search needs

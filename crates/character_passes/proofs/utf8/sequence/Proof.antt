@@ -7,8 +7,8 @@ use Prim.Native.Nat.{_+_}
 use mathlib.Core.Path.{sym, ap, _∙_}
 use native.Mathlib.Omega.{arith}
 use lib.ListN.{getD, drop}
-use Rattle.character_passes.proofs.sequences.sequence.Statement.{statement}
-use Rattle.character_passes.proofs.sequences.sequence.Tie as tie
+use Rattle.character_passes.proofs.utf8.sequence.Statement.{statement}
+use Rattle.character_passes.proofs.utf8.sequence.Tie as tie
 
 shared-slice-read-a : tie.Need-shared-slice-read-a
 shared-slice-read-a c = search needs

@@ -8,8 +8,8 @@ use Prim.Native.Nat.{_+_, _-_, _≤_, _<_}
 use mathlib.Core.Path.{_≡_, refl, sym, _∙_}
 use native.Mathlib.Omega.{arith}
 use lib.ListN.{length, drop}
-use Rattle.character_passes.proofs.sequences.sequence_rest.Statement.{statement}
-use Rattle.character_passes.proofs.sequences.sequence_rest.Tie as tie
+use Rattle.character_passes.proofs.utf8.sequence_rest.Statement.{statement}
+use Rattle.character_passes.proofs.utf8.sequence_rest.Tie as tie
 
 abbrev Inv-loop : tie.InvT-loop
 Inv-loop text from bits rest₀ point₀ at₀ rest point at =
