@@ -1,7 +1,10 @@
-// Plans: where the branches and the ending of one that has the form stand.
+// Plans in code: where the branches and the ending of one that has the form stand; a condition read, and whether its variables are bound.
 mod branches;
+mod nodes;
 
 pub use branches::branch_words;
+pub use nodes::both;
+pub use nodes::condition;
 use plans::branch_count;
 use plans::condition_part;
 use plans::from_head;

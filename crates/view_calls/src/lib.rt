@@ -1,5 +1,6 @@
-// The tables that an adviser may see: the call.
+// `view`, the call that writes the tables an adviser may see: the rows that are not hidden, and both lists with their new numbers.
 mod within;
+mod writing;
 
 use table_answers::TablesWritten;
 use table_tests::check;
