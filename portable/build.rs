@@ -36,7 +36,7 @@ const PUT_IN: [&str; 20] = [
     "list_longs",
     "list_row_orders",
     "list_rows",
-    "plan_ending_parts",
+    "plan_endings",
     "state_saving",
     "step_cursor_moves",
     "step_fields",
@@ -47,17 +47,16 @@ const PUT_IN: [&str; 20] = [
     "turn_attempts",
     "turn_runs",
     "turn_savings",
+    "view_calls",
     "view_grants",
     "view_marks",
     "view_members",
-    "view_writes",
 ];
 /// Those whose functions may be, also in a program that compiles the library in several units and does not optimise it as a whole. The
-/// searches of table_starts and table_ends stay calls: put where they are called before those are optimised, they are slower. The
+/// searches of table_ranges and table_ends stay calls: put where they are called before those are optimised, they are slower. The
 /// walk of the check is here and not above for the same reason.
-const MAY_BE_PUT_IN: [&str; 11] = [
+const MAY_BE_PUT_IN: [&str; 10] = [
     "list_endings",
-    "list_group_tests",
     "list_groups",
     "plan_parts",
     "plans",

@@ -1,4 +1,7 @@
-// Conditions evaluated in code, the short side of an "and" first: true, false or error, and how many comparisons were read.
+// Conditions evaluated in code, the short side of an "and" first: true, false or error, and how many comparisons were read; where right operands
+// stand, found once a turn.
+mod operands;
+
 use condition_comparisons::compared;
 use condition_joins::is_short;
 use condition_joins::joined;
@@ -7,6 +10,7 @@ use condition_truths::is_false;
 use condition_truths::is_true;
 use conditions::Evaluated;
 use conditions::Truth;
+pub use operands::index_operands;
 use plans::Node;
 ghost use mathlib.Core.Path.{_≡_};
 ghost use mathlib.Core.Bool.{true};

@@ -50,8 +50,8 @@ pub fn close(ending: &[u32], out: &mut [u32], used: usize) -> usize
     requires { ⌜ (leastOutput (endingAt (now ending)) ≤ length (now out)) × (used ≤ length (now out)) ⌝ }
     ensures { λ r. ⌜ Listed (closed (endingAt (now (ending .entry))) (take used (now (out .entry)))) (now (out .entry)) (now (out .exit)) r ⌝ }
 {
-    let vars = plan_ending_parts::variables(ending);
-    match plan_ending_kinds::ending_kind(ending) {
+    let vars = plan_endings::variables(ending);
+    match plan_endings::ending_kind(ending) {
         EndingKind::Rows => used,
         EndingKind::Top => used,
         EndingKind::Group => close_groups(vars, out, used),

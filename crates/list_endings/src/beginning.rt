@@ -16,7 +16,7 @@ pub fn begin(ending: &[u32], out: &mut [u32]) -> usize
     ensures { λ r. ⌜ ((threshold : List ℕ)
         → Listed (gathered (endingAt (now (ending .entry))) threshold []) (now (out .entry)) (now (out .exit)) r) ⌝ }
 {
-    match plan_ending_kinds::ending_kind(ending) {
+    match plan_endings::ending_kind(ending) {
         EndingKind::Rows => 0,
         EndingKind::Top => 0,
         EndingKind::Group => 0,

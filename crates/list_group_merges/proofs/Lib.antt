@@ -1,3 +1,5 @@
+pub mod RecordSteps
+pub mod GroupTesting
 pub mod AddingLast
 pub mod BackWalks
 pub mod WalkSteps

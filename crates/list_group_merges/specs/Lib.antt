@@ -1,2 +1,3 @@
+pub mod GroupTests
 pub mod Weaving
 pub mod MergingGroups

@@ -15,10 +15,10 @@ pub fn least_output(ending: &[u32]) -> usize
     requires { ⌜ endingForm (now ending) ≡ true ⌝ }
     ensures { λ r. ⌜ r ≡ leastOutput (endingAt (now (ending .entry))) ⌝ }
 {
-    let width = plan_ending_parts::variables(ending).len();
-    match plan_ending_kinds::ending_kind(ending) {
+    let width = plan_endings::variables(ending).len();
+    match plan_endings::ending_kind(ending) {
         EndingKind::Rows => width,
-        EndingKind::Top => plan_ending_kinds::best_count(ending) * width,
+        EndingKind::Top => plan_endings::best_count(ending) * width,
         EndingKind::Group => width + list_group_totals::TOTALS,
         EndingKind::Registers => list_registers::REGISTERS,
         EndingKind::Invalid => 0,

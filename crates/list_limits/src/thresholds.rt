@@ -10,9 +10,9 @@ pub fn threshold_right(ending: &[u32], threshold: &[u32]) -> bool
     requires { ⌜ endingForm (now ending) ≡ true ⌝ }
     ensures { λ r. ⌜ r ≡ thresholdRight (endingAt (now (ending .entry))) (now (threshold .entry)) ⌝ }
 {
-    match plan_ending_kinds::ending_kind(ending) {
+    match plan_endings::ending_kind(ending) {
         EndingKind::Top => list_best_tests::best_threshold(
-            plan_ending_parts::variables(ending),
+            plan_endings::variables(ending),
             threshold,
         ),
         EndingKind::Rows => list_rows::no_threshold(threshold),

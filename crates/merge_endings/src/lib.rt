@@ -71,21 +71,14 @@ pub fn merge_ending(e: &[u32], kept: &mut [u32], given: usize, list: &[u32]) -> 
     ensures { λ r. ⌜ MergedFor (endingAt (now (e .entry))) (now (kept .entry)) given (now (list .entry))
         (record { answer = r; kept = now (kept .exit) }) ⌝ }
 {
-    match plan_ending_kinds::ending_kind(e) {
+    match plan_endings::ending_kind(e) {
         EndingKind::Rows => Written::Refused(LISTS),
         EndingKind::Top => {
-            let vars = plan_ending_parts::variables(e);
-            let keys = plan_ending_parts::keys(e);
-            merge_top(
-                vars,
-                keys,
-                plan_ending_kinds::best_count(e),
-                kept,
-                given,
-                list,
-            )
+            let vars = plan_endings::variables(e);
+            let keys = plan_endings::keys(e);
+            merge_top(vars, keys, plan_endings::best_count(e), kept, given, list)
         }
-        EndingKind::Group => merge_groups(plan_ending_parts::variables(e).len(), kept, given, list),
+        EndingKind::Group => merge_groups(plan_endings::variables(e).len(), kept, given, list),
         EndingKind::Registers => merge_registers(kept, given, list),
         EndingKind::Invalid => Written::Refused(LISTS),
     }

@@ -27,8 +27,8 @@ pub fn are_groups(g: usize, kept: &[u32], list: &[u32]) -> bool
     requires { ⌜ g ≤ mostGroupVariables ⌝ }
     ensures { λ r. ⌜ ((vs : List ℕ) (m : ℕ) → length vs ≡ g → r ≡ bothRight (group vs m) (now (kept .entry)) (now (list .entry))) ⌝ }
 {
-    if list_group_tests::is_groups(g, kept) {
-        return list_group_tests::is_groups(g, list);
+    if list_group_merges::is_groups(g, kept) {
+        return list_group_merges::is_groups(g, list);
     }
     false
 }

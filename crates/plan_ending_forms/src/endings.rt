@@ -1,8 +1,8 @@
 // The form of an ending, in test 5.
 use crate::Wanted;
 use crate::searches::all_wanted;
-use plan_ending_kinds::last_of;
-use plan_ending_kinds::row_width;
+use plan_endings::last_of;
+use plan_endings::row_width;
 use plans::EndingKind;
 use plans::first;
 use words::PlanWord;

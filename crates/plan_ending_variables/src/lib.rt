@@ -1,10 +1,10 @@
 // The variables of an ending, in test 6: bound by some branch, none repeated, a key's among the rows'.
 use plan_ending_forms::all_differ;
 use plan_ending_forms::ending_form;
-use plan_ending_kinds::ending_kind;
-use plan_ending_parts::keys;
-use plan_ending_parts::measured;
-use plan_ending_parts::variables;
+use plan_endings::ending_kind;
+use plan_endings::keys;
+use plan_endings::measured;
+use plan_endings::variables;
 use plan_parts::branch_words;
 use plans::EndingKind;
 use plans::among;

@@ -1,5 +1,5 @@
 // Branches: the words of those that were read.
-use plan_nodes::condition;
+use crate::nodes::condition;
 use plans::MOST_DEPTH;
 use plans::PATTERN_WIDTH;
 use plans::Tree;

@@ -1,7 +1,10 @@
-// Where the branches and the ending of a plan that has the form stand.
+// Where the branches and the ending of a plan that has the form stand; a condition read, and whether its variables are bound.
 mod branches;
+mod nodes;
 
 pub use branches::branch_words;
+pub use nodes::both;
+pub use nodes::condition;
 use plans::branch_count;
 use plans::condition_part;
 use plans::from_head;

@@ -2,8 +2,8 @@
 use crate::Part;
 use plan_ending_forms::Wanted;
 use plan_ending_forms::all_wanted;
-use plan_nodes::both;
-use plan_nodes::condition;
+use plan_parts::both;
+use plan_parts::condition;
 use plans::MOST_DEPTH;
 use plans::PATTERN_WIDTH;
 use plans::Tree;

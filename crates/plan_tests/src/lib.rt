@@ -3,9 +3,9 @@ mod branches;
 
 use plan_ending_forms::ending_form;
 use plan_ending_variables::ending_right;
-use plan_nodes::both;
 use plan_numbers::FORM;
 use plan_numbers::number_of;
+use plan_parts::both;
 use plans::Years;
 use plans::year_allowed;
 ghost use mathlib.Core.Path.{_≡_};

@@ -54,7 +54,7 @@ fn print_group(group: &[u32])
 {
     let keys = group.len() - TOTALS_WIDTH;
     let mut line = [0u8; 256];
-    let n = print_groups::group_line(&mut line, keys, group);
+    let n = print_lines::group_line(&mut line, keys, group);
     write_group(keys, group, &line, n);
 }
 

@@ -30,8 +30,8 @@ pub fn lists_of(plan: &[u32]) -> Listing
     ensures { λ r. ⌜ r ≡ listingOf (planOf (now (plan .entry)) .ending) ⌝ }
 {
     let ending = plan_parts::ending_part(plan);
-    let kind = plan_ending_kinds::ending_kind(ending);
-    let variables = plan_ending_parts::variables(ending).len();
+    let kind = plan_endings::ending_kind(ending);
+    let variables = plan_endings::variables(ending).len();
     Listing {
         kind: kind,
         width: record_width(kind, variables),

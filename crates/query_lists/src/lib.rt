@@ -16,7 +16,7 @@ fn is_rows(plan: &[u32]) -> bool
     requires { ⌜ hasForm (readPlan (now plan)) ≡ true ⌝ }
     ensures { λ r. ⌜ r ≡ isRows (planOf (now (plan .entry)) .ending) ⌝ }
 {
-    match plan_ending_kinds::ending_kind(plan_parts::ending_part(plan)) {
+    match plan_endings::ending_kind(plan_parts::ending_part(plan)) {
         EndingKind::Rows => true,
         EndingKind::Top => false,
         EndingKind::Group => false,

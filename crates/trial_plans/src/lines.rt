@@ -63,7 +63,7 @@ fn print_group(group: &[u32]) {
     if group.len() <= MOST_GROUP_WIDTH {
         let keys = group.len() - TOTALS_WIDTH;
         let mut line = [0u8; 256];
-        let n = print_groups::group_line(&mut line, keys, group);
+        let n = print_lines::group_line(&mut line, keys, group);
         write_first(&line, n);
     }
 }

@@ -1,5 +1,5 @@
 // The tables of an upload's kept rows.
-use table_lists::write_list;
+use table_sorts::write_list;
 use tables::Order;
 use upload_writes::write_rows;
 ghost use mathlib.Core.Path.{_≡_};

@@ -18,8 +18,8 @@ use Rattle.views.specs.Renumbered.{passedBefore}
 use Rattle.views.proofs.Lists.{pos-anew, osp-anew}
 use Rattle.view_members.specs.Flags.{Unflagged}
 use Rattle.view_marks.specs.Marks.{marksOf}
-use Rattle.view_writes.specs.Writing.{shownBy, shownWords, shownNumbers}
-use Rattle.view_writes.proofs.Marked.{count-shown, rows-shown, numbers-shown}
+use Rattle.view_calls.specs.Writing.{shownBy, shownWords, shownNumbers}
+use Rattle.view_calls.proofs.Marked.{count-shown, rows-shown, numbers-shown}
 
 module _ (t : Tables) (w : Right t) where
   pub rows-right : RowsRight (t .rows)

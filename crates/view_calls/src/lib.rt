@@ -1,5 +1,6 @@
-// The call `view`: the tables that an adviser may see.
+// The call `view`: the tables that an adviser may see, the rows that are not hidden and both lists with their new numbers.
 mod within;
+mod writing;
 
 use table_answers::TablesWritten;
 use table_tests::check;

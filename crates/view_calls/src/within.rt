@@ -1,12 +1,12 @@
 // Writing the view with lent places for marks and flags: the room is tested before the first word is written.
 use crate::ROOM;
+use crate::writing::write_numbers;
+use crate::writing::write_rows;
 use table_answers::TablesWritten;
 use table_answers::has_room;
 use tables::COLUMNS;
 use view_marks::mark;
 use view_members::flag_members;
-use view_writes::write_numbers;
-use view_writes::write_rows;
 ghost use mathlib.Core.Path.{_≡_};
 ghost use mathlib.Core.Bool.{true};
 ghost use lib.ListN.{length};

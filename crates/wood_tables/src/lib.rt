@@ -1,5 +1,5 @@
 // The tables of a wood.
-use table_lists::write_list;
+use table_sorts::write_list;
 use tables::Order;
 use wood_rows::write_rows;
 ghost use mathlib.Core.Path.{_≡_};

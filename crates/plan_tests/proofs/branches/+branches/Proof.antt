@@ -11,7 +11,7 @@ use Rattle.plan_tests.proofs.branches.branches.Reads as branches
 use Rattle.plan_tests.proofs.branches.branches.Kinds as branches-kinds
 use Rattle.plan_tests.proofs.branches.+branches.Lts-branches as branches-lts
 use Rattle.plan_tests.proofs.branches.branch.Reads as branch-reads
-use Rattle.plan_nodes.proofs.both.Reads as both-reads
+use Rattle.plan_parts.proofs.both.Reads as both-reads
 use Rattle.plan_tests.proofs.branches.+branches.{statement}
 use Rattle.plan_tests.proofs.branches.+branches.Tie.{close}
 

@@ -22,7 +22,7 @@ use Rattle.view_marks.specs.Marks.{marksOf}
 use Rattle.view_marks.proofs.Visible.{number-visible, marks-visible}
 use Rattle.view_grants.proofs.Grants.{right-ascends}
 use Rattle.views.specs.Renumbered.{passedBefore}
-use Rattle.view_writes.specs.Writing.{shownBy, shownWords, shownNumbers}
+use Rattle.view_calls.specs.Writing.{shownBy, shownWords, shownNumbers}
 use Rattle.view_calls.proofs.Outcome.{no-room, served}
 use Rattle.view_calls.proofs.Shown.{rows-right, pos-named, osp-named, shown-count, shown-rows, shown-pos, shown-osp}
 use Rattle.view_calls.proofs.within.view_within.Statement.{statement}

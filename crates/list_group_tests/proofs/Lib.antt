@@ -1,2 +1,0 @@
-pub mod RecordSteps
-pub mod GroupTesting

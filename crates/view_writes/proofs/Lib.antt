@@ -1,3 +1,0 @@
-pub mod Putting
-pub mod Rows
-pub mod Marked

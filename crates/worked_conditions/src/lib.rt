@@ -1,1 +1,0 @@
-// The worked cases of conditions, and of what evaluating one reads.

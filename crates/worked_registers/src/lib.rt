@@ -1,1 +1,0 @@
-// The worked cases of registers and of reports on them.

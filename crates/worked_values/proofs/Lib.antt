@@ -1,0 +1,2 @@
+pub mod RegistersHold
+pub mod ConditionsHold

@@ -1,0 +1,4 @@
+pub mod Registers
+pub mod Reports
+pub mod Comparing
+pub mod ShortSides
