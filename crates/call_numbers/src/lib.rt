@@ -1,4 +1,4 @@
-// The answers of the calls as numbers, for programs in other languages: what a call answers is a struct of numbers.
+// The answers of the calls as numbers, for programs in other languages: structs of numbers, defined, and tabled in literal numbers.
 use queues::Queued;
 use queues::Service;
 use table_answers::TablesWritten;

@@ -1,4 +1,4 @@
-// A text's bytes read to code points and places, in one pass.
+// A text's bytes read to code points and places, in one pass over two lent buffers.
 mod escapes;
 mod utf8;
 

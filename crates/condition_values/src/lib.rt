@@ -1,4 +1,5 @@
-// Conditions evaluated in code: true, false or error, and how many comparisons were read.
+// Conditions evaluated in code, the short side of an "and" first: true, false or error, and how many comparisons were read; where right operands
+// stand, found once a turn.
 mod operands;
 
 use condition_comparisons::compared;

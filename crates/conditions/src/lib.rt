@@ -1,4 +1,4 @@
-// Truths: the three values of a condition.
+// Conditions: true, false, error; comparisons; the value of a condition, what evaluating it reads and skips, and where operands stand.
 
 // SPARQL's three values of a condition.
 pub enum Truth {

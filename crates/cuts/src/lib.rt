@@ -1,1 +1,1 @@
-// Any list of turns and merges adds up to the uncut run: definitions and theorem, no code.
+// Any list of turns, merges and joins adds up to the uncut run, demand 3: the positions of its turns on that run. Definitions and theorem, no code.

@@ -1,4 +1,4 @@
-// Whether bytes are well-formed UTF-8, in one pass.
+// Whether bytes are well-formed UTF-8, in one pass; one byte's step of it, which character_passes takes too.
 ghost use mathlib.Core.Path.{_≡_};
 ghost use Rattle.dictionaries.specs.Utf8.{span, isIn, wellFormed};
 ghost use Rattle.dictionary_checks.specs.Steps.{firstStep, laterStep, nextStep, nothingLeft};

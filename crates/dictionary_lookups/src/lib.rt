@@ -1,4 +1,4 @@
-// The calls over a dictionary that is lent: the number of a string or its rank, and the string of a number.
+// The calls `find` and `string` over a lent dictionary: the number of a string or its rank, and the string of a number.
 use dictionaries::Lookup;
 use dictionaries::StringKind;
 use dictionary_searches::start_of;

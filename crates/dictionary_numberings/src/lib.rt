@@ -1,1 +1,1 @@
-// Strings numbered: the definitions and laws. A dictionary of exactly these strings, and the number of each.
+// Strings in any order and as often as they come: the dictionary of exactly these, and the number of each. Definitions and laws.

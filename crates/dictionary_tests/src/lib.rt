@@ -1,4 +1,4 @@
-// The test of a whole dictionary of names or of texts.
+// The test of a whole dictionary of names or of texts: ends, number of strings, UTF-8, characters of names, order.
 mod names;
 
 use dictionaries::StringKind;

@@ -1,1 +1,2 @@
-// Definitions and laws only: terms of strings and whole numbers as words by dictionaries, and the dictionaries of just their strings.
+// Terms and rows of strings and whole numbers as words by dictionaries, and the dictionaries of just their strings; decoded again they are those rows.
+// Definitions and laws only.

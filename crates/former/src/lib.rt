@@ -1,1 +1,2 @@
-// A finished query's list is the one of before, where nothing is asked that was not there: definitions and theorems, no code.
+// Truth, order and gathering of before numbers had a sign, and plans of when a k of 0 meant 64: finished queries have the lists of before. Definitions and
+// theorems, no code.

@@ -1,4 +1,4 @@
-// Two lists of groups merged over the kept list.
+// Two lists of groups merged over the kept list: tests 13 and 14, then the first write; test 12 of a list of groups.
 mod merge_backwards;
 mod validity;
 

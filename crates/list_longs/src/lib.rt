@@ -1,4 +1,4 @@
-// Numbers and sums of 64 bits, as groups have them.
+// Numbers of 64 bits in two words and signed sums, as groups have them.
 mod longs;
 mod sums;
 

@@ -1,4 +1,4 @@
-// The lists that a turn writes and a merge reads, as defined.
+// The lists that a turn writes and a merge reads, as defined: delivered rows, best-of lists, group records, registers; merging; tests 7, 11, 12 and 13.
 
 // Where one thing stands against another in an order.
 pub enum Comes {

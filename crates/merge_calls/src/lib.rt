@@ -1,4 +1,5 @@
-// Merging a turn's list into a kept one, which is the first `given` words of its buffer.
+// The call `merge`: the tests of the plan and of the kept list's words, then the ending's. The kept list is the first words of its buffer, as many as the
+// call gives.
 use merge_endings::merge_ending;
 use merges::LISTS;
 use words::Written;

@@ -1,2 +1,2 @@
-// Turns' lists merged in any order and grouping: the ways of it; and that so the lists of a finished query make the uncut run's list.
-// Definitions and laws, no code.
+// Turns' lists merged in any order and grouping: that they give the same words and make the uncut run's list, and by which numbers such a merge is
+// refused. No code.

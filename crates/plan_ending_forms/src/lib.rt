@@ -1,4 +1,4 @@
-// The form of an ending, and tests of each word of a list.
+// The form of an ending (test 5), and what is wanted of each word of a list.
 mod endings;
 mod searches;
 

@@ -1,4 +1,4 @@
-// Endings: the kind of one, and the numbers in its first words.
+// An ending: its kind, how many rows it keeps or variables it names, its variables and its keys.
 mod parts;
 
 pub use parts::counted;

@@ -1,4 +1,4 @@
-// The number that a plan is refused by, of its tests in their order.
+// The number of the first of tests 5, 6 and 23 that fails.
 ghost use mathlib.Core.Path.{_≡_};
 ghost use mathlib.Core.List.{_∷_, []};
 ghost use Rattle.words.specs.Tests.{firstFailing, numberOf};

@@ -1,4 +1,4 @@
-// Plans: where the branches and the ending of one that has the form stand.
+// Where the branches and the ending of a plan that has the form stand; a condition read, and whether its variables are bound.
 mod branches;
 mod nodes;
 

@@ -1,4 +1,4 @@
-// Conditions: the reader of a whole tree.
+// Conditions of a plan: one read, and whether its variables are bound.
 use plans::Node;
 use plans::Tree;
 use plans::among;

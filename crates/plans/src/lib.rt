@@ -1,4 +1,5 @@
-// Plans: what stands in one that has the form.
+// Plans: one read from words (test 5), its variables (6) and years (23); which words are accepted, said without a reader. In code its head, the patterns
+// of a branch and the node of a word.
 mod branches;
 mod heads;
 mod searches;

@@ -1,4 +1,4 @@
-// The lines of the turn printer in code but for a group's, each at the front of a line that is lent.
+// The turn printer's lines, and the code that writes each at the front of a line that is lent.
 mod groups;
 
 pub use groups::group_line;

@@ -1,4 +1,4 @@
-// The turn printer as a program: prints what the query of the file that its one argument names answers.
+// The turn printer as a program: prints what the query of the file that its one argument names answers. `./turns` runs it.
 use libc::STDERR_FILENO;
 
 fn main() {

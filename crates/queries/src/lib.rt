@@ -1,4 +1,4 @@
-// How a query is played: what its player keeps, what one turn of it comes to, and how it goes on and ends.
+// How a query is played: what its player keeps, one turn and its list taken, how it goes on and ends; what demand 3 says of the calls themselves.
 use turns::Turned;
 use words::Written;
 

@@ -1,4 +1,5 @@
-// Entries of waiting queries in a lent list: the functions that have such a list as a parameter, few and thin.
+// Entries of waiting queries in a lent list: looked over, read, settled by places. Few and thin functions, proved by hand: the borrow checker does not
+// cover a slice of structs.
 use queues::Entry;
 ghost use Rattle.queues.specs.Lists.{lentAs, ownersIn};
 ghost use mathlib.Core.Path.{_≡_};

@@ -1,4 +1,4 @@
-// Joining and topping up: each looks over both lists, decides on numbers and an entry by value, and changes both lists.
+// The calls `join` and `top_up`: each looks over both lists, decides on numbers and an entry by value, and settles both lists.
 use queue_entries::entry_at;
 use queue_entries::look;
 use queue_entries::remove_then_append;

@@ -1,4 +1,4 @@
-// Serving: looks over both lists, makes a turn of the front entry by value, and changes both lists.
+// The call `serve`: looks over both lists, makes a turn of the front entry by value, and settles both lists.
 use queue_entries::entry_at;
 use queue_entries::look;
 use queue_entries::remove_then_append;

@@ -1,5 +1,5 @@
-// Queries of several owners that wait over one set of tables: what an entry holds, and what the calls answer. Their tests, answers and
-// lists are defined in specs/.
+// Queries of several owners that wait over one set of tables: entries, both lists; joining, topping up and serving, tests, answers and lists at exit; fair
+// turns and accounts.
 use turns::Turned;
 
 // A waiting query: the steps left to it, its owner, and its plan and its state, each the first words of its array.

@@ -1,4 +1,4 @@
-// 64-bit FNV-1a of a word's four bytes, low first; which register a hash picks, and what it gives it.
+// 64-bit FNV-1a of a word's four bytes, low first; which register a hash picks, and what it gives it; products modulo 2^64.
 use std::num::wrapping_add_u64;
 ghost use mathlib.Core.Path.{_≡_};
 ghost use Prim.Native.Nat.{_*_, _%_, _^_, _<_};

@@ -1,4 +1,4 @@
-// A report on a kept list of registers, which is the first `given` words of its buffer.
+// The call `report`: counts the registers of a kept list at each value. The list is the first words of its buffer, as many as the call gives.
 mod counts;
 
 use counts::write_counts;

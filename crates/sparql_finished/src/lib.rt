@@ -1,1 +1,1 @@
-// A finished query has SPARQL's answer, however it was cut: the corollary of demands 2 and 3, no code.
+// Demands 2 and 3 together: a finished query, and a play that finishes, have SPARQL's answer, however they were cut. No code.

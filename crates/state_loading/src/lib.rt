@@ -1,4 +1,4 @@
-// Saved states read in code: the cursor that a state's words stand for, if they pass tests 9, 22 and 10.
+// Saved states read in code: the cursor of a state's words over the rows of their year, if they pass tests 9, 22 and 10.
 mod loading;
 
 pub use loading::load;

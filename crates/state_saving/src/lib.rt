@@ -1,4 +1,4 @@
-// Saved states in code: the words of a cursor's state.
+// Saved states in code: the words of a cursor's state; laws of saving and loading.
 mod saving;
 
 pub use saving::save;

@@ -1,4 +1,5 @@
-// Calls that write tables, the rows and both lists, to three lent buffers: what they answer, and whether there is room.
+// Calls that write tables, the rows and both lists, to three lent buffers: what they answer and leave, whether there is room, that such a call is right.
+// `view` and `grow` are such calls.
 use tables::COLUMNS;
 ghost use mathlib.Core.Path.{_≡_};
 ghost use Prim.Native.Nat.{_≤_};

@@ -1,4 +1,4 @@
-// The walk over the orders of tables: what it compares of a row, definitions and laws.
+// What the walk over the three orders reads and finds: definitions and laws. In code, two words read and compared as one.
 use tables::COLUMNS;
 use tables::PREDICATE;
 use tables::RowNumber;

@@ -1,4 +1,4 @@
-// The walk over the three orders of lent tables, for tests 3 and 4.
+// The walk over the three orders of lent tables, their places and columns, for tests 3 and 4.
 use table_readings::read;
 use table_walk_keys::key_at;
 use tables::Order;

@@ -1,4 +1,5 @@
-// Tokens of a query's text, over its code points. The definitions, and what a token is.
+// Tokens of a query's text, over its code points: classes of characters, the terminals of SPARQL 1.1's grammar by number, all tokens of a text. The
+// definitions, and what a token is.
 
 // What a token is. The last four are wrong ones, which the grammar takes nowhere.
 pub enum TokenKind {

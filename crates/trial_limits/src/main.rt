@@ -1,4 +1,4 @@
-// The limits that the rules name, each tried on both sides. A line says what is tried and what the call answers.
+// A program: the limits that the rules name, each tried on both sides by the compiled calls.
 mod plan;
 mod wood;
 

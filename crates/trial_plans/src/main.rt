@@ -1,5 +1,5 @@
-// Plays stored plans over stored woods, each cut by several quanta, and prints what each delivers. The expected output has what a
-// second SPARQL engine answered: tests/second_engine says how both files are made.
+// A program: stored plans over stored woods, each cut by several quanta, held to what a second SPARQL engine answered; tests/second_engine makes both
+// files.
 mod lines;
 mod playing;
 

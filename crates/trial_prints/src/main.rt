@@ -1,4 +1,4 @@
-// Prints each file that its arguments name, one after the other: its name on a line, and then what the turn printer prints for it.
+// A program: the turn printer on each file that its arguments name, after a line with its name.
 use libc::STDOUT_FILENO;
 
 // The file that argument number `i` names.

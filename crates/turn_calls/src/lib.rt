@@ -1,4 +1,4 @@
-// What the service runs: opening a query, and one turn of it.
+// The calls `open` and `turn`, which a service runs: opening a query, and one turn of it.
 mod opening;
 mod turning;
 

@@ -1,4 +1,4 @@
-// The tests of an opening's and a turn's numbers: the words of the buffers, the quantum, the survey.
+// Tests 7 and 8 of a turn, 7 and 22 of an opening: the words of the buffers, the quantum, the survey's number.
 use list_limits::least_output;
 use state_forms::number_right;
 use steps::STATE_WORDS;

@@ -1,4 +1,5 @@
-// What a turn answers. Its steps, its tests and its result are defined in specs/; crate turn_calls has the calls.
+// Opening a query and a turn of it: what they answer. Their tests in order and their buffers at exit are defined in specs/; crate turn_calls has the
+// calls.
 
 // How a turn ended: done, spent, full, or refused with its number.
 pub enum TurnEnding {

@@ -1,4 +1,4 @@
-// Making tables from an upload: the call.
+// The call `make`: tables from an upload, and the report of the rows that were dropped.
 mod within;
 
 use tables::COLUMNS;

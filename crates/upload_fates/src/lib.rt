@@ -1,4 +1,4 @@
-// The fates of an upload's rows, and the list of those of right kinds in the rows' own order.
+// The fates of an upload's rows, wrong kinds and then repeats, and the list of those of right kinds in the rows' own order.
 use table_row_orders::comes_before;
 use table_sorts::sort;
 use tables::COLUMNS;

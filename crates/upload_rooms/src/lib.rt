@@ -1,4 +1,4 @@
-// Whether there is room for the tables of an upload and for the report.
+// Test 16: whether there is room for the tables of an upload and for the report.
 use tables::COLUMNS;
 use uploads::ENTRY_WORDS;
 ghost use mathlib.Core.Path.{_≡_};

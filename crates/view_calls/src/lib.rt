@@ -1,4 +1,4 @@
-// The tables that an adviser may see: the call.
+// The call `view`: the tables that an adviser may see, the rows that are not hidden and both lists with their new numbers.
 mod within;
 mod writing;
 

@@ -1,5 +1,5 @@
-// Which rows an adviser sees: each row marked with its number in the view, or as hidden. In a year the rows of one subject stand side by side
-// and are visible alike, and subjects ascend: each is looked for in the grant from where the one before it was, the first of a year from 0.
+// Which rows an adviser sees: each row marked with its number in the view, or as hidden. Subjects ascend in a year, so the grant is searched on from where
+// the one before was.
 use tables::COLUMNS;
 use tables::MOST_ROWS;
 use tables::RowNumber;

@@ -1,5 +1,5 @@
-// Membership: which rows say of their subject that it belongs to something granted. In each year they are the range of the year and the
-// membership predicate in POS, where their objects ascend, so that the grant is walked beside them once a year.
+// Membership: which rows say of their subject that it belongs to something granted. In each year they are a range of POS where objects ascend, so the
+// grant is walked beside them once.
 use table_ends::end_from;
 use table_ranges::halved;
 use tables::COLUMNS;

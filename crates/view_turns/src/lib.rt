@@ -1,1 +1,1 @@
-// Queries over what an adviser may see: theorems, no code.
+// That rows hidden from an adviser change no opening, turn, join or serving over what the call `view` wrote: theorems, no code.

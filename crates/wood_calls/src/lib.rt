@@ -1,4 +1,4 @@
-// Growing a wood: the call.
+// The call `grow`: the tables of a wood.
 use table_answers::TablesWritten;
 use table_answers::has_room;
 use tables::MOST_ROWS;

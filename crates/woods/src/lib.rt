@@ -1,4 +1,4 @@
-// A wood made to measure: tables of stems drawn from a seed. The numbers it is made of.
+// A wood made to measure: its draws, stems and rows by seed, count and year, tests 24 and 25, answer and buffers at exit.
 
 // How many stems a wood has at most.
 pub const MOST_STEMS: u32 = 32768;

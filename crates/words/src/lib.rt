@@ -1,4 +1,5 @@
-// The 32-bit words of rows, plans and saved states: a kind in the top bits, a value or number in the low ones.
+// The 32-bit words of rows, plans and saved states, a kind in the top bits and a value or number in the low ones; the order of keys, bindings, tests as
+// data.
 ghost use mathlib.Core.Path.{_≡_};
 ghost use Prim.Native.Nat.{_+_, _%_, _<_, _≤_};
 ghost use lib.ListN.{length};

@@ -1,1 +1,1 @@
-// The worked cases of kinds of words, of orders and of states: tables in specs/, proved by computation.
+// The worked cases of kinds of words, of orders and of states.

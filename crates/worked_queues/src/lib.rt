@@ -1,1 +1,1 @@
-// The worked cases of joining, serving and topping up: tables in specs/, proved by computation.
+// The worked cases of joining, serving and topping up, with their refusals.

@@ -1,1 +1,1 @@
-// Definitions and laws only: three stems with names and texts in literal bytes, encoded, asked, decoded, and seen by an adviser.
+// Three stems with names and texts in literal bytes, encoded, asked, decoded, and seen by an adviser. Definitions and laws only.

@@ -1,1 +1,1 @@
-// The worked cases of conditions, and of what evaluating one reads: tables in specs/, proved by computation.
+// The worked cases of conditions, of what evaluating one reads, of registers and of reports on them.
