@@ -1,1 +1,1 @@
-// Sixteen registers of some values, their merging and a report on them: definitions and laws, no code.
+// Sixteen registers of some values, their merging, and what a report counts of them: definitions and laws, no code.

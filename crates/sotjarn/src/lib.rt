@@ -22,7 +22,7 @@ ghost use Rattle.turns.specs.Surveys.{surveyOf};
 ghost use Rattle.turns.specs.Opening.{openOf};
 ghost use Rattle.turns.specs.Turns.{turnOf, turnInput};
 ghost use Rattle.merges.specs.Merging.{mergeInput, mergeOf};
-ghost use Rattle.registers.specs.Reporting.{reportInput, reportOf};
+ghost use Rattle.register_reports.specs.Reporting.{reportInput, reportOf};
 ghost use Rattle.list_limits.specs.PlanOutputs.{planOutput};
 ghost use Rattle.uploads.specs.Making.{makeInput, makeOf};
 ghost use Rattle.views.specs.Viewing.{viewInput, viewCallOf};
@@ -106,7 +106,7 @@ pub extern "C" fn sotjarn_merge(
 #[no_mangle]
 pub extern "C" fn sotjarn_report(kept: &[u32], given: usize, report: &mut [u32]) -> WrittenNumbers
     ensures answer { λ r. ⌜ r ≡ writtenNumbers (reportOf (reportInput (now (kept .entry)) given (now (report .entry))) .answer) ⌝ }
-    ensures report { λ _. ⌜ now (report .exit) ≡ reportOf (reportInput (now (kept .entry)) given (now (report .entry))) .report ⌝ }
+    ensures report { λ _. ⌜ now (report .exit) ≡ reportOf (reportInput (now (kept .entry)) given (now (report .entry))) .buffers ⌝ }
 {
     written_numbers(register_reports::report(kept, given, report))
 }

@@ -15,7 +15,8 @@ use Rattle.turns.specs.declared.TurnEnding.the-variants as ending
 use Rattle.turns.specs.Surveys.{Survey, underNumber}
 use Rattle.turns.specs.Opening.{Opened, openOf}
 use Rattle.turns.specs.Turns.{TurnInput, TurnResult, turnTests, turnOf, resultOf}
-use Rattle.registers.specs.Reporting.{ReportInput, ReportResult, reportOf}
+use Rattle.calls.specs.Words.{WordsResult}
+use Rattle.register_reports.specs.Reporting.{ReportInput, reportOf}
 use Rattle.merges.specs.Merging.{MergeInput, MergeResult, mergeOf}
 use Rattle.cuts.specs.Uncut.{runList}
 use Rattle.uploads.specs.declared.Made.the-variants as answer
@@ -39,7 +40,7 @@ pub data Result : Type 0 where
   opened : Opened → Result
   turned : TurnResult → Result
   merged : MergeResult → Result
-  reported : ReportResult → Result
+  reported : WordsResult → Result
   made : MakeResult → Result
   viewed : TablesResult → Result
   ran : Option State → List ℕ → Result
@@ -110,7 +111,7 @@ abbrev pub notMerged : MergeInput → ℕ → Case
 notMerged i x = (merging i, merged (record { answer = Refused x; kept = i .kept }))
 
 abbrev pub notReported : ReportInput → ℕ → Case
-notReported i x = (reporting i, reported (record { answer = Refused x; report = i .report }))
+notReported i x = (reporting i, reported (record { answer = Refused x; buffers = i .report }))
 
 abbrev pub notMade : MakeInput → ℕ → Case
 notMade i x = (making i, made (record { answer = answer.Refused x; buffers = i .buffers }))
