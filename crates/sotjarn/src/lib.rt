@@ -97,7 +97,7 @@ pub extern "C" fn sotjarn_merge(
     list: &[u32],
 ) -> WrittenNumbers
     ensures answer { λ r. ⌜ r ≡ writtenNumbers (mergeOf (mergeInput (now (plan .entry)) (now (kept .entry)) given (now (list .entry))) .answer) ⌝ }
-    ensures kept { λ _. ⌜ now (kept .exit) ≡ mergeOf (mergeInput (now (plan .entry)) (now (kept .entry)) given (now (list .entry))) .kept ⌝ }
+    ensures kept { λ _. ⌜ now (kept .exit) ≡ mergeOf (mergeInput (now (plan .entry)) (now (kept .entry)) given (now (list .entry))) .buffers ⌝ }
 {
     written_numbers(merge_calls::merge(plan, kept, given, list))
 }

@@ -17,7 +17,7 @@ use Rattle.turns.specs.Opening.{Opened, openOf}
 use Rattle.turns.specs.Turns.{TurnInput, TurnResult, turnTests, turnOf, resultOf}
 use Rattle.calls.specs.Words.{WordsResult}
 use Rattle.register_reports.specs.Reporting.{ReportInput, reportOf}
-use Rattle.merges.specs.Merging.{MergeInput, MergeResult, mergeOf}
+use Rattle.merges.specs.Merging.{MergeInput, mergeOf}
 use Rattle.cuts.specs.Uncut.{runList}
 use Rattle.uploads.specs.declared.Made.the-variants as answer
 use Rattle.uploads.specs.Making.{MakeInput, MakeResult, makeOf}
@@ -39,7 +39,7 @@ pub data Call : Type 0 where
 pub data Result : Type 0 where
   opened : Opened → Result
   turned : TurnResult → Result
-  merged : MergeResult → Result
+  merged : WordsResult → Result
   reported : WordsResult → Result
   made : MakeResult → Result
   viewed : TablesResult → Result
@@ -108,7 +108,7 @@ abbrev pub notTurned : TurnInput → ℕ → Case
 notTurned i x = turnCase i (ending.Refused x) 0 [] []
 
 abbrev pub notMerged : MergeInput → ℕ → Case
-notMerged i x = (merging i, merged (record { answer = Refused x; kept = i .kept }))
+notMerged i x = (merging i, merged (record { answer = Refused x; buffers = i .kept }))
 
 abbrev pub notReported : ReportInput → ℕ → Case
 notReported i x = (reporting i, reported (record { answer = Refused x; buffers = i .report }))

@@ -64,7 +64,7 @@ goesPast plan from threshold steps to list = turnCase (turnCall wood plan from s
 abbrev pub stays : List ℕ → Case
 stays list = (
   merging (mergeCall largest (stem 2 310) 4 list),
-  merged (record { answer = Words 2; kept = keptBuffer 4 (stem 2 310) }),
+  merged (record { answer = Words 2; buffers = keptBuffer 4 (stem 2 310) }),
 )
 
 -- ---- a threshold saves steps

@@ -34,7 +34,7 @@ tenDiameters = map number (20 ∷ 19 ∷ 18 ∷ 17 ∷ 16 ∷ 15 ∷ 14 ∷ 13 �
 abbrev pub merges : List ℕ → List ℕ → List ℕ → List ℕ → Case
 merges plan kept list result = (
   merging (mergeCall plan kept 16 list),
-  merged (record { answer = Words (length result); kept = over result (keptBuffer 16 kept) }),
+  merged (record { answer = Words (length result); buffers = over result (keptBuffer 16 kept) }),
 )
 
 abbrev pub starred : List Case

@@ -44,7 +44,7 @@ totalsOfStems = 3 ∷ 0 ∷ 3 ∷ 0 ∷ 0x00000299 ∷ 0 ∷ 0x4000002D ∷ 0x40
 abbrev pub adds : List ℕ → List ℕ → List ℕ → Case
 adds kept list result = (
   merging (mergeCall (stemsWith anyStem oneGroup) kept 12 list),
-  merged (record { answer = Words (length result); kept = over result (keptBuffer 12 kept) }),
+  merged (record { answer = Words (length result); buffers = over result (keptBuffer 12 kept) }),
 )
 
 abbrev pub closings : List Case
