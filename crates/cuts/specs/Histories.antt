@@ -13,7 +13,6 @@ use Rattle.lists.specs.Gathering.{isRows}
 use Rattle.turns.specs.Surveys.{Survey}
 use Rattle.turns.specs.declared.TurnEnding.{TurnEnding}
 use Rattle.turns.specs.declared.TurnEnding.the-variants as ending
-use Rattle.turns.specs.Opening.{Opened}
 use Rattle.turns.specs.Turns.{isDone, TurnInput, TurnResult, turnOf}
 use Rattle.calls.specs.Words.{WordsResult}
 use Rattle.merges.specs.Merging.{MergeInput, mergeOf}
@@ -127,5 +126,5 @@ history v plan h [] = h
 history v plan h (e ∷ es) = history v plan (happens v plan h e) es
 
 -- from what an opening wrote, and an empty kept list
-abbrev pub fresh : Opened → Phone
-fresh o = record { saved = take (wordsIn (o .answer)) (o .state); taken = []; waiting = []; kept = [] }
+abbrev pub fresh : WordsResult → Phone
+fresh o = record { saved = take (wordsIn (o .answer)) (o .buffers); taken = []; waiting = []; kept = [] }

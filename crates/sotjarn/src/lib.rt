@@ -46,7 +46,7 @@ pub extern "C" fn sotjarn_open(
     ensures answer { λ r. ⌜ r ≡ writtenNumbers (openOf (surveyOf (now (rows .entry)) (now (pos .entry)) (now (osp .entry)) survey) (now (plan .entry))
         (now (state .entry)) .answer) ⌝ }
     ensures state { λ _. ⌜ now (state .exit)
-        ≡ openOf (surveyOf (now (rows .entry)) (now (pos .entry)) (now (osp .entry)) survey) (now (plan .entry)) (now (state .entry)) .state ⌝ }
+        ≡ openOf (surveyOf (now (rows .entry)) (now (pos .entry)) (now (osp .entry)) survey) (now (plan .entry)) (now (state .entry)) .buffers ⌝ }
 {
     written_numbers(turn_calls::open(rows, pos, osp, survey, plan, state))
 }

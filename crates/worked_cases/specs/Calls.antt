@@ -13,7 +13,7 @@ use Rattle.steps.specs.Steps.{State, after}
 use Rattle.turns.specs.declared.TurnEnding.{TurnEnding}
 use Rattle.turns.specs.declared.TurnEnding.the-variants as ending
 use Rattle.turns.specs.Surveys.{Survey, underNumber}
-use Rattle.turns.specs.Opening.{Opened, openOf}
+use Rattle.turns.specs.Opening.{openOf}
 use Rattle.turns.specs.Turns.{TurnInput, TurnResult, turnTests, turnOf, resultOf}
 use Rattle.calls.specs.Words.{WordsResult}
 use Rattle.register_reports.specs.Reporting.{ReportInput, reportOf}
@@ -37,7 +37,7 @@ pub data Call : Type 0 where
   testing : TurnInput → Call
 
 pub data Result : Type 0 where
-  opened : Opened → Result
+  opened : WordsResult → Result
   turned : TurnResult → Result
   merged : WordsResult → Result
   reported : WordsResult → Result
@@ -102,7 +102,7 @@ turnCase i e steps saved list = (turning i, turned (resultOf i e steps saved lis
 
 -- the cases of refused calls
 abbrev pub notOpened : Tables → List ℕ → List ℕ → ℕ → Case
-notOpened t plan state x = (opening (surveyed t) plan state, opened (record { answer = Refused x; state = state }))
+notOpened t plan state x = (opening (surveyed t) plan state, opened (record { answer = Refused x; buffers = state }))
 
 abbrev pub notTurned : TurnInput → ℕ → Case
 notTurned i x = turnCase i (ending.Refused x) 0 [] []

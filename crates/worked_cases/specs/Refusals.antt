@@ -47,7 +47,7 @@ ofPlans =
     ∷ wrongPlan (planWith (word comparisonKind 6 ∷ variable 1 ∷ number 70 ∷ []) rows01) 5
     ∷ wrongPlan (planWith (word comparisonKind 0 ∷ variable 1 ∷ []) []) 5
     -- 8 deep passes, 9 deep does not
-    ∷ (opening (surveyed wood) (planWith seven rows01) (replicate 11 7), opened (record { answer = Words 4; state = stateBuffer startOfA }))
+    ∷ (opening (surveyed wood) (planWith seven rows01) (replicate 11 7), opened (record { answer = Words 4; buffers = stateBuffer startOfA }))
     ∷ wrongPlan (planWith (word notKind 0 ∷ seven) rows01) 5
     ∷ wrongPlan (planWith always (topFalling 65)) 5
     ∷ wrongPlan (planWith always (word topKind 1 ∷ rows01)) 5

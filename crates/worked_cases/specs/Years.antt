@@ -45,7 +45,7 @@ planOfYear year plan = yearWord year ∷ plan
 
 -- ---- short forms
 abbrev pub opens : Tables → List ℕ → List ℕ → Case
-opens t plan words = (opening (surveyed t) plan (replicate 11 7), opened (record { answer = Words 4; state = stateBuffer words }))
+opens t plan words = (opening (surveyed t) plan (replicate 11 7), opened (record { answer = Words 4; buffers = stateBuffer words }))
 
 -- a turn of so many steps from a state to another
 abbrev pub goesInYears : List ℕ → ℕ → List ℕ → List ℕ → List ℕ → Case
