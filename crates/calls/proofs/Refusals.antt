@@ -3,9 +3,10 @@
 use Prim.Native.Nat.{ℕ}
 use mathlib.Core.Path.{_≡_, refl, sym, _∙_, ap, subst⁻¹}
 use mathlib.Core.Logic.{_↔_}
+use mathlib.Core.Bool.{true}
 use mathlib.Core.Option.{Option, none, some}
 use Rattle.words.specs.Tests.{firstFailing, numberOf, AllPass, FirstFails}
-use Rattle.words.proofs.Testing.{passes-all, all-passes, first-fails, fails-first}
+use Rattle.words.proofs.Testing.{passes-all, all-passes, first-fails, fails-first, testNumbered, test-passed}
 use Rattle.calls.specs.Calls.{CallSchema, CallResult, resultByNumber, resultOfCall, countsBy}
 use Rattle.calls.specs.Calls.{AnswersRight, RefusedBy, NotRefused, CallRefusals, RightCall}
 
@@ -49,6 +50,10 @@ module _ {I A E B W : Type 0} (c : CallSchema I A E B W) (r : RightCall c) (i : 
       to : Decides → NotRefused c i → AllPass (c .tests i)
       to (refuses x p q) h = absurd (h x q)
       to (serves p a) h = a
+
+  -- a test that a served call passed, by its number
+  pub call-passed : (n : ℕ) → NotRefused c i → testNumbered n (c .tests i) ≡ true
+  call-passed n h = test-passed n (c .tests i) (call-served .0 h)
 
   answers-with : Decides → AnswersRight c i (resultOfCall c i .answer)
   answers-with (refuses x p q) =

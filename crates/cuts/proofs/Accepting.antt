@@ -19,20 +19,20 @@ use Rattle.sequences.proofs.EachMore.{each-weaken}
 use Rattle.lists.proofs.Values.{AllValues}
 use Rattle.lists.proofs.Gatherings.{Gathering, gathering}
 use Rattle.turns.specs.Surveys.{Survey}
-use Rattle.turns.specs.Opening.{ownOpenTests, Opens}
-use Rattle.turns.proofs.Refusals.{open-refusals, open-passed}
+use Rattle.turns.specs.Opening.{openInput, ownOpenTests, Opens}
+use Rattle.turns.proofs.Opening.{open-refusals, open-passed}
 use Rattle.cuts.specs.Accepting.{Accepted}
 
 pub opening-accepts : (v : Survey) (plan state : List ℕ) → Opens v plan state → Accepted (v .tables) plan
 opening-accepts v plan state o =
     record {
       tables = all-passes (tableTests (v .tables))
-          (front-passes (tableTests (v .tables)) (planTests plan ++ ownOpenTests v state)
-          (open-refusals v plan state .serves .0 o));
+          (front-passes (tableTests (v .tables)) (planTests plan ++ ownOpenTests (openInput v plan state))
+          (open-refusals v plan state .served .0 o));
       read = was-read (readPlan plan) (open-passed v plan state 5 o);
       variables = open-passed v plan state 6 o;
-      years = front-passes (planTests plan) (ownOpenTests v state)
-          (rest-passes (tableTests (v .tables)) (planTests plan ++ ownOpenTests v state) (open-refusals v plan state .serves .0 o)) .1 .1 .0;
+      years = front-passes (planTests plan) (ownOpenTests (openInput v plan state))
+          (rest-passes (tableTests (v .tables)) (planTests plan ++ ownOpenTests (openInput v plan state)) (open-refusals v plan state .served .0 o)) .1 .1 .0;
     }
 
 module _ (t : Tables) (plan : List ℕ) (a : Accepted t plan) where

@@ -13,7 +13,8 @@ use Rattle.turns.specs.Opening.{openOf, Opens}
 use Rattle.turns.specs.Turns.{turnOf}
 use Rattle.turns.specs.AfterDone.{NoStateRefused}
 use Rattle.turns.proofs.AfterDone.{no-state-refused}
-use Rattle.merges.specs.Merging.{MergeResult, mergeOf}
+use Rattle.calls.specs.Words.{WordsResult}
+use Rattle.merges.specs.Merging.{mergeOf}
 use Rattle.cuts.specs.Histories.{Event, turns, merges, joins, Phone, ServedTurn, servedIn, doneIn, turnInputOf, servedOf, afterTurn, afterTaking}
 use Rattle.cuts.specs.Histories.{mergeInputOf, afterMerge, afterMerging, afterJoin, afterJoining, happens, history, fresh}
 use Rattle.cuts.specs.Premises.{Premises}
@@ -34,7 +35,7 @@ module _ (v : Survey) (plan : List ℕ) (h : Phone) where
   taking x rest kept e =
       record { saved = refl; served = append-assoc (h .taken) (x ∷ []) rest ∙ ap (λ l. h .taken ++ l) (sym e) }
 
-  merging : (x : ServedTurn) (rest : List ServedTurn) (r : MergeResult) (w : Written) → h .waiting ≡ x ∷ rest → Same h (afterMerge h x rest r w)
+  merging : (x : ServedTurn) (rest : List ServedTurn) (r : WordsResult) (w : Written) → h .waiting ≡ x ∷ rest → Same h (afterMerge h x rest r w)
   merging x rest r (Words n) e = taking x rest _ e
   merging x rest r (Refused n) e = same
 

@@ -32,8 +32,8 @@ use Rattle.lists.proofs.OneRow.{none-right, none-totals}
 use Rattle.lists.proofs.Closing.{at-valid, at-fit}
 use Rattle.turns.specs.Surveys.{Survey}
 use Rattle.turns.specs.Turns.{isOver}
-use Rattle.merges.specs.Merging.{MergeInput, mergeTests, mergedWords, mergeOf}
-use Rattle.merges.specs.Refusals.{Merges}
+use Rattle.calls.specs.Calls.{NotRefused}
+use Rattle.merges.specs.Merging.{MergeInput, mergeTests, mergedWords, mergeSchema, mergeOf}
 use Rattle.merges.proofs.Refusals.{merge-passed, merge-refusals}
 use Rattle.cuts.specs.Histories.{Phone, ServedTurn, mergeInputOf}
 use Rattle.cuts.specs.Uncut.{keptAfter, runFits, MergesLists, NotTaken, totals-pass, no-room}
@@ -167,5 +167,5 @@ module _ (v : Survey) (plan : List ℕ) (a : Accepted (v .tables) plan) (h : Pho
     -- and of one that is served the totals of the uncut run up to there fit
     pub merge-fits : (words : ℕ) → mergeOf i .answer ≡ Words words → runFits (q .ending) (after t q to) ≡ true
     merge-fits words e =
-        let serve : Merges i = λ y f. let z : _≡_ {A = ℕ} 0 1 = cc in omega arith in
+        let serve : NotRefused mergeSchema i = λ y f. let z : _≡_ {A = ℕ} 0 1 = cc in omega arith in
         sym totals-are ∙ ap (λ l. totalsFit (q .ending) l (x .list)) (sym given-kept) ∙ merge-passed i 13 serve

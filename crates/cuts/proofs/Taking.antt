@@ -17,8 +17,8 @@ use Rattle.plans.specs.Plans.{Plan, planOf}
 use Rattle.steps.specs.Steps.{after}
 use Rattle.lists.specs.Gathering.{merged, takenInto, keptRight, listRight}
 use Rattle.turns.specs.Surveys.{Survey}
-use Rattle.merges.specs.Merging.{MergeInput, mergeOf}
-use Rattle.merges.specs.Refusals.{Merges}
+use Rattle.calls.specs.Calls.{NotRefused}
+use Rattle.merges.specs.Merging.{MergeInput, mergeSchema, mergeOf}
 use Rattle.merges.proofs.Refusals.{merge-passed}
 use Rattle.merges.proofs.Writes.{merge-writes}
 use Rattle.cuts.specs.Histories.{ServedTurn, Phone, mergeInputOf, afterTaking, afterMerge, afterMerging, afterJoin, afterJoining}
@@ -49,13 +49,13 @@ module _ (v : Survey) (plan : List ℕ) (a : Accepted (v .tables) plan) (h : Pho
       i = mergeInputOf plan h behind x
 
       -- what a merge that is served writes
-      served-merge : Merges i → take (wordsIn (mergeOf i .answer)) (mergeOf i .kept) ≡ takenInto (q .ending) (h .kept) (x .list)
+      served-merge : NotRefused mergeSchema i → take (wordsIn (mergeOf i .answer)) (mergeOf i .buffers) ≡ takenInto (q .ending) (h .kept) (x .list)
       served-merge serve =
           let p = merge-passed i 12 serve in
           let kept : take (i .given) (i .kept) ≡ h .kept = take-append-seam (h .kept) behind in
           let right = and-left (keptRight (q .ending) (take (i .given) (i .kept))) (listRight (q .ending) (x .list))
           (and-right (leb (i .given) (length (i .kept))) _ p) in
-          merge-writes i serve .kept .front
+          merge-writes i serve .buffer .front
           ∙ ap (λ l. merged (q .ending) l (x .list)) kept
           ∙ merged-taken (q .ending) (h .kept) (x .list) (ap (keptRight (q .ending)) (sym kept) ∙ right)
 
@@ -69,8 +69,8 @@ module _ (v : Survey) (plan : List ℕ) (a : Accepted (v .tables) plan) (h : Pho
       pub merge-keeps : (w : Written) → mergeOf i .answer ≡ w → Kept v q (afterMerge h x rest (mergeOf i) w)
       merge-keeps (Refused y) e = k
       merge-keeps (Words n) e =
-          let serve : Merges i = λ y f. let z : _≡_ {A = ℕ} 0 1 = cc in omega arith in
-          taken-keeps (take n (mergeOf i .kept)) (ap (λ d. take (wordsIn d) (mergeOf i .kept)) (sym e) ∙ served-merge serve)
+          let serve : NotRefused mergeSchema i = λ y f. let z : _≡_ {A = ℕ} 0 1 = cc in omega arith in
+          taken-keeps (take n (mergeOf i .buffers)) (ap (λ d. take (wordsIn d) (mergeOf i .buffers)) (sym e) ∙ served-merge serve)
           (taken-fits n e (q .ending) refl)
 
     -- ---- joining

@@ -13,9 +13,9 @@ use Rattle.lists.specs.Gathering.{isRows}
 use Rattle.turns.specs.Surveys.{Survey}
 use Rattle.turns.specs.declared.TurnEnding.{TurnEnding}
 use Rattle.turns.specs.declared.TurnEnding.the-variants as ending
-use Rattle.turns.specs.Opening.{Opened}
 use Rattle.turns.specs.Turns.{isDone, TurnInput, TurnResult, turnOf}
-use Rattle.merges.specs.Merging.{MergeInput, MergeResult, mergeOf}
+use Rattle.calls.specs.Words.{WordsResult}
+use Rattle.merges.specs.Merging.{MergeInput, mergeOf}
 
 -- a turn: the words behind the saved state in its buffer, the quantum, the threshold, the output as it is lent.
 -- a merge: the words behind the kept list in its buffer. a join of the earliest list to the rows taken before
@@ -96,8 +96,8 @@ afterTaking h x rest kept =
 abbrev pub mergeInputOf : List ℕ → Phone → List ℕ → ServedTurn → MergeInput
 mergeInputOf plan h behind x = record { plan = plan; kept = h .kept ++ behind; given = length (h .kept); list = x .list }
 
-abbrev pub afterMerge : Phone → ServedTurn → List ServedTurn → MergeResult → Written → Phone
-afterMerge h x rest r (Words n) = afterTaking h x rest (take n (r .kept))
+abbrev pub afterMerge : Phone → ServedTurn → List ServedTurn → WordsResult → Written → Phone
+afterMerge h x rest r (Words n) = afterTaking h x rest (take n (r .buffers))
 afterMerge h x rest r (Refused n) = h
 
 -- only the lists of a row query are joined
@@ -126,5 +126,5 @@ history v plan h [] = h
 history v plan h (e ∷ es) = history v plan (happens v plan h e) es
 
 -- from what an opening wrote, and an empty kept list
-abbrev pub fresh : Opened → Phone
-fresh o = record { saved = take (wordsIn (o .answer)) (o .state); taken = []; waiting = []; kept = [] }
+abbrev pub fresh : WordsResult → Phone
+fresh o = record { saved = take (wordsIn (o .answer)) (o .buffers); taken = []; waiting = []; kept = [] }

@@ -21,7 +21,11 @@ use Rattle.list_group_merges.specs.declared.Merged.{Merged}
 use Rattle.lists.specs.Gathering.{keptRight, listRight, totalsFit, merged}
 use Rattle.list_group_merges.specs.MergingGroups as groups
 use Rattle.lists.specs.Putting.{Listed}
-use Rattle.merges.specs.Merging.{MergeInput, MergeResult, givenKept, givenEnding, listTests, mergeTests, mergedWith, mergedAs, mergeOf}
+use Rattle.calls.specs.Calls.{resultByNumber, resultOfCall}
+use Rattle.calls.specs.Words.{WordsResult, writtenOver}
+use Rattle.calls.proofs.Refusals.{by-number}
+use Rattle.merges.specs.Merging.{MergeInput, givenKept, givenEnding, listTests, mergeTests, mergeSchema, mergeOf}
+use Rattle.merges.proofs.Refusals.{merge-is-right}
 use Rattle.merge_lists.specs.Answering.{AcceptedPlan, bothRight, writtenOf}
 
 -- a test that the code makes: it goes on, or refuses
@@ -37,29 +41,28 @@ plan-first : (i : MergeInput) {o : Option ℕ} → firstFailing (planTests (i .p
 plan-first i h = first-append (planTests (i .plan)) (listTests i) ∙ ap (λ o. orElse o (firstFailing (listTests i))) h
 
 -- ---- of a plan that is refused
-abbrev refused : MergeInput → ℕ → MergeResult
-refused i n = record { answer = Refused n; kept = i .kept }
+abbrev refused : MergeInput → ℕ → WordsResult
+refused i n = record { answer = Refused n; buffers = i .kept }
 
 pub plan-refused : (i : MergeInput) (n : ℕ) → firstFailing (planTests (i .plan)) ≡ some n → refused i n ≡ mergeOf i
-unfolding mergeOf
-plan-refused i n h = sym (ap (mergedAs i) (plan-first i h))
+plan-refused i n h = sym (by-number mergeSchema merge-is-right i n (plan-first i h))
 
 -- ---- of an accepted plan: tests 12 to 14, for its ending
-abbrev byTotals : MergeInput → Ending → MergeResult
+abbrev byTotals : MergeInput → Ending → WordsResult
 byTotals i e =
     cond (totalsFit e (givenKept i) (i .list))
     (cond (leb (length (merged e (givenKept i) (i .list))) (length (i .kept)))
-    (mergedWith (merged e (givenKept i) (i .list)) (i .kept))
+    (writtenOver (merged e (givenKept i) (i .list)) (i .kept))
     (refused i 14))
     (refused i 13)
 
-abbrev byEnding : MergeInput → Ending → MergeResult
+abbrev byEnding : MergeInput → Ending → WordsResult
 byEnding i e =
     cond (leb (i .given) (length (i .kept)) && bothRight e (givenKept i) (i .list)) (byTotals i e) (refused i 12)
 
 in-order : (i : MergeInput) (a b c : Bool)
-    → mergedAs i (firstFailing ((12, a) ∷ (13, b) ∷ (14, c) ∷ []))
-    ≡ cond a (cond b (cond c (mergedAs i none) (refused i 14)) (refused i 13)) (refused i 12)
+    → resultByNumber mergeSchema i (firstFailing ((12, a) ∷ (13, b) ∷ (14, c) ∷ []))
+    ≡ cond a (cond b (cond c (resultByNumber mergeSchema i none) (refused i 14)) (refused i 13)) (refused i 12)
 unfolding firstFailing
 in-order i true true true = refl
 in-order i true true false = refl
@@ -67,8 +70,8 @@ in-order i true false c = refl
 in-order i false b c = refl
 
 by-tests : (i : MergeInput) → firstFailing (planTests (i .plan)) ≡ none → mergeOf i ≡ byEnding i (givenEnding i)
-unfolding mergeOf
-by-tests i h = ap (mergedAs i) (plan-first i h) ∙ in-order i _ _ _
+unfolding resultOfCall
+by-tests i h = ap (resultByNumber mergeSchema i) (plan-first i h) ∙ in-order i _ _ _
 
 -- 12, of each list
 pub each-right : (e : Ending) (kept list : List ℕ) → bothRight e kept list ≡ true → (keptRight e kept ≡ true) × (listRight e list ≡ true)
@@ -91,13 +94,13 @@ module _ (v : ℕ) (kept list : List ℕ) (h : bothRight (registers v) kept list
 
 -- what a merge of groups answers and leaves, by the totals and the room
 groups-answer : (fit room : Bool) (n : ℕ) (after kept : List ℕ)
-    → _≡_ {A = MergeResult}
+    → _≡_ {A = WordsResult}
     (record {
       answer = writtenOf (cond fit (cond room (Merged.Words n) Merged.NoRoom) Merged.Overflow);
-      kept = cond fit (cond room after kept) kept;
+      buffers = cond fit (cond room after kept) kept;
     })
-    (cond fit (cond room (record { answer = Words n; kept = after }) (record { answer = Refused 14; kept = kept }))
-    (record { answer = Refused 13; kept = kept }))
+    (cond fit (cond room (record { answer = Words n; buffers = after }) (record { answer = Refused 14; buffers = kept }))
+    (record { answer = Refused 13; buffers = kept }))
 groups-answer true true n after kept = refl
 groups-answer true false n after kept = refl
 groups-answer false room n after kept = refl
@@ -129,7 +132,7 @@ module _ (i : MergeInput) where
     abbrev best : List ℕ
     best = merged (top k vs keys) (givenKept i) (i .list)
 
-    by-room : mergeOf i ≡ cond (leb (length best) (length (i .kept))) (mergedWith best (i .kept)) (refused i 14)
+    by-room : mergeOf i ≡ cond (leb (length best) (length (i .kept))) (writtenOver best (i .kept)) (refused i 14)
     unfolding totalsFit
     by-room = by-totals a fit right
 
@@ -137,7 +140,7 @@ module _ (i : MergeInput) where
     top-no-room h = sym (by-room ∙ rw h)
 
     pub top-merged : leb (length best) (length (i .kept)) ≡ true → {after : List ℕ} {n : ℕ} → Listed best (i .kept) after n
-        → record { answer = Words n; kept = after } ≡ mergeOf i
+        → record { answer = Words n; buffers = after } ≡ mergeOf i
     top-merged h l = rw (l .0, l .1) (sym (by-room ∙ rw h))
 
   -- registers have no totals either: 14, and then they are merged
@@ -149,7 +152,7 @@ module _ (i : MergeInput) where
     greatest-length : length greatest ≡ registerCount
     greatest-length = registers-both v (givenKept i) (i .list) right
 
-    registers-room : mergeOf i ≡ cond (leb (length greatest) (length (i .kept))) (mergedWith greatest (i .kept)) (refused i 14)
+    registers-room : mergeOf i ≡ cond (leb (length greatest) (length (i .kept))) (writtenOver greatest (i .kept)) (refused i 14)
     unfolding totalsFit merged
     registers-room = by-totals a fit right
 
@@ -158,7 +161,7 @@ module _ (i : MergeInput) where
         sym (registers-room ∙ rw (lt-leb (length greatest) (length (i .kept)) (omega (arith, greatest-length))))
 
     pub registers-merged : registerCount ≤ length (i .kept) → {after : List ℕ} {n : ℕ} → Listed greatest (i .kept) after n
-        → record { answer = Words n; kept = after } ≡ mergeOf i
+        → record { answer = Words n; buffers = after } ≡ mergeOf i
     registers-merged h l =
         rw (l .0, l .1) (sym (registers-room ∙ rw (le-leb (length greatest) (length (i .kept)) (omega (arith, greatest-length)))))
 
@@ -173,7 +176,7 @@ module _ (i : MergeInput) where
 
     pub groups-merged : {after : List ℕ} {r : Merged} → r ≡ groups.groupsMergedAs fits added (i .kept)
         → after ≡ groups.mergedOver fits added (i .kept)
-        → record { answer = writtenOf r; kept = after } ≡ mergeOf i
+        → record { answer = writtenOf r; buffers = after } ≡ mergeOf i
     groups-merged er ea =
         rw (er, ea)
         (groups-answer fits (leb (length added) (length (i .kept))) (length added) (over added (i .kept)) (i .kept)

@@ -27,7 +27,7 @@ fn merge_top(
 ) -> Written
     requires { ⌜ TopParts k (now vars) (now keys) × (given ≤ length (now kept)) ⌝ }
     ensures { λ r. ⌜ MergedFor (top k (now (vars .entry)) (now (keys .entry))) (now (kept .entry)) given (now (list .entry))
-        (record { answer = r; kept = now (kept .exit) }) ⌝ }
+        (record { answer = r; buffers = now (kept .exit) }) ⌝ }
 {
     if !are_best(vars, keys, k, &kept[..given], list) {
         return Written::Refused(LISTS);
@@ -42,7 +42,7 @@ fn merge_top(
 fn merge_groups(g: usize, kept: &mut [u32], given: usize, list: &[u32]) -> Written
     requires { ⌜ (g ≤ mostGroupVariables) × (given ≤ length (now kept)) ⌝ }
     ensures { λ r. ⌜ ((vs : List ℕ) (m : ℕ) → length vs ≡ g
-        → MergedFor (group vs m) (now (kept .entry)) given (now (list .entry)) (record { answer = r; kept = now (kept .exit) })) ⌝ }
+        → MergedFor (group vs m) (now (kept .entry)) given (now (list .entry)) (record { answer = r; buffers = now (kept .exit) })) ⌝ }
 {
     if !are_groups(g, &kept[..given], list) {
         return Written::Refused(LISTS);
@@ -54,7 +54,7 @@ fn merge_groups(g: usize, kept: &mut [u32], given: usize, list: &[u32]) -> Writt
 fn merge_registers(kept: &mut [u32], given: usize, list: &[u32]) -> Written
     requires { ⌜ given ≤ length (now kept) ⌝ }
     ensures { λ r. ⌜ ((v : ℕ)
-        → MergedFor (registers v) (now (kept .entry)) given (now (list .entry)) (record { answer = r; kept = now (kept .exit) })) ⌝ }
+        → MergedFor (registers v) (now (kept .entry)) given (now (list .entry)) (record { answer = r; buffers = now (kept .exit) })) ⌝ }
 {
     if !are_registers(&kept[..given], list) {
         return Written::Refused(LISTS);
@@ -69,7 +69,7 @@ fn merge_registers(kept: &mut [u32], given: usize, list: &[u32]) -> Written
 pub fn merge_ending(e: &[u32], kept: &mut [u32], given: usize, list: &[u32]) -> Written
     requires { ⌜ (endingForm (now e) ≡ true) × PiecesRight (endingAt (now e)) × (given ≤ length (now kept)) ⌝ }
     ensures { λ r. ⌜ MergedFor (endingAt (now (e .entry))) (now (kept .entry)) given (now (list .entry))
-        (record { answer = r; kept = now (kept .exit) }) ⌝ }
+        (record { answer = r; buffers = now (kept .exit) }) ⌝ }
 {
     match plan_endings::ending_kind(e) {
         EndingKind::Rows => Written::Refused(LISTS),

@@ -14,7 +14,8 @@ use Rattle.list_group_merges.specs.declared.Merged.{Merged}
 use Rattle.list_group_merges.specs.declared.Merged.the-variants as groups
 use Rattle.lists.specs.Gathering.{keptRight, listRight}
 use Rattle.list_best.specs.BestLists.{TopParts}
-use Rattle.merges.specs.Merging.{MergeResult, mergeOf}
+use Rattle.calls.specs.Words.{WordsResult}
+use Rattle.merges.specs.Merging.{mergeOf}
 
 -- a plan that passes tests 5, 6 and 23, with its ending
 pub record AcceptedPlan (plan : List ℕ) (e : Ending) : Type 0 where
@@ -33,7 +34,7 @@ abbrev pub bothRight : Ending → List ℕ → List ℕ → Bool
 bothRight e kept list = keptRight e kept && listRight e list
 
 -- a result is the one defined, whatever accepted plan has the ending
-abbrev pub MergedFor : Ending → List ℕ → ℕ → List ℕ → MergeResult → Type 0
+abbrev pub MergedFor : Ending → List ℕ → ℕ → List ℕ → WordsResult → Type 0
 MergedFor e kept given list r =
     (plan : List ℕ) → AcceptedPlan plan e → r ≡ mergeOf (record { plan = plan; kept = kept; given = given; list = list })
 

@@ -6,7 +6,7 @@ use Rattle.words.specs.Computing as words
 use Rattle.plans.specs.Computing as plans
 use Rattle.registers.specs.Computing as registers
 use Rattle.lists.specs.Computing as lists
-use Rattle.merges.specs.Computing as merges
+use Rattle.calls.specs.Calls.{resultOfCall}
 use Rattle.sequences.specs.Sequences.{numbers}
 use Rattle.words.specs.Words.{variable, word, fallingKind}
 use Rattle.merge_orders.specs.Ways.{empty, turn, into, turnsAlong, given}
@@ -15,7 +15,7 @@ use Rattle.merge_orders.specs.Needed.{recordOf}
 use Rattle.merge_orders.specs.Meeting.{inTurn, turned, behind, bestPair, PremisesMet, AnyOrderTold, words16, RegistersMet, RefusalsMet}
 
 unfoldable computing : Unit {0}
-unfolding words.computing plans.computing registers.computing lists.computing merges.computing flatten given turnsAlong fromTurns numbers
+unfolding words.computing plans.computing registers.computing lists.computing resultOfCall flatten given turnsAlong fromTurns numbers
 computing = tt
 
 pub premises-met : PremisesMet

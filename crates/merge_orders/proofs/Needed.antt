@@ -6,14 +6,14 @@ use lib.ListN.{getD}
 use Rattle.words.specs.Computing as words
 use Rattle.plans.specs.Computing as plans
 use Rattle.lists.specs.Computing as lists
-use Rattle.merges.specs.Computing as merges
+use Rattle.calls.specs.Calls.{resultOfCall}
 use Rattle.words.specs.Words.{name}
 use Rattle.words.proofs.Testing.{some-injective}
 use Rattle.merge_orders.specs.Ways.{given}
 use Rattle.merge_orders.specs.Needed.{TiedDiffer, OneRefused}
 
 unfoldable computing : Unit {0}
-unfolding words.computing plans.computing lists.computing merges.computing flatten given
+unfolding words.computing plans.computing lists.computing resultOfCall flatten given
 computing = tt
 
 pub tied-differ : TiedDiffer

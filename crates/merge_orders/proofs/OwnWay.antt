@@ -20,7 +20,7 @@ use Rattle.merges.specs.Merging.{mergeOf}
 use Rattle.turns.specs.Surveys.{Survey}
 use Rattle.turns.specs.declared.TurnEnding.{TurnEnding}
 use Rattle.turns.specs.declared.TurnEnding.the-variants as ending
-use Rattle.turns.specs.Opening.{Opened}
+use Rattle.calls.specs.Words.{WordsResult}
 use Rattle.turns.specs.Turns.{turnOf}
 use Rattle.cuts.specs.Histories.{Event, turns, merges, joins, ServedTurn, Phone, servedIn, turnInputOf, servedOf, afterServed, afterTurn}
 use Rattle.cuts.specs.Histories.{mergeInputOf, afterMerge, afterMerging, afterJoin, afterJoining, happens, history, fresh}
@@ -130,6 +130,6 @@ module _ (v : Survey) (plan : List ℕ) (merging : MergesLists (planOf plan .end
   own-from h (e ∷ es) o = own-from (happens v plan h e) es (happening h e o)
 
   -- from a fresh opening, with no premise
-  pub own-way : (o : Opened) (es : List Event) → OwnWay plan (history v plan (fresh o) es)
+  pub own-way : (o : WordsResult) (es : List Event) → OwnWay plan (history v plan (fresh o) es)
   unfolding given turnsAlong
   own-way o es = own-from (fresh o) es (record { way = empty; turns = numbers-none; gives = refl })

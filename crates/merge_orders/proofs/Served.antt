@@ -16,8 +16,8 @@ use Rattle.words.proofs.Testing.{none-some, some-injective}
 use Rattle.plans.specs.Conditions.{next}
 use Rattle.plans.specs.Plans.{planOf}
 use Rattle.lists.specs.Gathering.{merged, listRight, keptRight, totalsFit}
-use Rattle.merges.specs.Merging.{MergeInput, mergeOf}
-use Rattle.merges.specs.Refusals.{Merges}
+use Rattle.calls.specs.Calls.{NotRefused}
+use Rattle.merges.specs.Merging.{MergeInput, mergeSchema, mergeOf}
 use Rattle.merges.proofs.Refusals.{merge-passed}
 use Rattle.merges.proofs.Writes.{merge-writes}
 use Rattle.merge_orders.specs.Ways.{inputOf, writtenIn, mergedBy}
@@ -34,10 +34,10 @@ merged-given plan kept behind list a e = go (mergeOf i .answer) refl e
     go (Refused x) f h = absurd (none-some h)
     go (Words n) f h =
         let j = inputOf plan kept behind list in
-        let serve : Merges j = λ y g. let z : _≡_ {A = ℕ} 0 1 = cc in omega arith in
+        let serve : NotRefused mergeSchema j = λ y g. let z : _≡_ {A = ℕ} 0 1 = cc in omega arith in
         sym (some-injective h)
-        ∙ ap (λ w. take (wordsIn w) (mergeOf j .kept)) (sym f)
-        ∙ merge-writes j serve .kept .front
+        ∙ ap (λ w. take (wordsIn w) (mergeOf j .buffers)) (sym f)
+        ∙ merge-writes j serve .buffer .front
         ∙ ap (λ l. merged (planOf plan .ending) l list) (take-append-seam kept behind)
 
 pub next-some : {A B : Type 0} (o : Option A) (f : A → Option B) (b : B) → next o f ≡ some b → (a : A) × (o ≡ some a) × (f a ≡ some b)
@@ -56,7 +56,7 @@ served-passes plan kept behind list a e = go (mergeOf (inputOf plan kept behind 
     go (Refused x) f h = absurd (none-some h)
     go (Words n) f h =
         let j = inputOf plan kept behind list in
-        let serve : Merges j = λ y g. let z : _≡_ {A = ℕ} 0 1 = cc in omega arith in
+        let serve : NotRefused mergeSchema j = λ y g. let z : _≡_ {A = ℕ} 0 1 = cc in omega arith in
         let front = take-append-seam kept behind in
         let t = and-right (leb (j .given) (length (j .kept))) _ (merge-passed j 12 serve) in (
           ap (keptRight (planOf plan .ending)) (sym front)

@@ -9,7 +9,8 @@ use Rattle.words.specs.declared.Written.the-variants.{Words, Refused}
 use Rattle.sequences.specs.Sequences.{numbers}
 use Rattle.plans.specs.Conditions.{next}
 use Rattle.lists.specs.Gathering.{recordsIn}
-use Rattle.merges.specs.Merging.{MergeInput, MergeResult, mergeOf}
+use Rattle.calls.specs.Words.{WordsResult}
+use Rattle.merges.specs.Merging.{MergeInput, mergeOf}
 
 -- an empty kept list; the list of the turn with a number; or what one way gives, with these words behind it in its buffer, merged with what another
 -- gives
@@ -33,8 +34,8 @@ isMerge (into a behind b) = true
 abbrev pub inputOf : List ℕ → List ℕ → List ℕ → List ℕ → MergeInput
 inputOf plan kept behind list = record { plan = plan; kept = kept ++ behind; given = length kept; list = list }
 
-abbrev pub writtenIn : MergeResult → Written → Option (List ℕ)
-writtenIn r (Words n) = some (take n (r .kept))
+abbrev pub writtenIn : WordsResult → Written → Option (List ℕ)
+writtenIn r (Words n) = some (take n (r .buffers))
 writtenIn r (Refused x) = none
 
 abbrev pub mergedBy : List ℕ → List ℕ → List ℕ → List ℕ → Option (List ℕ)

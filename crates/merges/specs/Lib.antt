@@ -1,3 +1,1 @@
 pub mod Merging
-pub mod Refusals
-pub mod Computing

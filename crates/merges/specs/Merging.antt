@@ -2,13 +2,12 @@
 use Prim.Native.Nat.{ℕ}
 use mathlib.Core.List.{List, [], _∷_, _++_}
 use mathlib.Core.Bool.{_&&_}
-use mathlib.Core.Option.{Option, none, some}
 use lib.ListN.{length, take}
 use lib.Dec.{leb}
 use Rattle.words.specs.declared.Written.{Written}
-use Rattle.words.specs.declared.Written.the-variants.{Words, Refused}
-use Rattle.sequences.specs.Sequences.{over}
-use Rattle.words.specs.Tests.{Test, firstFailing}
+use Rattle.words.specs.Tests.{Test}
+use Rattle.calls.specs.Calls.{CallSchema, resultOfCall}
+use Rattle.calls.specs.Words.{WordsResult, writesWords}
 use Rattle.plans.specs.Endings.{Ending}
 use Rattle.plans.specs.Plans.{planOf, planTests}
 use Rattle.lists.specs.Gathering.{keptRight, listRight, totalsFit, merged}
@@ -45,18 +44,9 @@ listTests i =
 abbrev pub mergeTests : MergeInput → List Test
 mergeTests i = planTests (i .plan) ++ listTests i
 
--- ---- what a merge answers, and what it leaves
-pub record MergeResult : Type 0 where
-  pub answer : Written
-  pub kept : List ℕ
+-- ---- the call
+abbrev pub mergeSchema : CallSchema MergeInput Written Written (List ℕ) ℕ
+mergeSchema = writesWords mergeTests (5 ∷ 6 ∷ 23 ∷ 12 ∷ 13 ∷ 14 ∷ []) (λ i. i .kept) mergedWords
 
-abbrev pub mergedWith : List ℕ → List ℕ → MergeResult
-mergedWith ws kept = record { answer = Words (length ws); kept = over ws kept }
-
--- a refusal changes nothing
-abbrev pub mergedAs : MergeInput → Option ℕ → MergeResult
-mergedAs i (some n) = record { answer = Refused n; kept = i .kept }
-mergedAs i none = mergedWith (mergedWords i) (i .kept)
-
-unfoldable pub mergeOf : MergeInput → MergeResult
-mergeOf i = mergedAs i (firstFailing (mergeTests i))
+abbrev pub mergeOf : MergeInput → WordsResult
+mergeOf = resultOfCall mergeSchema

@@ -15,7 +15,7 @@ use Rattle.turns.specs.Surveys.{Survey}
 use Rattle.turns.specs.declared.TurnEnding.{TurnEnding}
 use Rattle.turns.specs.declared.TurnEnding.the-variants as ending
 use Rattle.turns.specs.Turns.{isDone, TurnInput, turnOf}
-use Rattle.merges.specs.Merging.{MergeResult}
+use Rattle.calls.specs.Words.{WordsResult}
 use Rattle.cuts.specs.Histories.{Phone, ServedTurn, stepsIn, servedOf}
 use Rattle.cuts.specs.Uncut.{runFits}
 use Rattle.cuts.specs.Accepting.{Accepted}
@@ -52,7 +52,7 @@ module _ (keep : Keeping) (v : Survey) (plan : List ℕ) (a : Accepted (v .table
     abbrev n : ℕ
     n = stepsIn (u .held .taken)
 
-    abbrev m : MergeResult
+    abbrev m : WordsResult
     m = takenBy keep i (turnOf i) kept used
 
     abbrev x : ServedTurn
@@ -71,14 +71,14 @@ module _ (keep : Keeping) (v : Survey) (plan : List ℕ) (a : Accepted (v .table
         (p .1) (p .0)
 
     -- the list of a turn is taken: the query goes on, or is over
-    module _ (e : TurnEnding) (f : turnOf i .answer .ending ≡ e) (s : isServed e ≡ true) (words : ℕ) (p : Taken (m .kept) (written.Words words)) where
+    module _ (e : TurnEnding) (f : turnOf i .answer .ending ≡ e) (s : isServed e ≡ true) (words : ℕ) (p : Taken (m .buffers) (written.Words words)) where
       made-then : Turns t plan quantum (length output) (count + 1) (stepsIn (p .0 .held .taken))
       made-then =
           subst⁻¹ (Turns t plan quantum (length output) (count + 1)) (p .2)
           (taking.made-more keep v plan a first k before quantum count output state saved kept used g (ap isServed f ∙ s)
           (ap (λ j. runFits (q .ending) (after t q j)) (sym (p .2)) ∙ p .0 .fits))
 
-      goes : isDone e ≡ false → Then (turnOf i .state) (m .kept) (On (turnOf i .answer .saved) words)
+      goes : isDone e ≡ false → Then (turnOf i .state) (m .buffers) (On (turnOf i .answer .saved) words)
       goes d =
           record {
             under = p .0;
@@ -86,7 +86,7 @@ module _ (keep : Keeping) (v : Survey) (plan : List ℕ) (a : Accepted (v .table
             made = made-then;
           }
 
-      over-then : isDone e ≡ true → Then (turnOf i .state) (m .kept) (Over words)
+      over-then : isDone e ≡ true → Then (turnOf i .state) (m .buffers) (Over words)
       over-then d =
           record {
             count = count + 1;
@@ -97,16 +97,16 @@ module _ (keep : Keeping) (v : Survey) (plan : List ℕ) (a : Accepted (v .table
             list = leaving.holds keep v plan a first k before (count + 1) _ _ _ words (p .0);
           }
 
-    by-taking : (e : TurnEnding) → turnOf i .answer .ending ≡ e → isServed e ≡ true → (w : Written) → Taken (m .kept) w
-        → Then (turnOf i .state) (m .kept) (wentAs e (turnOf i .answer .saved) w)
-    by-taking e f s (written.Refused y) p = stopped y (m .kept) p
+    by-taking : (e : TurnEnding) → turnOf i .answer .ending ≡ e → isServed e ≡ true → (w : Written) → Taken (m .buffers) w
+        → Then (turnOf i .state) (m .buffers) (wentAs e (turnOf i .answer .saved) w)
+    by-taking e f s (written.Refused y) p = stopped y (m .buffers) p
     by-taking ending.Done f s (written.Words words) p = over-then ending.Done f s words p refl
     by-taking ending.Spent f s (written.Words words) p = goes ending.Spent f s words p refl
     by-taking ending.Full f s (written.Words words) p = goes ending.Full f s words p refl
     by-taking (ending.Refused y) f s (written.Words words) p = absurd-true s refl
 
     module _ (e : TurnEnding) (f : turnOf i .answer .ending ≡ e) where
-      served-becomes : isServed e ≡ true → Then (turnOf i .state) (m .kept) (wentAs e (turnOf i .answer .saved) (m .answer))
+      served-becomes : isServed e ≡ true → Then (turnOf i .state) (m .buffers) (wentAs e (turnOf i .answer .saved) (m .answer))
       served-becomes s = by-taking e f s (m .answer)
           (taking.list-taken keep v plan a first k before quantum count output state saved kept used g (ap isServed f ∙ s))
 
@@ -119,12 +119,12 @@ module _ (keep : Keeping) (v : Survey) (plan : List ℕ) (a : Accepted (v .table
         turn-stopped i a (advancing.given-passed keep v plan a first k before count state saved kept used u quantum output (g .alive)) (u .state-room)
         refl keep before n y f
 
-    by-ending : (e : TurnEnding) → turnOf i .answer .ending ≡ e → Then (turnOf i .state) (m .kept) (wentAs e (turnOf i .answer .saved) (m .answer))
+    by-ending : (e : TurnEnding) → turnOf i .answer .ending ≡ e → Then (turnOf i .state) (m .buffers) (wentAs e (turnOf i .answer .saved) (m .answer))
     by-ending ending.Done f = served-becomes ending.Done f refl
     by-ending ending.Spent f = served-becomes ending.Spent f refl
     by-ending ending.Full f = served-becomes ending.Full f refl
     by-ending (ending.Refused y) f =
-        subst⁻¹ (λ (r : MergeResult). Then (turnOf i .state) (r .kept) (wentAs (ending.Refused y) (turnOf i .answer .saved) (r .answer)))
+        subst⁻¹ (λ (r : WordsResult). Then (turnOf i .state) (r .buffers) (wentAs (ending.Refused y) (turnOf i .answer .saved) (r .answer)))
         (not-taken (ending.Refused y) f refl) (stopped y kept (refl, turn-cause y f))
 
     pub becomes : Then (takeTurnOf keep i kept used .state) (takeTurnOf keep i kept used .kept) (wentOf (takeTurnOf keep i kept used .answer))

@@ -17,7 +17,8 @@ use Rattle.plans.specs.Plans.{Plan, planOf}
 use Rattle.steps.specs.Steps.{after}
 use Rattle.turns.specs.Surveys.{Survey}
 use Rattle.turns.specs.Turns.{isDone, TurnInput, turnOf}
-use Rattle.merges.specs.Merging.{MergeInput, MergeResult, mergeOf}
+use Rattle.calls.specs.Words.{WordsResult}
+use Rattle.merges.specs.Merging.{MergeInput, mergeOf}
 use Rattle.merges.proofs.Refusals as refusals
 use Rattle.merges.proofs.Writes.{merge-writes}
 use Rattle.cuts.specs.Histories.{merges, joins, Phone, ServedTurn, servedIn, stepsIn, doneIn, servedOf, mergeInputOf, afterServed, afterTaking}
@@ -72,7 +73,7 @@ module _ (keep : Keeping) (v : Survey) (plan : List ℕ) (a : Accepted (v .table
     abbrev n : ℕ
     n = stepsIn (u .held .taken)
 
-    abbrev m : MergeResult
+    abbrev m : WordsResult
     m = takenBy keep i (turnOf i) kept used
 
     abbrev x : ServedTurn
@@ -153,7 +154,7 @@ module _ (keep : Keeping) (v : Survey) (plan : List ℕ) (a : Accepted (v .table
           both-length = omega (arith, length-append (u .held .kept) (x .list), u .words, ap length (all-kept f (u .held .kept)))
 
           by-join : (b : Bool) → leb (used + length (x .list)) (length kept) ≡ b
-              → TakenAs (joinOf kept used (x .list) .kept) (joinOf kept used (x .list) .answer)
+              → TakenAs (joinOf kept used (x .list) .buffers) (joinOf kept used (x .list) .answer)
           by-join false l =
               let short = leb-false (used + length (x .list)) (length kept) l in
               rw l (
@@ -174,12 +175,12 @@ module _ (keep : Keeping) (v : Survey) (plan : List ℕ) (a : Accepted (v .table
             joined-goes kept used (ap (λ l. over l kept) none) (u .words ∙ ap length (none-kept f (u .held .kept) ∙ none))
             (omega (arith, kept-length, u .room))
 
-        by-keeping : (d : Keeping) → keep ≡ d → TakenAs (rowsTaken d kept used (x .list) .kept) (rowsTaken d kept used (x .list) .answer)
+        by-keeping : (d : Keeping) → keep ≡ d → TakenAs (rowsTaken d kept used (x .list) .buffers) (rowsTaken d kept used (x .list) .answer)
         by-keeping All f = by-join (ap (λ d. keeps d (q .ending)) f) (leb (used + length (x .list)) (length kept)) refl
         by-keeping Merged f = by-leaving (ap₂ keeps f e)
 
-        by-rows : TakenAs (m .kept) (m .answer)
-        by-rows = subst⁻¹ (λ (r : MergeResult). TakenAs (r .kept) (r .answer)) taken-is (by-keeping keep refl)
+        by-rows : TakenAs (m .buffers) (m .answer)
+        by-rows = subst⁻¹ (λ (r : WordsResult). TakenAs (r .buffers) (r .answer)) taken-is (by-keeping keep refl)
 
       -- any other is merged
       module _ (others : MergesLists (q .ending)) (not-rows : isRows (q .ending) ≡ false) where
@@ -202,7 +203,7 @@ module _ (keep : Keeping) (v : Survey) (plan : List ℕ) (a : Accepted (v .table
         merged-is = ap₂ (λ b d. cond b (cond d (rowsTaken keep kept used (x .list)) (mergeOf j)) (leftAsIs kept used)) served not-rows
 
         merges-made : (words : ℕ) → mergeOf j .answer ≡ written.Words words
-            → happens v plan turned (merges (drop used kept)) ≡ afterTaking turned x [] (take words (mergeOf j .kept))
+            → happens v plan turned (merges (drop used kept)) ≡ afterTaking turned x [] (take words (mergeOf j .buffers))
         unfolding happens
         merges-made words e =
             ap (afterMerging plan turned (drop used kept)) one-waits
@@ -216,32 +217,32 @@ module _ (keep : Keeping) (v : Survey) (plan : List ℕ) (a : Accepted (v .table
             (merging.merge-refused v plan a turned turned-keeps others x [] one-waits (drop used kept) y
             (ap (λ d. mergeOf d .answer) same-input ∙ e)))
 
-        by-answer : (w : Written) → mergeOf j .answer ≡ w → TakenAs (mergeOf j .kept) w
+        by-answer : (w : Written) → mergeOf j .answer ≡ w → TakenAs (mergeOf j .buffers) w
         by-answer (written.Refused y) e = (
-          refusals.merge-refusals j .unchanged y e .buffer,
+          refusals.merge-refusals j .unchanged y e .buffers,
           left-list (merged-kept keep (q .ending) not-rows) y (not-taken-for y e),
         )
         by-answer (written.Words words) e =
             let w = merge-writes j (λ y f. let z : _≡_ {A = ℕ} 0 1 = cc in omega arith) in
             let count-is : wordsIn (mergeOf j .answer) ≡ words = ap wordsIn e in
-            let list = take words (mergeOf j .kept) in
+            let list = take words (mergeOf j .buffers) in
             let fits = ap (λ m. runFits (q .ending) (after t q m)) (sym ends-at)
             ∙ merging.merge-fits v plan a turned turned-keeps others x [] one-waits (drop used kept) words
             (ap (λ d. mergeOf d .answer) same-input ∙ e) in
-            let front : list ≡ _ = ap (λ d. take d (mergeOf j .kept)) (sym count-is) ∙ w .kept .front in
+            let front : list ≡ _ = ap (λ d. take d (mergeOf j .buffers)) (sym count-is) ∙ w .buffer .front in
             let all = sym (kept-all list) in
             advancing.goes-on keep v plan a first k before count state saved kept used u quantum output served (merges (drop used kept)) tt list
-            (merges-made words e) fits (mergeOf j .kept) words (w .kept .whole ∙ ap (λ l. over l kept) (sym front ∙ all))
-            (sym count-is ∙ w .kept .counted ∙ ap length (sym front ∙ all)) (omega (arith, w .room, count-is)) (g .alive)
+            (merges-made words e) fits (mergeOf j .buffers) words (w .buffer .whole ∙ ap (λ l. over l kept) (sym front ∙ all))
+            (sym count-is ∙ w .buffer .counted ∙ ap length (sym front ∙ all)) (omega (arith, w .room, count-is)) (g .alive)
 
-        by-others : TakenAs (m .kept) (m .answer)
-        by-others = subst⁻¹ (λ (r : MergeResult). TakenAs (r .kept) (r .answer)) merged-is (by-answer (mergeOf j .answer) refl)
+        by-others : TakenAs (m .buffers) (m .answer)
+        by-others = subst⁻¹ (λ (r : WordsResult). TakenAs (r .buffers) (r .answer)) merged-is (by-answer (mergeOf j .answer) refl)
 
-      by-plan : (e : Ending) → q .ending ≡ e → TakenAs (m .kept) (m .answer)
+      by-plan : (e : Ending) → q .ending ≡ e → TakenAs (m .buffers) (m .answer)
       by-plan (rows vs) e = by-rows vs e
       by-plan (top n vs keys) e = by-others (subst⁻¹ MergesLists e tt) (ap isRows e)
       by-plan (group vs n) e = by-others (subst⁻¹ MergesLists e tt) (ap isRows e)
       by-plan (registers y) e = by-others (subst⁻¹ MergesLists e tt) (ap isRows e)
 
-      pub list-taken : TakenAs (m .kept) (m .answer)
+      pub list-taken : TakenAs (m .buffers) (m .answer)
       list-taken = by-plan (q .ending) refl

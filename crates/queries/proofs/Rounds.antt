@@ -79,7 +79,7 @@ module _ (keep : Keeping) (v : Survey) (plan : List ℕ) (quantum : ℕ) (p : Qu
 
 -- ---- a play, from what its opening answers and leaves
 module _ (keep : Keeping) (v : Survey) (plan : List ℕ) (quantum most : ℕ) (lent : Lent) (w : Written) (state : List ℕ)
-    (answer : w ≡ openOf v plan (lent .state) .answer) (left : state ≡ openOf v plan (lent .state) .state) where
+    (answer : w ≡ openOf v plan (lent .state) .answer) (left : state ≡ openOf v plan (lent .state) .buffers) where
   abbrev opened : Lent
   opened = record { state = state; output = lent .output; kept = lent .kept }
 

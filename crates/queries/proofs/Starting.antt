@@ -21,7 +21,7 @@ use Rattle.lists.specs.Groups.{addAllBy, groupsOf}
 use Rattle.lists.specs.Gathering.{groupFits}
 use Rattle.turns.specs.Surveys.{Survey}
 use Rattle.turns.specs.Opening.{openOf, Opens}
-use Rattle.turns.proofs.Refusals.{open-refusals, open-passed}
+use Rattle.turns.proofs.Opening.{open-refusals, open-passed}
 use Rattle.turns.proofs.Follows.{starts-run}
 use Rattle.cuts.specs.Histories.{stepsIn, doneIn, history, fresh}
 use Rattle.cuts.specs.Uncut.{runFits}
@@ -108,12 +108,12 @@ module _ (v : Survey) (plan lent : List ℕ) (r : Written) (answer : r ≡ openO
   pub opens : (n : ℕ) → r ≡ written.Words n → Opens v plan lent
   opens n e x f = let z : _≡_ {A = ℕ} 0 1 = cc in omega arith
 
-  pub started : (state : List ℕ) → state ≡ openOf v plan lent .state → (n : ℕ) → r ≡ written.Words n → Started v plan state n
+  pub started : (state : List ℕ) → state ≡ openOf v plan lent .buffers → (n : ℕ) → r ≡ written.Words n → Started v plan state n
   started state left n e = record { lent = lent; opens = opens n e; left = left; counted = ap wordsIn (sym e ∙ answer) }
 
-  pub not-opened : (state output kept : List ℕ) → state ≡ openOf v plan lent .state → (x : ℕ) → r ≡ written.Refused x
+  pub not-opened : (state output kept : List ℕ) → state ≡ openOf v plan lent .buffers → (x : ℕ) → r ≡ written.Refused x
       → OpeningRefused v plan (record { state = lent; output = output; kept = kept }) (record { state = state; output = output; kept = kept }) x
   not-opened state output kept left x e =
       let f = sym answer ∙ e in
-      let same = left ∙ open-refusals v plan lent .unchanged x f .buffer in
+      let same = left ∙ open-refusals v plan lent .unchanged x f .buffers in
       record { refused = f; unchanged = ap (λ l. record { state = l; output = output; kept = kept }) same }

@@ -23,7 +23,7 @@ use Rattle.turns.specs.Refusals.{Served}
 use Rattle.turns.proofs.Refusals as refusals
 use Rattle.turns.proofs.Follows.{follows}
 use Rattle.turns.proofs.OnTheRun.{keeps-lengths}
-use Rattle.merges.specs.Merging.{MergeResult}
+use Rattle.calls.specs.Words.{WordsResult}
 use Rattle.queries.specs.declared.Step.{Step}
 use Rattle.queries.specs.declared.Keeping.{Keeping}
 use Rattle.lists.specs.Gathering.{isRows}
@@ -81,10 +81,10 @@ output-kept i (ending.Refused x) p = ap length (refusals.turn-refusals i .unchan
 module _ (keep : Keeping) (i : TurnInput) (kept : List ℕ) (used : ℕ) where
   module _ (r : Turned) (state out : List ℕ) (er : r ≡ turnOf i .answer) (es : state ≡ turnOf i .state) (eo : out ≡ turnOf i .output) where
     -- the buffers are those of the turn
-    as-turned : (m : MergeResult) → steppedAs (record { answer = r; state = state; output = out }) m ≡ steppedAs (turnOf i) m
+    as-turned : (m : WordsResult) → steppedAs (record { answer = r; state = state; output = out }) m ≡ steppedAs (turnOf i) m
     as-turned m = rw (er, es, eo)
 
-    pub list-taken : (m : MergeResult) → isServed (r .ending) ≡ true → m ≡ listTaken keep (i .plan) kept used (take (r .listed) out)
+    pub list-taken : (m : WordsResult) → isServed (r .ending) ≡ true → m ≡ listTaken keep (i .plan) kept used (take (r .listed) out)
         → steppedAs (record { answer = r; state = state; output = out }) m ≡ takeTurnOf keep i kept used
     unfolding takeTurnOf
     list-taken m h f =
@@ -115,13 +115,13 @@ module _ (keep : Keeping) (i : TurnInput) (kept : List ℕ) (used : ℕ) where
 
 -- ---- joining
 module _ (kept : List ℕ) (used : ℕ) (list : List ℕ) where
-  pub no-room : length kept < used + length list → record { answer = written.Refused 14; kept = kept } ≡ joinOf kept used list
+  pub no-room : length kept < used + length list → record { answer = written.Refused 14; buffers = kept } ≡ joinOf kept used list
   no-room h =
       let g : leb (used + length list) (length kept) ≡ false = lt-leb (used + length list) (length kept) (omega arith) in
       rw g
 
   pub joined : used + length list ≤ length kept
-      → record { answer = written.Words (used + length list); kept = paste kept used list (length list) } ≡ joinOf kept used list
+      → record { answer = written.Words (used + length list); buffers = paste kept used list (length list) } ≡ joinOf kept used list
   joined h =
       let g : leb (used + length list) (length kept) ≡ true = le-leb (used + length list) (length kept) (omega arith) in
       let n : length (take used kept ++ list) ≡ used + length list =

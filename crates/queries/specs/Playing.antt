@@ -171,5 +171,5 @@ pub record IsWhole (keep : Keeping) (t : Tables) (plan list : List ℕ) : Type 0
 pub record Started (v : Survey) (plan state : List ℕ) (saved : ℕ) : Type 0 where
   pub lent : List ℕ
   pub opens : Opens v plan lent
-  pub left : state ≡ openOf v plan lent .state
+  pub left : state ≡ openOf v plan lent .buffers
   pub counted : saved ≡ wordsIn (openOf v plan lent .answer)

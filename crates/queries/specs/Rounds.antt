@@ -76,7 +76,7 @@ playedAs keep v plan quantum most (written.Refused x) l = record { answer = play
 
 -- the opening of a state buffer, the other buffers as they were
 abbrev pub afterOpening : Survey → List ℕ → Lent → Lent
-afterOpening v plan l = record { state = openOf v plan (l .state) .state; output = l .output; kept = l .kept }
+afterOpening v plan l = record { state = openOf v plan (l .state) .buffers; output = l .output; kept = l .kept }
 
 unfoldable pub playOf : Keeping → Survey → List ℕ → ℕ → ℕ → Lent → PlayResult
 playOf keep v plan quantum most l = playedAs keep v plan quantum most (openOf v plan (l .state) .answer) (afterOpening v plan l)

@@ -13,7 +13,8 @@ use Rattle.lists.specs.Gathering.{isRows}
 use Rattle.turns.specs.declared.TurnEnding.{TurnEnding}
 use Rattle.turns.specs.declared.TurnEnding.the-variants as ending
 use Rattle.turns.specs.Turns.{TurnInput, TurnResult, turnOf}
-use Rattle.merges.specs.Merging.{MergeResult, mergeOf}
+use Rattle.calls.specs.Words.{WordsResult}
+use Rattle.merges.specs.Merging.{mergeOf}
 use Rattle.queries.specs.declared.Keeping.{Keeping}
 use Rattle.queries.specs.declared.Keeping.the-variants.{All, Merged}
 use Rattle.queries.specs.declared.Step.{Step}
@@ -38,21 +39,21 @@ keptOf keep e list = cond (keeps keep e) list []
 
 -- ---- a list taken
 -- rows joined behind the kept ones, which are the first words of their buffer: refused by 14 where it has no room
-abbrev pub joinOf : List ℕ → ℕ → List ℕ → MergeResult
+abbrev pub joinOf : List ℕ → ℕ → List ℕ → WordsResult
 joinOf kept used list =
-    cond (leb (used + length list) (length kept)) (record { answer = written.Words (used + length list); kept = over (take used kept ++ list) kept })
-    (record { answer = written.Refused 14; kept = kept })
+    cond (leb (used + length list) (length kept)) (record { answer = written.Words (used + length list); buffers = over (take used kept ++ list) kept })
+    (record { answer = written.Refused 14; buffers = kept })
 
 -- nothing is taken: the kept list is as it was
-abbrev pub leftAsIs : List ℕ → ℕ → MergeResult
-leftAsIs kept used = record { answer = written.Words used; kept = kept }
+abbrev pub leftAsIs : List ℕ → ℕ → WordsResult
+leftAsIs kept used = record { answer = written.Words used; buffers = kept }
 
-abbrev pub rowsTaken : Keeping → List ℕ → ℕ → List ℕ → MergeResult
+abbrev pub rowsTaken : Keeping → List ℕ → ℕ → List ℕ → WordsResult
 rowsTaken All kept used list = joinOf kept used list
 rowsTaken Merged kept used list = leftAsIs kept used
 
 -- the list of a row query is joined or left, any other is merged
-abbrev pub listTaken : Keeping → List ℕ → List ℕ → ℕ → List ℕ → MergeResult
+abbrev pub listTaken : Keeping → List ℕ → List ℕ → ℕ → List ℕ → WordsResult
 listTaken keep plan kept used list =
     cond (isRows (planOf plan .ending)) (rowsTaken keep kept used list) (mergeOf (record { plan = plan; kept = kept; given = used; list = list }))
 
@@ -64,16 +65,16 @@ pub record Stepped : Type 0 where
   pub output : List ℕ
   pub kept : List ℕ
 
-abbrev pub steppedAs : TurnResult → MergeResult → Stepped
+abbrev pub steppedAs : TurnResult → WordsResult → Stepped
 steppedAs r m =
-    record { answer = record { turned = r .answer; taken = m .answer }; state = r .state; output = r .output; kept = m .kept }
+    record { answer = record { turned = r .answer; taken = m .answer }; state = r .state; output = r .output; kept = m .buffers }
 
 -- the list that a turn leaves in its output
 abbrev pub outputList : TurnResult → List ℕ
 outputList r = take (r .answer .listed) (r .output)
 
 -- of a turn that was served its list is taken, of any other nothing
-abbrev pub takenBy : Keeping → TurnInput → TurnResult → List ℕ → ℕ → MergeResult
+abbrev pub takenBy : Keeping → TurnInput → TurnResult → List ℕ → ℕ → WordsResult
 takenBy keep i r kept used = cond (isServed (r .answer .ending)) (listTaken keep (i .plan) kept used (outputList r)) (leftAsIs kept used)
 
 -- a turn, and its list taken

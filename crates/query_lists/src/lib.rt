@@ -27,7 +27,7 @@ fn is_rows(plan: &[u32]) -> bool
 
 // Joins the rows of `list` behind the first `used` words of `kept`, or refuses where there is no room for them.
 fn join(kept: &mut [u32], used: usize, list: &[u32]) -> Written
-    ensures { λ r. ⌜ record { answer = r; kept = now (kept .exit) } ≡ joinOf (now (kept .entry)) used (now (list .entry)) ⌝ }
+    ensures { λ r. ⌜ record { answer = r; buffers = now (kept .exit) } ≡ joinOf (now (kept .entry)) used (now (list .entry)) ⌝ }
 {
     if kept.len() < used {
         return Written::Refused(ROOM);
@@ -41,7 +41,7 @@ fn join(kept: &mut [u32], used: usize, list: &[u32]) -> Written
 
 // Takes `list`, a turn's rows: joined behind the first `used` words of `kept` where all lists are kept, else left in the output.
 fn take_rows(kept: &mut [u32], used: usize, list: &[u32], keeping: Keeping) -> Written
-    ensures { λ r. ⌜ record { answer = r; kept = now (kept .exit) } ≡ rowsTaken keeping (now (kept .entry)) used (now (list .entry)) ⌝ }
+    ensures { λ r. ⌜ record { answer = r; buffers = now (kept .exit) } ≡ rowsTaken keeping (now (kept .entry)) used (now (list .entry)) ⌝ }
 {
     match keeping {
         Keeping::All => join(kept, used, list),
@@ -58,7 +58,7 @@ pub fn take_list(
     keeping: Keeping,
 ) -> Written
     requires { ⌜ hasForm (readPlan (now plan)) ≡ true ⌝ }
-    ensures { λ r. ⌜ record { answer = r; kept = now (kept .exit) }
+    ensures { λ r. ⌜ record { answer = r; buffers = now (kept .exit) }
         ≡ listTaken keeping (now (plan .entry)) (now (kept .entry)) used (now (list .entry)) ⌝ }
 {
     if is_rows(plan) {

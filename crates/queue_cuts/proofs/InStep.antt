@@ -19,7 +19,8 @@ use Rattle.turns.specs.declared.TurnEnding.{TurnEnding}
 use Rattle.turns.specs.declared.TurnEnding.the-variants as ending
 use Rattle.turns.specs.Turns.{TurnInput, TurnResult, turnOf}
 use Rattle.turns.proofs.Follows.{follows}
-use Rattle.merges.specs.Merging.{MergeResult, mergeOf}
+use Rattle.calls.specs.Words.{WordsResult}
+use Rattle.merges.specs.Merging.{mergeOf}
 use Rattle.cuts.specs.Histories.{Event, merges, joins, Phone, ServedTurn, servedIn, turnInputOf, servedOf, afterServed, afterTurn}
 use Rattle.cuts.specs.Histories.{afterTaking, mergeInputOf, afterMerge, afterJoin, afterMerging, afterJoining, happens, history}
 use Rattle.cuts.proofs.Keeping.{served-more}
@@ -356,9 +357,9 @@ module _ (v : Survey) (owner : ℕ) (plan : List ℕ) where
   unfolding happens
   merge-unmoved h behind = by-waiting (h .waiting) refl
     where
-      by-answer : (x : ServedTurn) (rest : List ServedTurn) → h .waiting ≡ x ∷ rest → (y : MergeResult) (a : Written)
+      by-answer : (x : ServedTurn) (rest : List ServedTurn) → h .waiting ≡ x ∷ rest → (y : WordsResult) (a : Written)
           → Unmoved h (afterMerge h x rest y a)
-      by-answer x rest e y (written.Words n) = taking h x rest (take n (y .kept)) e
+      by-answer x rest e y (written.Words n) = taking h x rest (take n (y .buffers)) e
       by-answer x rest e y (written.Refused n) = record { saved = refl; served = refl }
 
       by-waiting : (xs : List ServedTurn) → h .waiting ≡ xs → Unmoved h (afterMerging plan h behind xs)

@@ -12,7 +12,9 @@ use Rattle.sequences.specs.Sequences.{all, over}
 use Rattle.words.specs.Tests.{firstFailing}
 use Rattle.sequences.proofs.Booleans.{and-left}
 use Rattle.registers.specs.Registers.{registerCount, isRank, areRegisters, keptRegisters, reportOn}
-use Rattle.registers.specs.Reporting.{ReportResult, reportInput, reportWords, reportOf}
+use Rattle.calls.specs.Calls.{resultOfCall}
+use Rattle.calls.specs.Words.{WordsResult}
+use Rattle.register_reports.specs.Reporting.{reportInput, reportWords, reportOf}
 use Rattle.registers.proofs.Reports.{report-length}
 
 -- a kept list that passes test 12 has at most 16 words
@@ -23,30 +25,30 @@ kept-short ws h = go (eqb (length ws) 0) refl h
     go true p e = omega (arith, eqb-true (length ws) 0 p)
     go false p e = omega (arith, eqb-true (length ws) registerCount (and-left (eqb (length ws) registerCount) (all isRank ws) e))
 
-abbrev answered : ℕ → List ℕ → ReportResult
-answered n ws = record { answer = Words n; report = ws }
+abbrev answered : ℕ → List ℕ → WordsResult
+answered n ws = record { answer = Words n; buffers = ws }
 
 module _ (kept : List ℕ) (given : ℕ) (report : List ℕ) where
-  pub no-room : length report < reportWords → record { answer = Refused 7; report = report } ≡ reportOf (reportInput kept given report)
-  unfolding reportOf firstFailing
+  pub no-room : length report < reportWords → record { answer = Refused 7; buffers = report } ≡ reportOf (reportInput kept given report)
+  unfolding resultOfCall firstFailing
   no-room h = rw (lt-leb reportWords (length report) h)
 
   module _ (room : reportWords ≤ length report) where
-    pub given-long : length kept < given → record { answer = Refused 12; report = report } ≡ reportOf (reportInput kept given report)
-    unfolding reportOf firstFailing
+    pub given-long : length kept < given → record { answer = Refused 12; buffers = report } ≡ reportOf (reportInput kept given report)
+    unfolding resultOfCall firstFailing
     given-long h = rw (le-leb reportWords (length report) room, lt-leb given (length kept) h)
 
     module _ (there : given ≤ length kept) where
       pub no-registers : keptRegisters (take given kept) ≡ false
-          → record { answer = Refused 12; report = report } ≡ reportOf (reportInput kept given report)
-      unfolding reportOf firstFailing
+          → record { answer = Refused 12; buffers = report } ≡ reportOf (reportInput kept given report)
+      unfolding resultOfCall firstFailing
       no-registers h = rw (le-leb reportWords (length report) room, le-leb given (length kept) there, h)
 
       pub counts-written : {after : List ℕ} → keptRegisters (take given kept) ≡ true → after ≡ over (reportOn (take given kept)) report
-          → record { answer = Words reportWords; report = after } ≡ reportOf (reportInput kept given report)
-      unfolding reportOf firstFailing
+          → record { answer = Words reportWords; buffers = after } ≡ reportOf (reportInput kept given report)
+      unfolding resultOfCall firstFailing
       counts-written {after} h e =
-          let said : _≡_ {A = ReportResult} (answered reportWords after)
+          let said : _≡_ {A = WordsResult} (answered reportWords after)
           (answered (length (reportOn (take given kept))) (over (reportOn (take given kept)) report)) =
           ap₂ answered (sym (report-length (take given kept))) e in
           said ∙ rw (le-leb reportWords (length report) room, le-leb given (length kept) there, h)

@@ -9,7 +9,7 @@ use Rattle.sequences.specs.Sequences.{numbers, over}
 use Rattle.sequences.proofs.Numbers.{numbers-none, numbers-next, numbers-length}
 use Rattle.sequences.proofs.Buffers.{over-next}
 use Rattle.registers.specs.Registers.{registersIn, countAt, reportOn}
-use Rattle.registers.specs.Reporting.{reportWords}
+use Rattle.register_reports.specs.Reporting.{reportWords}
 
 -- the counts at the values below n
 abbrev pub reported : List ℕ → ℕ → List ℕ

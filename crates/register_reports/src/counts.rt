@@ -6,7 +6,7 @@ ghost use mathlib.Core.List.{[]};
 ghost use lib.ListN.{length};
 ghost use Rattle.sequences.specs.Sequences.{over};
 ghost use Rattle.registers.specs.Registers.{registerCount, registersIn, countAt, reportOn};
-ghost use Rattle.registers.specs.Reporting.{reportWords};
+ghost use Rattle.register_reports.specs.Reporting.{reportWords};
 
 // The count of all registers.
 const ALL: u32 = 16;

@@ -5,8 +5,8 @@ use counts::write_counts;
 use list_registers::kept_registers;
 use words::Written;
 ghost use mathlib.Core.Path.{_≡_};
-ghost use Rattle.registers.specs.Reporting.{reportInput, reportOf};
-ghost use Rattle.registers.specs.Refusals.{ReportAnswers};
+ghost use Rattle.calls.specs.Calls.{AnswersRight};
+ghost use Rattle.register_reports.specs.Reporting.{reportInput, reportSchema, reportOf};
 
 // The tests of a report, by their numbers.
 pub const ROOM: u32 = 7;
@@ -19,9 +19,9 @@ pub const REPORT_WORDS: usize = 62;
 // Writes to `report` how many registers, in the first `given` words of `kept`, have each value from 0 to 61. It is refused by the number of the first test
 // that fails, and then nothing is written.
 pub fn report(kept: &[u32], given: usize, report: &mut [u32]) -> Written
-    ensures { λ r. ⌜ record { answer = r; report = now (report .exit) }
+    ensures { λ r. ⌜ record { answer = r; buffers = now (report .exit) }
         ≡ reportOf (reportInput (now (kept .entry)) given (now (report .entry))) ⌝ }
-    ensures number { λ r. ⌜ ReportAnswers (reportInput (now (kept .entry)) given (now (report .entry))) r ⌝ }
+    ensures number { λ r. ⌜ AnswersRight reportSchema (reportInput (now (kept .entry)) given (now (report .entry))) r ⌝ }
 {
     if report.len() < REPORT_WORDS {
         return Written::Refused(ROOM);

@@ -2,5 +2,3 @@ pub mod Merging
 pub mod Bounds
 pub mod Sets
 pub mod Reports
-pub mod Refusals
-pub mod Writes

@@ -1,4 +1,2 @@
 pub mod Registers
-pub mod Reporting
-pub mod Refusals
 pub mod Computing

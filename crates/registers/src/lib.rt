@@ -1,1 +1,1 @@
-// Sixteen registers of some values, their merging; a report on them, its tests in order, answer and buffer at exit. Definitions and laws, no code.
+// Sixteen registers of some values, their merging, and what a report counts of them: definitions and laws, no code.

@@ -22,7 +22,7 @@ ghost use Rattle.turns.specs.Surveys.{surveyOf};
 ghost use Rattle.turns.specs.Opening.{openOf};
 ghost use Rattle.turns.specs.Turns.{turnOf, turnInput};
 ghost use Rattle.merges.specs.Merging.{mergeInput, mergeOf};
-ghost use Rattle.registers.specs.Reporting.{reportInput, reportOf};
+ghost use Rattle.register_reports.specs.Reporting.{reportInput, reportOf};
 ghost use Rattle.list_limits.specs.PlanOutputs.{planOutput};
 ghost use Rattle.uploads.specs.Making.{makeInput, makeOf};
 ghost use Rattle.views.specs.Viewing.{viewInput, viewCallOf};
@@ -46,7 +46,7 @@ pub extern "C" fn sotjarn_open(
     ensures answer { λ r. ⌜ r ≡ writtenNumbers (openOf (surveyOf (now (rows .entry)) (now (pos .entry)) (now (osp .entry)) survey) (now (plan .entry))
         (now (state .entry)) .answer) ⌝ }
     ensures state { λ _. ⌜ now (state .exit)
-        ≡ openOf (surveyOf (now (rows .entry)) (now (pos .entry)) (now (osp .entry)) survey) (now (plan .entry)) (now (state .entry)) .state ⌝ }
+        ≡ openOf (surveyOf (now (rows .entry)) (now (pos .entry)) (now (osp .entry)) survey) (now (plan .entry)) (now (state .entry)) .buffers ⌝ }
 {
     written_numbers(turn_calls::open(rows, pos, osp, survey, plan, state))
 }
@@ -97,7 +97,7 @@ pub extern "C" fn sotjarn_merge(
     list: &[u32],
 ) -> WrittenNumbers
     ensures answer { λ r. ⌜ r ≡ writtenNumbers (mergeOf (mergeInput (now (plan .entry)) (now (kept .entry)) given (now (list .entry))) .answer) ⌝ }
-    ensures kept { λ _. ⌜ now (kept .exit) ≡ mergeOf (mergeInput (now (plan .entry)) (now (kept .entry)) given (now (list .entry))) .kept ⌝ }
+    ensures kept { λ _. ⌜ now (kept .exit) ≡ mergeOf (mergeInput (now (plan .entry)) (now (kept .entry)) given (now (list .entry))) .buffers ⌝ }
 {
     written_numbers(merge_calls::merge(plan, kept, given, list))
 }
@@ -106,7 +106,7 @@ pub extern "C" fn sotjarn_merge(
 #[no_mangle]
 pub extern "C" fn sotjarn_report(kept: &[u32], given: usize, report: &mut [u32]) -> WrittenNumbers
     ensures answer { λ r. ⌜ r ≡ writtenNumbers (reportOf (reportInput (now (kept .entry)) given (now (report .entry))) .answer) ⌝ }
-    ensures report { λ _. ⌜ now (report .exit) ≡ reportOf (reportInput (now (kept .entry)) given (now (report .entry))) .report ⌝ }
+    ensures report { λ _. ⌜ now (report .exit) ≡ reportOf (reportInput (now (kept .entry)) given (now (report .entry))) .buffers ⌝ }
 {
     written_numbers(register_reports::report(kept, given, report))
 }

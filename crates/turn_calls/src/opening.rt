@@ -5,9 +5,9 @@ use turn_tests::check;
 use words::Term;
 use words::Written;
 ghost use mathlib.Core.Path.{_≡_};
+ghost use Rattle.calls.specs.Calls.{AnswersRight};
 ghost use Rattle.turns.specs.Surveys.{surveyOf};
-ghost use Rattle.turns.specs.Opening.{openOf};
-ghost use Rattle.turns.specs.Refusals.{OpenAnswers};
+ghost use Rattle.turns.specs.Opening.{openInput, openSchema, openOf};
 
 // Writes the start state of a query to `state`, or refuses by the number of the first test that fails.
 pub fn open(
@@ -18,10 +18,10 @@ pub fn open(
     plan: &[u32],
     state: &mut [u32],
 ) -> Written
-    ensures { λ r. ⌜ record { answer = r; state = now (state .exit) }
+    ensures { λ r. ⌜ record { answer = r; buffers = now (state .exit) }
         ≡ openOf (surveyOf (now (rows .entry)) (now (pos .entry)) (now (osp .entry)) survey) (now (plan .entry)) (now (state .entry)) ⌝ }
-    ensures number { λ r. ⌜ OpenAnswers (surveyOf (now (rows .entry)) (now (pos .entry)) (now (osp .entry)) survey)
-        (now (plan .entry)) (now (state .entry)) r ⌝ }
+    ensures number { λ r. ⌜ AnswersRight openSchema (openInput (surveyOf (now (rows .entry)) (now (pos .entry)) (now (osp .entry)) survey)
+        (now (plan .entry)) (now (state .entry))) r ⌝ }
 {
     let number = check(rows, pos, osp, plan);
     if number != ACCEPTED {

@@ -5,10 +5,11 @@ use mathlib.Core.Path.{_≡_, refl, sym, _∙_, ap, subst⁻¹}
 use mathlib.Core.List.{List, []}
 use lib.ListN.{length}
 use borrow.Author.Tests.{leb-true}
-use Rattle.words.specs.Answers.{wordsIn}
 use Rattle.sequences.specs.Sequences.{iterate}
 use Rattle.sequences.specs.Buffers.{Overwritten}
 use Rattle.sequences.proofs.Buffers.{overwritten}
+use Rattle.calls.proofs.Refusals.{call-so}
+use Rattle.calls.proofs.Words.{words-over}
 use Rattle.steps.specs.Steps.{Run, after}
 use Rattle.steps.specs.Saved.{positionWords, upperWords, leastStateWords, savedWords}
 use Rattle.lists.specs.Gathering.{gathered}
@@ -16,13 +17,14 @@ use Rattle.lists.specs.Closing.{listAt}
 use Rattle.lists.proofs.OneRow.{none-fits}
 use Rattle.lists.proofs.Closing.{at-room}
 use Rattle.turns.specs.Surveys.{Survey}
-use Rattle.turns.specs.Opening.{Opened, startWords, Opens}
+use Rattle.turns.specs.Opening.{openInput, startWords, openSchema, openOf, Opens}
 use Rattle.turns.specs.Turns.{Progress, going, stopped, endingOf, stepsOf, leftOf, rowsOf, TurnInput, TurnResult, resultOf, givenPlan}
 use Rattle.turns.specs.Turns.{isOver, turnList, finished, served, turnOf}
 use Rattle.turns.specs.Refusals.{Served}
 use Rattle.turns.specs.Follows.{givenRun, turnRun, listOf, Follows, StartsRun}
 use Rattle.turns.proofs.Stepping.{has-room, served-attempts, done-over}
-use Rattle.turns.proofs.Refusals.{open-passed, opened-so, turned-so}
+use Rattle.turns.proofs.Opening.{open-is-right, open-passed}
+use Rattle.turns.proofs.Refusals.{turned-so}
 use Rattle.turns.proofs.Limits.{turn-limits}
 
 -- the result of some progress, by its parts
@@ -82,17 +84,9 @@ module _ (i : TurnInput) (serve : Served i) where
         room = subst⁻¹ (λ (r : TurnResult). r .answer .listed ≤ length (i .output)) served-result list-fits;
       }
 
--- ---- opening
--- test 7
-open-room : (v : Survey) (plan state : List ℕ) → Opens v plan state → leastStateWords ≤ length state
-open-room v plan state h = leb-true leastStateWords (length state) (open-passed v plan state 7 h)
-
+-- ---- opening, where test 7 sees to the room
 pub starts-run : (v : Survey) (plan state : List ℕ) → Opens v plan state → StartsRun v plan state
 unfolding after iterate positionWords upperWords
 starts-run v plan state h =
-    record {
-      buffer = subst⁻¹ (λ (r : Opened). Overwritten (startWords v plan) state (r .state) (wordsIn (r .answer)))
-          (opened-so v plan state h) (overwritten (startWords v plan) state);
-      room = subst⁻¹ (λ (r : Opened). wordsIn (r .answer) ≤ length state) (opened-so v plan state h)
-          (let l = open-room v plan state h in omega arith);
-    }
+    words-over (startWords (openInput v plan state)) state (openOf v plan state) (call-so openSchema open-is-right (openInput v plan state) h)
+    (let l = leb-true leastStateWords (length state) (open-passed v plan state 7 h) in omega arith)

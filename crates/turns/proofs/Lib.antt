@@ -1,5 +1,6 @@
 pub mod Bounded
 pub mod Stepping
+pub mod Opening
 pub mod Refusals
 pub mod Limits
 pub mod Follows

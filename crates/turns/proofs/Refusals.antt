@@ -1,77 +1,24 @@
--- Demand 1 of opening and of a turn, for every input: refused with a number exactly where that test is the first to fail,
--- and then nothing is written; served exactly where every test passes.
+-- Demand 1 of a turn, for every input: refused with a number exactly where that test is the first to fail, and then nothing is written; served
+-- exactly where every test passes.
 use Prim.Native.Nat.{ℕ}
 use native.Mathlib.Omega.{arith}
 use mathlib.Core.Path.{_≡_, refl, ap}
 use mathlib.Core.Logic.{_↔_}
 use mathlib.Core.Bool.{true}
 use mathlib.Core.Option.{Option, none, some}
-use mathlib.Core.List.{List, []}
+use mathlib.Core.List.{[]}
 use lib.ListN.{length}
-use Rattle.words.specs.declared.Written.the-variants as written
-use Rattle.words.specs.Answers.{wordsIn}
 use Rattle.words.specs.Tests.{firstFailing, numberOf, AllPass, FirstFails}
 use Rattle.words.proofs.Testing.{fails-first, all-passes, testNumbered, test-passed}
-use Rattle.words.proofs.Refusing.{refused-by, served-when, answers-by}
+use Rattle.words.proofs.Refusing.{refused-by, served-when}
 use Rattle.steps.specs.Saved.{savedWords}
 use Rattle.turns.specs.declared.Turned.{Turned}
 use Rattle.turns.specs.declared.TurnEnding.the-variants.{Done, Spent, Full, Refused}
-use Rattle.turns.specs.Surveys.{Survey}
-use Rattle.turns.specs.Opening.{Opened, startWords, openTests, openedWith, openedAs, openOf, Opens}
 use Rattle.turns.specs.Turns.{Progress, going, stopped, refusalOf, valuesOf, TurnInput, TurnResult, resultOf, givenPlan, turnTests, finished, served}
 use Rattle.turns.specs.Turns.{turnedAs, turnOf}
-use Rattle.turns.specs.Refusals.{OpenAnswers, OpenRefusals, TurnAnswers, Served, TurnRefusals}
+use Rattle.turns.specs.Refusals.{TurnAnswers, Served, TurnRefusals}
 use Rattle.turns.proofs.Stepping.{How, roomFor, served-attempts}
 
--- ---- opening
-module _ (v : Survey) (plan state : List ℕ) where
-  not-opened : (x : ℕ) → FirstFails x (openTests v plan state)
-      → openOf v plan state ≡ record { answer = written.Refused x; state = state }
-  unfolding openOf
-  not-opened x h = ap (openedAs v plan state) (fails-first x (openTests v plan state) h)
-
-  serves-open : (x : ℕ) → ¬ (openedAs v plan state none .answer ≡ written.Refused x)
-  serves-open x e = let z : _≡_ {A = ℕ} 0 1 = cc in omega arith
-
-  open-refused : (x : ℕ) → (openOf v plan state .answer ≡ written.Refused x) ↔ FirstFails x (openTests v plan state)
-  unfolding openOf
-  open-refused x =
-      refused-by written.Refused (λ o. openedAs v plan state o .answer) (λ x y e. cc) (λ x. refl) serves-open
-      (openTests v plan state) x
-
-  open-serves : Opens v plan state ↔ AllPass (openTests v plan state)
-  unfolding openOf
-  open-serves =
-      served-when written.Refused (λ o. openedAs v plan state o .answer) (λ x y e. cc) (λ x. refl) serves-open
-      (openTests v plan state)
-
-  -- its number and its words
-  open-answers : OpenAnswers v plan state (openOf v plan state .answer)
-  unfolding openOf
-  open-answers =
-      answers-by (openTests v plan state) (startWords v plan) (λ o. openedAs v plan state o .answer) (λ x. refl) refl
-
-  -- a test that a served opening passed, by its number
-  pub open-passed : (n : ℕ) → Opens v plan state → testNumbered n (openTests v plan state) ≡ true
-  open-passed n h = test-passed n (openTests v plan state) (open-serves .0 h)
-
-  -- an opening that is served writes the start state
-  pub opened-so : Opens v plan state → openOf v plan state ≡ openedWith (startWords v plan) state
-  unfolding openOf
-  opened-so h = ap (openedAs v plan state) (all-passes (openTests v plan state) (open-serves .0 h))
-
-  pub open-refusals : OpenRefusals v plan state
-  open-refusals =
-      record {
-        order = refl;
-        number = open-answers;
-        refused = open-refused;
-        unchanged = λ x e. let r = not-opened x (open-refused x .0 e) in
-            record { buffer = ap (λ (o : Opened). o .state) r; words = ap (λ (o : Opened). wordsIn (o .answer)) r };
-        serves = open-serves;
-      }
-
--- ---- a turn
 module _ (i : TurnInput) where
   -- the steps of a turn never end in a refusal
   never-refused : (p : Progress) → How (i .survey .tables) (givenPlan i) (i .threshold) (roomFor i) (i .quantum) p → (x : ℕ)

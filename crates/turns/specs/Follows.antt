@@ -3,8 +3,8 @@
 use Prim.Native.Nat.{ℕ, _≤_}
 use mathlib.Core.List.{List}
 use lib.ListN.{length}
-use Rattle.words.specs.Answers.{wordsIn}
 use Rattle.sequences.specs.Buffers.{Overwritten}
+use Rattle.calls.specs.Words.{WordsOver}
 use Rattle.plans.specs.Plans.{planOf}
 use Rattle.steps.specs.Steps.{Run, after}
 use Rattle.steps.specs.Saved.{savedWords, stateIn}
@@ -35,8 +35,6 @@ pub record Follows (i : TurnInput) : Type 0 where
   pub room : turnOf i .answer .listed ≤ length (i .output)
 
 -- ---- opening
--- the words that a served opening writes: the uncut run's state after no step
-pub record StartsRun (v : Survey) (plan state : List ℕ) : Type 0 where
-  pub buffer : Overwritten (savedWords (v .number) (after (v .tables) (planOf plan) 0 .state)) state
-      (openOf v plan state .state) (wordsIn (openOf v plan state .answer))
-  pub room : wordsIn (openOf v plan state .answer) ≤ length state
+-- a served opening writes the uncut run's state after no step over the first words of its buffer
+abbrev pub StartsRun : Survey → List ℕ → List ℕ → Type 0
+StartsRun v plan state = WordsOver (savedWords (v .number) (after (v .tables) (planOf plan) 0 .state)) state (openOf v plan state)

@@ -1,47 +1,45 @@
 -- Opening a query: its tests in order, its answer, and the state buffer at exit. Assumes nothing: these are definitions.
 use Prim.Native.Nat.{ℕ}
-use mathlib.Core.Path.{_≡_}
 use mathlib.Core.List.{List, [], _∷_, _++_}
-use mathlib.Core.Option.{Option, none, some}
 use lib.ListN.{length}
 use lib.Dec.{leb}
 use Rattle.words.specs.declared.Written.{Written}
-use Rattle.words.specs.declared.Written.the-variants.{Words, Refused}
-use Rattle.sequences.specs.Sequences.{over}
-use Rattle.words.specs.Tests.{Test, firstFailing}
+use Rattle.words.specs.Tests.{Test}
+use Rattle.calls.specs.Calls.{CallSchema, NotRefused, resultOfCall}
+use Rattle.calls.specs.Words.{WordsResult, writesWords}
 use Rattle.tables.specs.Tables.{tableTests}
 use Rattle.plans.specs.Plans.{planOf, planTests}
 use Rattle.steps.specs.Steps.{start}
 use Rattle.steps.specs.Saved.{stateWords, leastStateWords, numberRight}
 use Rattle.turns.specs.Surveys.{Survey}
 
-pub record Opened : Type 0 where
-  pub answer : Written
+pub record OpenInput : Type 0 where
+  pub survey : Survey
+  pub plan : List ℕ
   pub state : List ℕ
 
+-- what a call lends
+abbrev pub openInput : Survey → List ℕ → List ℕ → OpenInput
+openInput v plan state = record { survey = v; plan = plan; state = state }
+
 -- 7: a state buffer of enough words; 22: the survey's number
-abbrev pub ownOpenTests : Survey → List ℕ → List Test
-ownOpenTests v state = (7, leb leastStateWords (length state)) ∷ (22, numberRight (v .number)) ∷ []
+abbrev pub ownOpenTests : OpenInput → List Test
+ownOpenTests i = (7, leb leastStateWords (length (i .state))) ∷ (22, numberRight (i .survey .number)) ∷ []
 
-abbrev pub openTests : Survey → List ℕ → List ℕ → List Test
-openTests v plan state = tableTests (v .tables) ++ (planTests plan ++ ownOpenTests v state)
-
--- some words written over the first ones of the state buffer
-abbrev pub openedWith : List ℕ → List ℕ → Opened
-openedWith ws state = record { answer = Words (length ws); state = over ws state }
+abbrev pub openTests : OpenInput → List Test
+openTests i = tableTests (i .survey .tables) ++ (planTests (i .plan) ++ ownOpenTests i)
 
 -- the words of the start state, under the survey's number
-abbrev pub startWords : Survey → List ℕ → List ℕ
-startWords v plan = stateWords (v .number) (start (v .tables) (planOf plan))
+abbrev pub startWords : OpenInput → List ℕ
+startWords i = stateWords (i .survey .number) (start (i .survey .tables) (planOf (i .plan)))
 
--- a refusal changes nothing; else the start state is written
-abbrev pub openedAs : Survey → List ℕ → List ℕ → Option ℕ → Opened
-openedAs v plan state (some n) = record { answer = Refused n; state = state }
-openedAs v plan state none = openedWith (startWords v plan) state
+-- ---- the call
+abbrev pub openSchema : CallSchema OpenInput Written Written (List ℕ) ℕ
+openSchema = writesWords openTests (1 ∷ 2 ∷ 23 ∷ 3 ∷ 4 ∷ 5 ∷ 6 ∷ 23 ∷ 7 ∷ 22 ∷ []) (λ i. i .state) startWords
 
-unfoldable pub openOf : Survey → List ℕ → List ℕ → Opened
-openOf v plan state = openedAs v plan state (firstFailing (openTests v plan state))
+abbrev pub openOf : Survey → List ℕ → List ℕ → WordsResult
+openOf v plan state = resultOfCall openSchema (openInput v plan state)
 
 -- an opening that is served: no number refuses it
 abbrev pub Opens : Survey → List ℕ → List ℕ → Type 0
-Opens v plan state = (x : ℕ) → ¬ (openOf v plan state .answer ≡ Refused x)
+Opens v plan state = NotRefused openSchema (openInput v plan state)

@@ -5,11 +5,7 @@ use mathlib.Core.Path.{_≡_, refl, sym, _∙_, ap}
 use mathlib.Core.Logic.{_↔_}
 use mathlib.Core.Option.{Option, none, some}
 use mathlib.Core.List.{List}
-use lib.ListN.{length}
-use Rattle.words.specs.declared.Written.{Written}
-use Rattle.words.specs.declared.Written.the-variants.{Words, Refused}
-use Rattle.words.specs.Tests.{Test, firstFailing, numberOf, AllPass, FirstFails}
-use Rattle.words.specs.Answers.{refusalIn, wordsIn, writtenBy, AnswersBy}
+use Rattle.words.specs.Tests.{Test, firstFailing, AllPass, FirstFails}
 use Rattle.words.proofs.Testing.{passes-all, all-passes, first-fails, fails-first}
 
 -- an answer's type, its refusals, and the answer by the number of the first test that fails
@@ -31,17 +27,3 @@ module _ {A : Type 0} (refused : ℕ → A) (answers : Option ℕ → A)
       go : (o : Option ℕ) → firstFailing tests ≡ o → ((x : ℕ) → ¬ (answers (firstFailing tests) ≡ refused x)) → AllPass tests
       go none p h = passes-all tests p
       go (some y) p h = absurd (h y (ap answers p ∙ refuses y))
-
--- a call that answers words, or a refusal: its number and its words are the rules'
-pub answers-by : (tests : List Test) (ws : List ℕ) (answers : Option ℕ → Written) → ((x : ℕ) → answers (some x) ≡ Refused x)
-    → answers none ≡ Words (length ws) → AnswersBy tests ws (answers (firstFailing tests))
-answers-by tests ws answers refuses serves =
-    record { number = number (firstFailing tests); words = words (firstFailing tests) }
-  where
-    number : (o : Option ℕ) → refusalIn (answers o) ≡ numberOf o
-    number none = ap refusalIn serves
-    number (some x) = ap refusalIn (refuses x)
-
-    words : (o : Option ℕ) → wordsIn (answers o) ≡ length (writtenBy o ws)
-    words none = ap wordsIn serves
-    words (some x) = ap wordsIn (refuses x)

@@ -11,7 +11,7 @@ use Rattle.registers.specs.Computing as registers
 use Rattle.lists.specs.Computing as lists
 use Rattle.step_prunings.specs.Computing as step-prunings
 use Rattle.turns.specs.Computing as turns
-use Rattle.merges.specs.Computing as merges
+use Rattle.calls.specs.Calls.{resultOfCall}
 use Rattle.uploads.specs.Computing as uploads
 use Rattle.queues.specs.Computing as queues
 use Rattle.views.specs.Computing as views
@@ -23,7 +23,7 @@ use Rattle.worked_cases.specs.Misreadings.{Told, readings, same}
 -- one name for all that the calls' definitions are made of
 unfoldable pub computing : Unit {0}
 unfolding words.computing tables.computing plans.computing conditions.computing steps.computing register-hashes.computing registers.computing
-    lists.computing step-prunings.computing turns.computing merges.computing uploads.computing queues.computing views.computing flatten
+    lists.computing step-prunings.computing turns.computing resultOfCall uploads.computing queues.computing views.computing flatten
 computing = tt
 
 -- the starred cases of the rules (docs/RULES.md, 11), those of k = 0, of the record of no rows and of numbers below zero

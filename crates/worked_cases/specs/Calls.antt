@@ -13,10 +13,11 @@ use Rattle.steps.specs.Steps.{State, after}
 use Rattle.turns.specs.declared.TurnEnding.{TurnEnding}
 use Rattle.turns.specs.declared.TurnEnding.the-variants as ending
 use Rattle.turns.specs.Surveys.{Survey, underNumber}
-use Rattle.turns.specs.Opening.{Opened, openOf}
+use Rattle.turns.specs.Opening.{openOf}
 use Rattle.turns.specs.Turns.{TurnInput, TurnResult, turnTests, turnOf, resultOf}
-use Rattle.registers.specs.Reporting.{ReportInput, ReportResult, reportOf}
-use Rattle.merges.specs.Merging.{MergeInput, MergeResult, mergeOf}
+use Rattle.calls.specs.Words.{WordsResult}
+use Rattle.register_reports.specs.Reporting.{ReportInput, reportOf}
+use Rattle.merges.specs.Merging.{MergeInput, mergeOf}
 use Rattle.cuts.specs.Uncut.{runList}
 use Rattle.uploads.specs.declared.Made.the-variants as answer
 use Rattle.uploads.specs.Making.{MakeInput, MakeResult, makeOf}
@@ -36,10 +37,10 @@ pub data Call : Type 0 where
   testing : TurnInput → Call
 
 pub data Result : Type 0 where
-  opened : Opened → Result
+  opened : WordsResult → Result
   turned : TurnResult → Result
-  merged : MergeResult → Result
-  reported : ReportResult → Result
+  merged : WordsResult → Result
+  reported : WordsResult → Result
   made : MakeResult → Result
   viewed : TablesResult → Result
   ran : Option State → List ℕ → Result
@@ -101,16 +102,16 @@ turnCase i e steps saved list = (turning i, turned (resultOf i e steps saved lis
 
 -- the cases of refused calls
 abbrev pub notOpened : Tables → List ℕ → List ℕ → ℕ → Case
-notOpened t plan state x = (opening (surveyed t) plan state, opened (record { answer = Refused x; state = state }))
+notOpened t plan state x = (opening (surveyed t) plan state, opened (record { answer = Refused x; buffers = state }))
 
 abbrev pub notTurned : TurnInput → ℕ → Case
 notTurned i x = turnCase i (ending.Refused x) 0 [] []
 
 abbrev pub notMerged : MergeInput → ℕ → Case
-notMerged i x = (merging i, merged (record { answer = Refused x; kept = i .kept }))
+notMerged i x = (merging i, merged (record { answer = Refused x; buffers = i .kept }))
 
 abbrev pub notReported : ReportInput → ℕ → Case
-notReported i x = (reporting i, reported (record { answer = Refused x; report = i .report }))
+notReported i x = (reporting i, reported (record { answer = Refused x; buffers = i .report }))
 
 abbrev pub notMade : MakeInput → ℕ → Case
 notMade i x = (making i, made (record { answer = answer.Refused x; buffers = i .buffers }))

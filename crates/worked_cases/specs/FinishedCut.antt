@@ -2,12 +2,13 @@
 use mathlib.Core.List.{List, [], _∷_}
 use lib.ListN.{replicate}
 use Rattle.turns.specs.declared.TurnEnding.the-variants.{Done, Spent}
-use Rattle.turns.specs.Opening.{Opened, openOf}
+use Rattle.calls.specs.Words.{WordsResult}
+use Rattle.turns.specs.Opening.{openOf}
 use Rattle.cuts.specs.Histories.{Event, turns, merges, Phone, fresh, history}
 use Rattle.worked_cases.specs.Calls.{surveyed}
 use Rattle.worked_cases.specs.Wood.{wood, planTop, stateAt, stem}
 
-abbrev pub openedTop : Opened
+abbrev pub openedTop : WordsResult
 openedTop = openOf (surveyed wood) planTop (replicate 11 7)
 
 -- 6 steps; a quantum of 0; a merge with no room; a merge; and the rest, with the last row of the full merged list as threshold

@@ -2,9 +2,8 @@
 -- definitions stands in these tables, so that a definition with another number is refused by them.
 use Prim.Native.Nat.{ℕ}
 use mathlib.Core.List.{List, [], _∷_, _++_}
-use lib.ListN.{length, replicate}
-use Rattle.words.specs.declared.Written.the-variants.{Words}
-use Rattle.sequences.specs.Sequences.{over}
+use lib.ListN.{replicate}
+use Rattle.calls.specs.Words.{writtenOver}
 use Rattle.tables.specs.Tables.{Tables}
 use Rattle.turns.specs.declared.TurnEnding.the-variants.{Done}
 use Rattle.worked_cases.specs.Calls.{opening, opened, Case, surveyed, turnCall, turnCase, notOpened}
@@ -69,7 +68,7 @@ atPlace w = in2026 (0xE0000001 ∷ w ∷ [])
 
 -- an opening, over a state buffer of eleven words, that writes these
 abbrev pub opensTo : Tables → List ℕ → List ℕ → Case
-opensTo t plan words = (opening (surveyed t) plan (replicate 11 7), opened (record { answer = Words (length words); state = over words (replicate 11 7) }))
+opensTo t plan words = (opening (surveyed t) plan (replicate 11 7), opened (writtenOver words (replicate 11 7)))
 
 -- an opening that is refused by a number
 abbrev pub refuses : Tables → List ℕ → ℕ → Case

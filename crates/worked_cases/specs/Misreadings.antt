@@ -8,7 +8,8 @@ use lib.ListN.{take}
 use Rattle.words.specs.Words.{name, unbound}
 use Rattle.words.specs.Answers.{wordsIn}
 use Rattle.turns.specs.Turns.{TurnInput, TurnResult, turnOf}
-use Rattle.merges.specs.Merging.{MergeResult, mergeOf}
+use Rattle.calls.specs.Words.{WordsResult}
+use Rattle.merges.specs.Merging.{mergeOf}
 use Rattle.worked_cases.specs.Wood.{wood, notError, rows01, planWith, planA, planTwice, planTop, planUnbound, startOfA, stem}
 use Rattle.worked_cases.specs.Calls.{turnCall, mergeCall}
 
@@ -18,8 +19,8 @@ listIn r = take (r .answer .listed) (r .output)
 abbrev pub stateAfter : TurnResult → List ℕ
 stateAfter r = take (r .answer .saved) (r .state)
 
-abbrev pub keptIn : MergeResult → List ℕ
-keptIn r = take (wordsIn (r .answer)) (r .kept)
+abbrev pub keptIn : WordsResult → List ℕ
+keptIn r = take (wordsIn (r .answer)) (r .buffers)
 
 pub record Misreading : Type 0 where
   pub given : List ℕ

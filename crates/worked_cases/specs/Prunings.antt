@@ -8,7 +8,8 @@ use Rattle.words.specs.Words.{name, number, variable, word, headKind, branchKin
 use Rattle.words.specs.Words.{placeWord, unbound}
 use Rattle.tables.specs.Tables.{Tables}
 use Rattle.turns.specs.declared.TurnEnding.the-variants.{Done, Spent}
-use Rattle.turns.specs.Opening.{Opened, openOf}
+use Rattle.calls.specs.Words.{WordsResult}
+use Rattle.turns.specs.Opening.{openOf}
 use Rattle.cuts.specs.Histories.{Event, turns, merges, Phone, fresh, history}
 use Rattle.worked_cases.specs.Wood.{wood, branchA, always, rows01, topFalling, topRising, planWith, minus1, diametersAre, stateAt, startOfA, stem}
 use Rattle.worked_cases.specs.Calls.{merging, merged, Case, surveyed, turnCall, mergeCall, keptBuffer, turnCase}
@@ -64,7 +65,7 @@ goesPast plan from threshold steps to list = turnCase (turnCall wood plan from s
 abbrev pub stays : List ℕ → Case
 stays list = (
   merging (mergeCall largest (stem 2 310) 4 list),
-  merged (record { answer = Words 2; kept = keptBuffer 4 (stem 2 310) }),
+  merged (record { answer = Words 2; buffers = keptBuffer 4 (stem 2 310) }),
 )
 
 -- ---- a threshold saves steps
@@ -107,7 +108,7 @@ ofKnownKeys =
     ∷ []
 
 -- ---- the calls of a whole query, with that threshold and without
-abbrev pub openedLargest : Opened
+abbrev pub openedLargest : WordsResult
 openedLargest = openOf (surveyed wood) largest (replicate 11 7)
 
 -- six steps and a merge; the rest and a merge

@@ -47,7 +47,7 @@ ofPlans =
     ∷ wrongPlan (planWith (word comparisonKind 6 ∷ variable 1 ∷ number 70 ∷ []) rows01) 5
     ∷ wrongPlan (planWith (word comparisonKind 0 ∷ variable 1 ∷ []) []) 5
     -- 8 deep passes, 9 deep does not
-    ∷ (opening (surveyed wood) (planWith seven rows01) (replicate 11 7), opened (record { answer = Words 4; state = stateBuffer startOfA }))
+    ∷ (opening (surveyed wood) (planWith seven rows01) (replicate 11 7), opened (record { answer = Words 4; buffers = stateBuffer startOfA }))
     ∷ wrongPlan (planWith (word notKind 0 ∷ seven) rows01) 5
     ∷ wrongPlan (planWith always (topFalling 65)) 5
     ∷ wrongPlan (planWith always (word topKind 1 ∷ rows01)) 5
@@ -138,7 +138,7 @@ ofMerges =
     -- the largest total is no overflow; groups add up; rows and words behind the result stay
     ∷ (
       merging (mergeCall planGroup (totals 1 1 45 (number 45) (number 45)) 10 (totals 2 2 620 (number 310) (number 310))),
-      merged (record { answer = Words 8; kept = keptBuffer 10 (totals 3 3 665 (number 45) (number 310)) }),
+      merged (record { answer = Words 8; buffers = keptBuffer 10 (totals 3 3 665 (number 45) (number 310)) }),
     )
     ∷ (
       merging
@@ -149,10 +149,10 @@ ofMerges =
             list = 4294967294 ∷ 4294967295 ∷ 1 ∷ 0 ∷ 5 ∷ 0 ∷ number 5 ∷ number 5 ∷ [];
           }),
       merged
-          (record { answer = Words 8; kept = 4294967295 ∷ 4294967295 ∷ 1 ∷ 0 ∷ 5 ∷ 0 ∷ number 5 ∷ number 5 ∷ [] }),
+          (record { answer = Words 8; buffers = 4294967295 ∷ 4294967295 ∷ 1 ∷ 0 ∷ 5 ∷ 0 ∷ number 5 ∷ number 5 ∷ [] }),
     )
     ∷ (
       merging (mergeCall (planWith always (topFalling 2)) (stem 2 310 ++ stem 1 45) 6 (stem 3 310)),
-      merged (record { answer = Words 4; kept = over (stem 2 310 ++ stem 3 310) (keptBuffer 6 (stem 2 310 ++ stem 1 45)) }),
+      merged (record { answer = Words 4; buffers = over (stem 2 310 ++ stem 3 310) (keptBuffer 6 (stem 2 310 ++ stem 1 45)) }),
     )
     ∷ []

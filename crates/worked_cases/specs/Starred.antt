@@ -3,8 +3,9 @@
 use Prim.Native.Nat.{ℕ}
 use mathlib.Core.List.{List, [], _∷_, _++_, map}
 use mathlib.Core.Option.{none, some}
-use lib.ListN.{length, take, replicate}
+use lib.ListN.{take, replicate}
 use Rattle.words.specs.declared.Written.the-variants.{Words}
+use Rattle.calls.specs.Words.{writtenOver}
 use Rattle.words.specs.Words.{name, number, text, word, notKind}
 use Rattle.sequences.specs.Sequences.{over}
 use Rattle.steps.specs.Steps.{inYear}
@@ -34,13 +35,13 @@ tenDiameters = map number (20 ∷ 19 ∷ 18 ∷ 17 ∷ 16 ∷ 15 ∷ 14 ∷ 13 �
 abbrev pub merges : List ℕ → List ℕ → List ℕ → List ℕ → Case
 merges plan kept list result = (
   merging (mergeCall plan kept 16 list),
-  merged (record { answer = Words (length result); kept = over result (keptBuffer 16 kept) }),
+  merged (writtenOver result (keptBuffer 16 kept)),
 )
 
 abbrev pub starred : List Case
 starred =
     -- opening writes the start: the survey's number, the year, branch 0, depth 1, its range's first place
-    (opening (surveyed wood) planA (replicate 12 5), opened (record { answer = Words 4; state = over startOfA (replicate 12 5) }))
+    (opening (surveyed wood) planA (replicate 12 5), opened (record { answer = Words 4; buffers = over startOfA (replicate 12 5) }))
     -- A in full: rows n2 i310 and n3 i310, 10 steps
     ∷ whole planA 10 (stem 2 310 ++ stem 3 310)
     ∷ (running wood planA 10, ran none (stem 2 310 ++ stem 3 310))

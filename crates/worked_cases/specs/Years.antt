@@ -45,7 +45,7 @@ planOfYear year plan = yearWord year ∷ plan
 
 -- ---- short forms
 abbrev pub opens : Tables → List ℕ → List ℕ → Case
-opens t plan words = (opening (surveyed t) plan (replicate 11 7), opened (record { answer = Words 4; state = stateBuffer words }))
+opens t plan words = (opening (surveyed t) plan (replicate 11 7), opened (record { answer = Words 4; buffers = stateBuffer words }))
 
 -- a turn of `steps` steps, from the state `from` to the state `to`
 abbrev pub goesInYears : List ℕ → ℕ → List ℕ → List ℕ → List ℕ → Case
@@ -144,7 +144,7 @@ ofTotals =
     ∷ wholeFrom twoYears (planOfYear 0 planGroup) (yearState 2026 (2 ∷ [])) 4 (totalRecord 1 330 330 330)
     ∷ (
       merging (mergeCall (planOfYear 0 planGroup) (totalRecord 1 310 310 310) 8 (totalRecord 1 330 330 330)),
-      merged (record { answer = Words 8; kept = keptBuffer 8 (totalRecord 2 640 310 330) }),
+      merged (record { answer = Words 8; buffers = keptBuffer 8 (totalRecord 2 640 310 330) }),
     )
     -- no row in either year: the first year's end writes nothing, done writes the record
     ∷ goesInYears (planOfYear 0 (planWith atLeast1000 group1)) 4 (yearState 2025 (0 ∷ [])) (yearState 2026 (2 ∷ [])) []

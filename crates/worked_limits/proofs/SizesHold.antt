@@ -24,8 +24,8 @@ unfolding lengthsRight
 lengths n = simp (length-replicate)
 
 -- a table whose lengths are wrong is refused by 1
-by-one : (t : Tables) (plan state : List ℕ) → lengthsRight t ≡ false → openOf (surveyed t) plan state ≡ record { answer = Refused 1; state = state }
-unfolding openOf firstFailing
+by-one : (t : Tables) (plan state : List ℕ) → lengthsRight t ≡ false → openOf (surveyed t) plan state ≡ record { answer = Refused 1; buffers = state }
+unfolding resultOfCall firstFailing
 by-one t plan state e = rw (e) refl
 
 pub row-limit : RowLimit

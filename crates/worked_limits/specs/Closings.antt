@@ -3,9 +3,8 @@
 use Prim.Native.Nat.{ℕ}
 use mathlib.Core.List.{List, [], _∷_, _++_}
 use mathlib.Core.Option.{none, some}
-use lib.ListN.{length, replicate}
-use Rattle.words.specs.declared.Written.the-variants.{Words}
-use Rattle.sequences.specs.Sequences.{over}
+use lib.ListN.{replicate}
+use Rattle.calls.specs.Words.{writtenOver}
 use Rattle.steps.specs.Steps.{inYear}
 use Rattle.turns.specs.declared.TurnEnding.the-variants.{Done, Spent}
 use Rattle.turns.specs.Opening.{openOf}
@@ -44,7 +43,7 @@ totalsOfStems = 3 ∷ 0 ∷ 3 ∷ 0 ∷ 0x00000299 ∷ 0 ∷ 0x4000002D ∷ 0x40
 abbrev pub adds : List ℕ → List ℕ → List ℕ → Case
 adds kept list result = (
   merging (mergeCall (stemsWith anyStem oneGroup) kept 12 list),
-  merged (record { answer = Words (length result); kept = over result (keptBuffer 12 kept) }),
+  merged (writtenOver result (keptBuffer 12 kept)),
 )
 
 abbrev pub closings : List Case

@@ -57,8 +57,8 @@ thresholds =
 -- ---- 12: a list as kept list, with nothing to merge; and as the turn's list, with nothing kept
 abbrev pub mergesWell : List ℕ → List ℕ → List Case
 mergesWell plan list =
-    (merging (mergeCall plan list 256 []), merged (record { answer = Words (length list); kept = keptBuffer 256 list }))
-    ∷ (merging (mergeCall plan [] 256 list), merged (record { answer = Words (length list); kept = keptBuffer 256 list }))
+    (merging (mergeCall plan list 256 []), merged (record { answer = Words (length list); buffers = keptBuffer 256 list }))
+    ∷ (merging (mergeCall plan [] 256 list), merged (record { answer = Words (length list); buffers = keptBuffer 256 list }))
     ∷ []
 
 abbrev pub faulty : List ℕ → List ℕ → List Case
@@ -71,7 +71,7 @@ keptLengths =
     ∷ notMerged (record { plan = bestTwo; kept = 0x00000001 ∷ 0x4000002D ∷ []; given = 4; list = [] }) 12
     ∷ (
       merging (record { plan = bestTwo; kept = 0x00000001 ∷ 0x4000002D ∷ []; given = 2; list = [] }),
-      merged (record { answer = Words 2; kept = 0x00000001 ∷ 0x4000002D ∷ [] }),
+      merged (record { answer = Words 2; buffers = 0x00000001 ∷ 0x4000002D ∷ [] }),
     )
     ∷ []
 
@@ -188,7 +188,7 @@ groupFaults =
 
 -- ---- 13: rows would pass 2^64 - 1, or the sum leave -2^63 to 2^63 - 1. Numbers are never above rows, so they pass it only where rows do
 abbrev pub addsUp : List ℕ → List ℕ → List ℕ → Case
-addsUp kept list result = (merging (mergeCall oneGroupPlan kept 8 list), merged (record { answer = Words 8; kept = result }))
+addsUp kept list result = (merging (mergeCall oneGroupPlan kept 8 list), merged (record { answer = Words 8; buffers = result }))
 
 abbrev pub overflows : List ℕ → List ℕ → Case
 overflows kept list = notMerged (mergeCall oneGroupPlan kept 8 list) 13
@@ -221,13 +221,13 @@ totalsPast =
 abbrev pub keptBuffers : List Case
 keptBuffers =
     notMerged (mergeCall bestTwo (equalRows 1) 3 (equalRows 1)) 14
-    ∷ (merging (mergeCall bestTwo (equalRows 1) 4 (equalRows 1)), merged (record { answer = Words 4; kept = equalRows 2 }))
+    ∷ (merging (mergeCall bestTwo (equalRows 1) 4 (equalRows 1)), merged (record { answer = Words 4; buffers = equalRows 2 }))
     ∷ notMerged (mergeCall groupsPlan (0x00000001 ∷ plainRow) 17 (0x00000002 ∷ plainRow)) 14
     ∷ (
       merging (mergeCall groupsPlan (0x00000001 ∷ plainRow) 18 (0x00000002 ∷ plainRow)),
-      merged (record { answer = Words 18; kept = 0x00000001 ∷ (plainRow ++ (0x00000002 ∷ plainRow)) }),
+      merged (record { answer = Words 18; buffers = 0x00000001 ∷ (plainRow ++ (0x00000002 ∷ plainRow)) }),
     )
     -- no more than k rows, and one record for one group, need no more room
-    ∷ (merging (mergeCall bestTwo (equalRows 2) 4 (equalRows 2)), merged (record { answer = Words 4; kept = equalRows 2 }))
+    ∷ (merging (mergeCall bestTwo (equalRows 2) 4 (equalRows 2)), merged (record { answer = Words 4; buffers = equalRows 2 }))
     ∷ addsUp plainRow plainRow (totalsLiteral 2 0 0 0 0 0 0xC0000000 0xC0000000)
     ∷ []

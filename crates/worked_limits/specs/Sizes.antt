@@ -22,7 +22,7 @@ zeroRows n = record { rows = replicate (n * 4) 0; pos = replicate n 0; osp = rep
 -- 65,536 rows pass test 1; with 65,537 an opening is refused by 1, whatever the plan
 pub record RowLimit : Type 0 where
   pub most : lengthsRight (zeroRows 65536) ≡ true
-  pub more : (plan state : List ℕ) → openOf (surveyed (zeroRows 65537)) plan state ≡ record { answer = Refused 1; state = state }
+  pub more : (plan state : List ℕ) → openOf (surveyed (zeroRows 65537)) plan state ≡ record { answer = Refused 1; buffers = state }
 
 -- 65,536 uploaded rows pass test 15; 65,537 are refused by it, whatever the buffers
 pub record UploadLimit : Type 0 where

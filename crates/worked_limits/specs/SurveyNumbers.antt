@@ -1,11 +1,12 @@
 -- The number of a survey, in literal words: what stands before a state, and which states it refuses.
 use Prim.Native.Nat.{ℕ}
 use mathlib.Core.List.{List, [], _∷_}
-use lib.ListN.{length, replicate}
-use Rattle.words.specs.declared.Written.the-variants.{Words, Refused}
+use lib.ListN.{replicate}
+use Rattle.words.specs.declared.Written.the-variants.{Refused}
+use Rattle.calls.specs.Words.{writtenOver}
 use Rattle.turns.specs.declared.TurnEnding.the-variants.{Spent}
 use Rattle.turns.specs.Surveys.{underNumber}
-use Rattle.worked_cases.specs.Calls.{opening, opened, Case, stateBuffer, turnUnder, turnCase, notTurned}
+use Rattle.worked_cases.specs.Calls.{opening, opened, Case, turnUnder, turnCase, notTurned}
 use Rattle.worked_cases.specs.Literals.{stems, ending01}
 use Rattle.worked_limits.specs.Closings.{stemsWith}
 
@@ -15,10 +16,10 @@ literalPlanA = stemsWith (0x70000005 ∷ 0xC0000001 ∷ 0x40000046 ∷ []) endin
 
 -- an opening under the number `n` writes `words`, or is refused by the number `x` over a state buffer of `room` words
 abbrev pub opensUnder : ℕ → List ℕ → Case
-opensUnder n words = (opening (underNumber n stems) literalPlanA (replicate 11 7), opened (record { answer = Words (length words); state = stateBuffer words }))
+opensUnder n words = (opening (underNumber n stems) literalPlanA (replicate 11 7), opened (writtenOver words (replicate 11 7)))
 
 abbrev pub notOpenedUnder : ℕ → ℕ → ℕ → Case
-notOpenedUnder n room x = (opening (underNumber n stems) literalPlanA (replicate room 7), opened (record { answer = Refused x; state = replicate room 7 }))
+notOpenedUnder n room x = (opening (underNumber n stems) literalPlanA (replicate room 7), opened (record { answer = Refused x; buffers = replicate room 7 }))
 
 -- a turn of one step under a number from some words to others, or refused
 abbrev pub goesUnder : ℕ → List ℕ → List ℕ → Case

@@ -107,7 +107,7 @@ registerLists =
 abbrev pub keepsRegisters : List ℕ → ℕ → List ℕ → List ℕ → Case
 keepsRegisters kept room list result = (
   merging (mergeCall species kept room list),
-  merged (record { answer = Words 16; kept = over result (keptBuffer room kept) }),
+  merged (record { answer = Words 16; buffers = over result (keptBuffer room kept) }),
 )
 
 abbrev pub mergings : List Case

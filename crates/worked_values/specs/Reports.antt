@@ -4,7 +4,7 @@ use mathlib.Core.List.{List, [], _∷_, _++_}
 use lib.ListN.{length, replicate}
 use Rattle.words.specs.declared.Written.the-variants.{Words}
 use Rattle.sequences.specs.Sequences.{over}
-use Rattle.registers.specs.Reporting.{ReportInput}
+use Rattle.register_reports.specs.Reporting.{ReportInput}
 use Rattle.worked_cases.specs.Calls.{reporting, reported, Case, keptBuffer, notReported}
 use Rattle.worked_values.specs.Registers.{untouched, ofDiameters, first, last}
 
@@ -38,7 +38,7 @@ reportCall kept room words = record { kept = keptBuffer room kept; given = lengt
 
 abbrev pub reports : List ℕ → ℕ → ℕ → List ℕ → Case
 reports kept room words counts =
-    (reporting (reportCall kept room words), reported (record { answer = Words 62; report = over counts (replicate words 9) }))
+    (reporting (reportCall kept room words), reported (record { answer = Words 62; buffers = over counts (replicate words 9) }))
 
 abbrev pub ofReports : List Case
 ofReports =

@@ -3,7 +3,9 @@ use borrow.Author.Needs.{needs}
 use mathlib.Core.Path.{refl, sym, _∙_, subst}
 use Rattle.plan_tests.proofs.Checked.{check-passes, check-refuses, accepted}
 use Rattle.merge_lists.specs.Answering.{PiecesRight}
-use Rattle.merges.proofs.Refusals.{merge-told}
+use Rattle.calls.proofs.Refusals.{call-told}
+use Rattle.merges.specs.Merging.{mergeSchema}
+use Rattle.merges.proofs.Refusals.{merge-is-right}
 use Rattle.merge_endings.proofs.Tested.{plan-refused, given-long}
 use Rattle.merge_calls.proofs.Pieces.{pieces-right}
 use Rattle.merge_calls.proofs.merge.Statement.{statement}
@@ -16,13 +18,13 @@ returns : tie.Need-returns
 returns c =
     let s = c .before .before .before .before .before in
     let n = c .before .check in
-    merge-told _ (plan-refused _ (n .result) (check-refuses (s .args .plan .now) (n .result) (n .ensures) (c .if1 .taken)))
+    call-told mergeSchema merge-is-right _ (plan-refused _ (n .result) (check-refuses (s .args .plan .now) (n .result) (n .ensures) (c .if1 .taken)))
 
 returns-2 : tie.Need-returns-2
 returns-2 c =
     let s = c .before .before .before .before .before .before in
     let passes = check-passes (s .args .plan .now) (sym (c .before .before .check .ensures) ∙ c .before .if1 .left) in
-    merge-told _ (given-long _ (record { passes = passes; ending = refl }) (c .if2 .taken))
+    call-told mergeSchema merge-is-right _ (given-long _ (record { passes = passes; ending = refl }) (c .if2 .taken))
 
 ending-part-requires : tie.Need-ending-part-requires
 ending-part-requires c κs =
@@ -44,7 +46,7 @@ returns-3 c =
     let s = c .before .before .before .before .before .before .before .before .before .before .before in
     let passes = check-passes (s .args .plan .now) (sym (c .before .before .before .before .before .before .before .check .ensures)
     ∙ c .before .before .before .before .before .before .if1 .left) in
-    merge-told _
+    call-told mergeSchema merge-is-right _
     (c .before .before .merge-ending .ensures (s .args .plan .now)
     (record { passes = passes; ending = sym (c .before .before .before .before .ending-part .ensures .1) }))
 

@@ -1,7 +1,7 @@
 -- `print_query` lends the calls the parts of the file, and what it runs is started by a served opening; another's number refuses the file.
 use borrow.Author.Needs.{needs}
 use mathlib.Core.Path.{sym, _∙_, ap}
-use Rattle.turns.specs.Opening.{Opened}
+use Rattle.calls.specs.Words.{WordsResult}
 use Rattle.queries.proofs.Starting.{started}
 use Rattle.print_rounds.proofs.Asking.{file-refused}
 use Rattle.print_files.proofs.FileParts.{file-asks}
@@ -70,7 +70,7 @@ run-requires c κs =
     let o = c .before .before .before .before .before .«open» in
     let s = c .before .before .before .before .before .before .before .before .before .before .before .before .before .before in
     let a = s .args in (
-      started _ _ _ (o .result) (ap (λ (r : Opened). r .answer) (o .ensures .0)) _ (ap (λ (r : Opened). r .state) (o .ensures .0)) _
+      started _ _ _ (o .result) (ap (λ (r : WordsResult). r .answer) (o .ensures .0)) _ (ap (λ (r : WordsResult). r .buffers) (o .ensures .0)) _
           (c .before .before .opened .given .1),
       file-asks (a .bytes .now) (a .file .now) (a .parts) (s .pre .1 .0) (s .pre .1 .1),
     )
@@ -84,7 +84,7 @@ print-refused-requires c κs =
     let s = c .before .before .before .before .before .before .before .before .before .before .before .before .before in
     let a = s .args in
     let asks = file-asks (a .bytes .now) (a .file .now) (a .parts) (s .pre .1 .0) (s .pre .1 .1) in
-    let e = sym (ap (λ (r : Opened). r .answer) (o .ensures .0)) ∙ c .before .opened2 .given .1 in
+    let e = sym (ap (λ (r : WordsResult). r .answer) (o .ensures .0)) ∙ c .before .opened2 .given .1 in
     file-refused (a .bytes .now) _ _ _ _ _ asks _ _ e (search needs)
 
 returns : tie.Need-returns

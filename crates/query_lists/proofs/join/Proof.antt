@@ -35,7 +35,7 @@ returns-3 : tie.Need-returns-3
 returns-3 c =
     let k = c .before .before in
     let s = k .before .before .before .before .before .before in
-    ap (λ l. record { answer = written.Words (s .args .used + length (s .args .list .now)); kept = l }) (k .copy-in .ensures)
+    ap (λ l. record { answer = written.Words (s .args .used + length (s .args .list .now)); buffers = l }) (k .copy-in .ensures)
     ∙ joined (s .args .kept .now) (s .args .used) (s .args .list .now) (omega arith)
 
 pub join-spec : {M : Type 1} → statement M

@@ -1,7 +1,7 @@
 -- `play` meets its contract: the opening, and where it is served the rounds from what it leaves.
 use borrow.Author.Needs.{needs}
 use mathlib.Core.Path.{ap}
-use Rattle.turns.specs.Opening.{Opened}
+use Rattle.calls.specs.Words.{WordsResult}
 use Rattle.queries.specs.declared.Keeping.the-variants.{All}
 use Rattle.queries.proofs.Rounds.{play-refused, play-opened}
 use Rattle.query_plays.proofs.play.Statement.{statement}
@@ -25,7 +25,7 @@ same-length c = search needs
 returns : tie.Need-returns
 returns c =
     let o = c .before .before .before .before .before .«open» in
-    play-refused All _ _ _ _ _ _ _ (ap (λ (r : Opened). r .answer) (o .ensures .0)) (ap (λ (r : Opened). r .state) (o .ensures .0)) _
+    play-refused All _ _ _ _ _ _ _ (ap (λ (r : WordsResult). r .answer) (o .ensures .0)) (ap (λ (r : WordsResult). r .buffers) (o .ensures .0)) _
     (c .before .x .given .1)
 
 same-length-2 : tie.Need-same-length-2
@@ -41,7 +41,7 @@ returns-2 : tie.Need-returns-2
 returns-2 c =
     let g = c .before .before .before .before .before .before in
     let o = g .before .before .before .before .before .before .before .before .before .«open» in
-    play-opened All _ _ _ _ _ _ _ (ap (λ (r : Opened). r .answer) (o .ensures .0)) (ap (λ (r : Opened). r .state) (o .ensures .0)) _
+    play-opened All _ _ _ _ _ _ _ (ap (λ (r : WordsResult). r .answer) (o .ensures .0)) (ap (λ (r : WordsResult). r .buffers) (o .ensures .0)) _
     (g .before .before .before .before .before .opened .given .1) _ (g .go-on .ensures)
 
 pub play-spec : {M : Type 1} → statement M

@@ -54,7 +54,7 @@ returns c =
     let e = u .turn .ensures .0 in
     list-taken (s .args .keeping) _ (s .args .kept .now) (s .args .used) (u .turn .result) _ _ (ap (λ (r : TurnResult). r .answer) e)
     (ap (λ (r : TurnResult). r .state) e) (ap (λ (r : TurnResult). r .output) e)
-    (record { answer = l .take-list .result; kept = l .take-list .last .1 .0 })
+    (record { answer = l .take-list .result; buffers = l .take-list .last .1 .0 })
     (sym (c .before .before .before .before .before .before .is-served .ensures) ∙ c .before .before .before .before .before .if1 .taken)
     (l .take-list .ensures)
 

@@ -4,7 +4,9 @@ use mathlib.Core.Path.{sym, _∙_}
 use lib.ListN.{take}
 use lib.Seq.{length-take-le}
 use borrow.Author.Tests.{not-true, not-false}
-use Rattle.registers.proofs.Refusals.{report-told}
+use Rattle.calls.proofs.Refusals.{call-told}
+use Rattle.register_reports.specs.Reporting.{reportSchema}
+use Rattle.register_reports.proofs.Refusals.{report-is-right}
 use Rattle.register_reports.proofs.Answers.{kept-short, no-room, given-long, no-registers, counts-written}
 use Rattle.register_reports.proofs.report.Statement.{statement}
 use Rattle.register_reports.proofs.report.Tie as tie
@@ -12,12 +14,12 @@ use Rattle.register_reports.proofs.report.Tie as tie
 returns : tie.Need-returns
 returns c =
     let a = c .before .before .before .args in
-    report-told _ (no-room (a .kept .now) (a .given) (a .report .now) (c .if1 .taken))
+    call-told reportSchema report-is-right _ (no-room (a .kept .now) (a .given) (a .report .now) (c .if1 .taken))
 
 returns-2 : tie.Need-returns-2
 returns-2 c =
     let a = c .before .before .before .before .args in
-    report-told _ (given-long (a .kept .now) (a .given) (a .report .now) (c .before .if1 .left) (c .if2 .taken))
+    call-told reportSchema report-is-right _ (given-long (a .kept .now) (a .given) (a .report .now) (c .before .if1 .left) (c .if2 .taken))
 
 slice-aggregate-list : tie.Need-slice-aggregate-list
 slice-aggregate-list c =
@@ -31,7 +33,7 @@ returns-3 : tie.Need-returns-3
 returns-3 c =
     let e = c .before .before .before in
     let a = e .before .before .before .before .args in
-    report-told _
+    call-told reportSchema report-is-right _
     (no-registers (a .kept .now) (a .given) (a .report .now) (e .before .if1 .left) (e .if2 .left)
     (sym (c .before .kept-registers .ensures) ∙ not-true _ (c .if3 .taken)))
 
@@ -50,7 +52,7 @@ returns-4 c =
     let t = c .before .before .before .before in
     let e = t .before .before .before in
     let a = e .before .before .before .before .args in
-    report-told _
+    call-told reportSchema report-is-right _
     (counts-written (a .kept .now) (a .given) (a .report .now) (e .before .if1 .left) (e .if2 .left)
     (sym (t .before .kept-registers .ensures) ∙ not-false _ (t .if3 .left)) (c .before .before .write-counts .ensures))
 

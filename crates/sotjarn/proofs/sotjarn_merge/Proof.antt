@@ -1,7 +1,7 @@
 -- `sotjarn_merge` meets its contract: the numbers of what a merge answers.
 use borrow.Author.Needs.{needs}
 use mathlib.Core.Path.{ap, _∙_}
-use Rattle.merges.specs.Merging.{MergeResult}
+use Rattle.calls.specs.Words.{WordsResult}
 use Rattle.call_numbers.specs.Numbers.{writtenNumbers}
 use Rattle.sotjarn.proofs.sotjarn_merge.Statement.{statement}
 use Rattle.sotjarn.proofs.sotjarn_merge.Tie as tie
@@ -18,7 +18,7 @@ same-length c = search needs
 returns : tie.Need-returns
 returns c =
     let m = c .before .before .before .merge .ensures .0 in
-    (c .written-numbers .ensures ∙ ap (λ (o : MergeResult). writtenNumbers (o .answer)) m, ap (λ (o : MergeResult). o .kept) m)
+    (c .written-numbers .ensures ∙ ap (λ (o : WordsResult). writtenNumbers (o .answer)) m, ap (λ (o : WordsResult). o .buffers) m)
 
 pub sotjarn-merge-spec : {M : Type 1} → statement M
 sotjarn-merge-spec =

@@ -1,7 +1,7 @@
 -- `sotjarn_report` meets its contract: the numbers of what a report answers.
 use borrow.Author.Needs.{needs}
 use mathlib.Core.Path.{ap, _∙_}
-use Rattle.registers.specs.Reporting.{ReportResult}
+use Rattle.calls.specs.Words.{WordsResult}
 use Rattle.call_numbers.specs.Numbers.{writtenNumbers}
 use Rattle.sotjarn.proofs.sotjarn_report.Statement.{statement}
 use Rattle.sotjarn.proofs.sotjarn_report.Tie as tie
@@ -18,7 +18,7 @@ same-length c = search needs
 returns : tie.Need-returns
 returns c =
     let m = c .before .before .before .report .ensures .0 in
-    (c .written-numbers .ensures ∙ ap (λ (o : ReportResult). writtenNumbers (o .answer)) m, ap (λ (o : ReportResult). o .report) m)
+    (c .written-numbers .ensures ∙ ap (λ (o : WordsResult). writtenNumbers (o .answer)) m, ap (λ (o : WordsResult). o .buffers) m)
 
 pub sotjarn-report-spec : {M : Type 1} → statement M
 sotjarn-report-spec =

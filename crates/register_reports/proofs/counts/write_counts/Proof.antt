@@ -4,7 +4,7 @@ use native.Mathlib.Omega.{arith}
 use mathlib.Core.Path.{_≡_, refl, _∙_, ap}
 use lib.ListN.{length, set, length-set}
 use Rattle.sequences.specs.Sequences.{over}
-use Rattle.registers.specs.Reporting.{reportWords}
+use Rattle.register_reports.specs.Reporting.{reportWords}
 use Rattle.register_reports.proofs.Reported.{reported, reported-none, reported-over, reported-whole}
 use Rattle.register_reports.proofs.counts.write_counts.Statement.{statement}
 use Rattle.register_reports.proofs.counts.write_counts.Tie as tie

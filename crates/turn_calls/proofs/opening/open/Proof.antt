@@ -2,9 +2,12 @@
 use borrow.Author.Needs.{needs}
 use mathlib.Core.Path.{sym, _∙_}
 use Rattle.state_saving.proofs.Storing.{held-storable}
+use Rattle.calls.proofs.Refusals.{call-told}
 use Rattle.turns.specs.Surveys.{Survey, surveyOf}
+use Rattle.turns.specs.Opening.{openSchema}
+use Rattle.turns.proofs.Opening.{open-is-right}
 use Rattle.turn_tests.proofs.Numbering.{early-right, early-planned}
-use Rattle.turn_calls.proofs.Opened.{open-refused, own-refused, open-served, open-room, opened-words, open-told}
+use Rattle.turn_calls.proofs.Opened.{open-refused, own-refused, open-served, open-room, opened-words}
 use Rattle.turn_calls.proofs.opening.open.Statement.{statement}
 use Rattle.turn_calls.proofs.opening.open.Tie as tie
 
@@ -18,7 +21,7 @@ returns : tie.Need-returns
 returns c =
     let k = c .before in
     let s = k .before .before .before .before .before .before in
-    open-told (lent s) (s .args .plan .now) (s .args .state .now)
+    call-told openSchema open-is-right _
     (sym (open-refused (lent s) (s .args .plan .now) (s .args .state .now) (k .check .result) (k .check .ensures) (c .if1 .taken)))
 
 start-requires : tie.Need-start-requires
@@ -33,7 +36,7 @@ returns-2 c =
     let f = o .before .before in
     let k = f .before in
     let s = k .before .before .before .before .before .before in
-    open-told (lent s) (s .args .plan .now) (s .args .state .now)
+    call-told openSchema open-is-right _
     (sym (own-refused (lent s) (s .args .plan .now) (s .args .state .now) (sym (k .check .ensures) ∙ f .if1 .left) (o .start .result) (o .start .ensures)
     (c .if2 .taken)))
 
@@ -77,7 +80,7 @@ returns-3 c =
     let p = s .args .plan .now in
     let st = s .args .state .now in
     let r = open-served (lent s) p st (sym (k .check .ensures) ∙ f .if1 .left) (o .start .result) (o .start .ensures) (y .if2 .left) in
-    open-told (lent s) p st
+    call-told openSchema open-is-right _
     (opened-words (lent s) p st (b .start2 .result) (b .start2 .ensures .1 .0) r (v .save .result) _ (v .save .ensures))
 
 pub open-spec : {M : Type 1} → statement M

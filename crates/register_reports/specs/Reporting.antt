@@ -1,15 +1,16 @@
 -- The report on a kept list of registers: its tests in order, its answer, and the buffer at exit. Assumes nothing: these are definitions.
 use Prim.Native.Nat.{ℕ, suc}
+use mathlib.Core.Path.{_≡_}
 use mathlib.Core.List.{List, [], _∷_}
 use mathlib.Core.Bool.{_&&_}
-use mathlib.Core.Option.{Option, none, some}
 use lib.ListN.{length, take}
 use lib.Dec.{leb}
 use Rattle.words.specs.declared.Written.{Written}
-use Rattle.words.specs.declared.Written.the-variants.{Words, Refused}
-use Rattle.sequences.specs.Sequences.{over}
-use Rattle.words.specs.Tests.{Test, firstFailing}
-use Rattle.registers.specs.Registers.{mostRank, keptRegisters, reportOn}
+use Rattle.words.specs.Answers.{wordsIn}
+use Rattle.words.specs.Tests.{Test}
+use Rattle.calls.specs.Calls.{CallSchema, resultOfCall}
+use Rattle.calls.specs.Words.{WordsResult, WordsOver, writesWords}
+use Rattle.registers.specs.Registers.{registerCount, mostRank, keptRegisters, reportOn, total}
 
 pub record ReportInput : Type 0 where
   pub kept : List ℕ
@@ -38,18 +39,15 @@ reportTests i =
     ∷ (12, leb (i .given) (length (i .kept)) && keptRegisters (givenRegisters i))
     ∷ []
 
--- ---- what a report answers, and what it leaves
-pub record ReportResult : Type 0 where
-  pub answer : Written
-  pub report : List ℕ
+-- ---- the call
+abbrev pub reportSchema : CallSchema ReportInput Written Written (List ℕ) ℕ
+reportSchema = writesWords reportTests (7 ∷ 12 ∷ []) (λ i. i .report) reportedWords
 
-abbrev pub reportedWith : List ℕ → List ℕ → ReportResult
-reportedWith ws report = record { answer = Words (length ws); report = over ws report }
+abbrev pub reportOf : ReportInput → WordsResult
+reportOf = resultOfCall reportSchema
 
--- a refusal changes nothing
-abbrev pub reportedAs : ReportInput → Option ℕ → ReportResult
-reportedAs i (some n) = record { answer = Refused n; report = i .report }
-reportedAs i none = reportedWith (reportedWords i) (i .report)
-
-unfoldable pub reportOf : ReportInput → ReportResult
-reportOf i = reportedAs i (firstFailing (reportTests i))
+-- a served report writes its counts over the first words of its buffer, which has room for them; there are 62, and they make 16
+pub record ReportWrites (i : ReportInput) : Type 0 where
+  pub report : WordsOver (reportedWords i) (i .report) (reportOf i)
+  pub counts : wordsIn (reportOf i .answer) ≡ reportWords
+  pub whole : total (take reportWords (reportOf i .buffers)) ≡ registerCount
