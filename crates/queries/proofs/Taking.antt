@@ -18,7 +18,7 @@ use Rattle.plans.specs.Reading.{lastIn}
 use Rattle.turns.specs.declared.TurnEnding.{TurnEnding}
 use Rattle.turns.specs.declared.TurnEnding.the-variants as ending
 use Rattle.turns.specs.declared.Turned.{Turned}
-use Rattle.turns.specs.Turns.{TurnInput, TurnBuffers, turnResult, turnOf}
+use Rattle.turns.specs.Turns.{TurnInput, turnResult, turnOf}
 use Rattle.turns.specs.Refusals.{Served}
 use Rattle.turns.proofs.Refusals as refusals
 use Rattle.turns.proofs.Follows.{follows}
@@ -75,7 +75,7 @@ output-kept : (i : TurnInput) (e : TurnEnding) → turnOf i .answer .ending ≡ 
 output-kept i ending.Done p = keeps-lengths i (serves i ending.Done p refl) .output
 output-kept i ending.Spent p = keeps-lengths i (serves i ending.Spent p refl) .output
 output-kept i ending.Full p = keeps-lengths i (serves i ending.Full p refl) .output
-output-kept i (ending.Refused x) p = ap (λ (b : TurnBuffers). length (b .output)) (refusals.turn-refusals i .unchanged x p .buffers)
+output-kept i (ending.Refused x) p = ap length (refusals.turn-unchanged i x p .1)
 
 -- ---- a turn, and its list taken
 module _ (keep : Keeping) (i : TurnInput) (kept : List ℕ) (used : ℕ) where

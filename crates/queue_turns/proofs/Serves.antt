@@ -16,8 +16,8 @@ use Rattle.sequences.proofs.Elements.{all-head}
 use Rattle.words.proofs.Testing.{orElse, first-append, passes-all, test-passed, first-fails}
 use Rattle.words.proofs.Numbering.{isNumbered, none-fails, one-fails, both-pass}
 use Rattle.turns.specs.Surveys.{Survey}
-use Rattle.turns.specs.Turns.{TurnInput, TurnBuffers, turnTests, turnOf, mostSteps}
-use Rattle.turns.proofs.Refusals.{turn-refusals}
+use Rattle.turns.specs.Turns.{TurnInput, turnTests, turnOf, mostSteps}
+use Rattle.turns.proofs.Refusals.{turn-refusals, turn-unchanged}
 use Rattle.queues.specs.declared.Entry.{Entry}
 use Rattle.queues.specs.Lists.{LentLists, lentAs, lineOf, asideOf, owners, hasSteps, hasNone, entriesRight}
 use Rattle.queues.specs.Serving.{Serving, ServeResult, entryTurn, quantumTests, frontTests, isEmpty, queueTestsBy, queueTests, serveTests}
@@ -267,8 +267,7 @@ module _ (v : Survey) (s : Serving) (line : List Entry) (given : ℕ) (aside : L
         let b : seen .spare ≡ length aside = is .spare in
         let c = roomy-so .line in let d = roomy-so .aside in let q = roomy-so .entries in let w = some-given in
         let goes = goes-so s line given aside kept e (turnOf i′) some-given (let z : given ≤ length line = omega arith in z)
-        (let z : kept < length aside = omega arith in z) (turnOf i′ .answer .ending)
-        (λ y z. ap (λ (o : TurnBuffers). o .output) (turn-refusals i′ .unchanged y z .buffers)) in
+        (let z : kept < length aside = omega arith in z) (turnOf i′ .answer .ending) (λ y z. turn-unchanged i′ y z .1) in
         subst (λ (y : ServeResult). Settles l (goesBy (x .turned .ending) x given kept) written y) (sym serve-is)
         (subst (λ (y : Ended). Settles l (goesBy (y .turned .ending) y given kept) written (turnedTo l s e es (turnOf i′) (turnOf i′ .answer .ending)))
         (sym (ended-is x written g))

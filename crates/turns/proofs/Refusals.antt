@@ -20,7 +20,7 @@ use Rattle.turns.specs.declared.TurnEnding.the-variants.{Done, Spent, Fu
 use Rattle.turns.specs.Surveys.{Survey}
 use Rattle.turns.specs.Opening.{Opened, startWords, openTests, openedWith, openedAs, openOf, Opens}
 use Rattle.turns.specs.Turns.{Progress, going, stopped, endingOf, refusalOf, valuesIn, valuesOf, TurnInput, givenPlan, turnTests, finished, served}
-use Rattle.turns.specs.Turns.{turnSchema, turnOf}
+use Rattle.turns.specs.Turns.{TurnBuffers, turnSchema, turnOf}
 use Rattle.turns.specs.Refusals.{OpenAnswers, OpenRefusals, Served}
 use Rattle.turns.proofs.Stepping.{How, roomFor, served-attempts}
 
@@ -110,6 +110,12 @@ turn-is-right =
 module _ (i : TurnInput) where
   pub turn-refusals : CallRefusals turnSchema i
   turn-refusals = call-refusals turnSchema turn-is-right i
+
+  -- a refusal leaves the state and the output that were lent
+  pub turn-unchanged : (x : ℕ) → turnOf i .answer .ending ≡ Refused x
+      → (turnOf i .buffers .state ≡ i .state) × (turnOf i .buffers .output ≡ i .output)
+  turn-unchanged x e =
+      let b = turn-refusals .unchanged x e .buffers in (ap (λ (o : TurnBuffers). o .state) b, ap (λ (o : TurnBuffers). o .output) b)
 
   -- a test that a served turn passed, by its number
   pub turn-passed : (n : ℕ) → Served i → testNumbered n (turnTests i) ≡ true
