@@ -55,7 +55,7 @@ module _ (i : TurnInput) (serve : Served i) where
   -- what a turn that is served says of its tables and its plan
   pub turn-accepts : Accepted (i .survey .tables) (i .plan)
   turn-accepts =
-      let passed = turn-refusals i .serves .0 serve in
+      let passed = turn-refusals i .served .0 serve in
       record {
         tables = all-passes (tableTests (i .survey .tables)) (front-passes (tableTests (i .survey .tables)) (planTests (i .plan) ++ ownTests i) passed);
         read = was-read (readPlan (i .plan)) (turn-passed i 5 serve);

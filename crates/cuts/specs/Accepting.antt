@@ -41,7 +41,7 @@ StateAccepted i =
 
 -- the state that a turn left, as words; and a turn over the same survey and plan that is given it, with some words behind it
 abbrev pub leftBy : TurnInput → List ℕ
-leftBy i = take (turnOf i .answer .saved) (turnOf i .state)
+leftBy i = take (turnOf i .answer .saved) (turnOf i .buffers .state)
 
 abbrev pub resumed : TurnInput → List ℕ → ℕ → List ℕ → List ℕ → TurnInput
 resumed i behind quantum threshold output =

@@ -74,8 +74,8 @@ servedOf quantum threshold r =
       sent = threshold;
       ending = r .answer .ending;
       steps = r .answer .steps;
-      list = take (r .answer .listed) (r .output);
-      left = take (r .answer .saved) (r .state);
+      list = take (r .answer .listed) (r .buffers .output);
+      left = take (r .answer .saved) (r .buffers .state);
     }
 
 abbrev pub afterServed : Phone → ServedTurn → Phone

@@ -22,7 +22,7 @@ module _ (i : TurnInput) (kept : List ℕ) (used : ℕ) (r : Step) (state out le
   turned-is : r .turned ≡ turnOf i .answer
   turned-is = step-turned Merged i kept used r state out left h
 
-  output-is : out ≡ turnOf i .output
+  output-is : out ≡ turnOf i .buffers .output
   output-is = step-output Merged i kept used r state out left h
 
   pub list-room : r .turned .listed ≤ length out

@@ -22,7 +22,7 @@ use Rattle.lists.proofs.Closing.{rows-at}
 use Rattle.turns.specs.declared.TurnEnding.{TurnEnding}
 use Rattle.turns.specs.declared.TurnEnding.the-variants.{Done, Spent, Full, Refused}
 use Rattle.turns.specs.declared.Turned.{Turned}
-use Rattle.turns.specs.Turns.{isOver, TurnInput, turnOf}
+use Rattle.turns.specs.Turns.{isOver, TurnValues, TurnInput, turnOf}
 use Rattle.turns.proofs.Refusals.{turn-refusals}
 use Rattle.queries.specs.Stepping.{isServed}
 use Rattle.queries.specs.Playing.{Shows}
@@ -32,7 +32,7 @@ use Rattle.queries.proofs.Taking.{served-room}
 module _ (i : TurnInput) where
   -- that of a refused turn has no words
   refused-listed : (e : TurnEnding) → turnOf i .answer .ending ≡ e → isServed e ≡ false → turnOf i .answer .listed ≡ 0
-  refused-listed (Refused x) p f = turn-refusals i .unchanged x p .listed
+  refused-listed (Refused x) p f = ap (λ (w : TurnValues). w .listed) (turn-refusals i .unchanged x p .words)
   refused-listed Done p f = absurd-true refl f
   refused-listed Spent p f = absurd-true refl f
   refused-listed Full p f = absurd-true refl f
@@ -40,11 +40,11 @@ module _ (i : TurnInput) where
   none-listed : isServed (turnOf i .answer .ending) ≡ false → turnOf i .answer .listed ≡ 0
   none-listed f = refused-listed (turnOf i .answer .ending) refl f
 
-  by-serving : (b : Bool) → isServed (turnOf i .answer .ending) ≡ b → turnOf i .answer .listed ≤ length (turnOf i .output)
-  by-serving true p = served-room i (turnOf i .answer) (turnOf i .output) refl refl p
+  by-serving : (b : Bool) → isServed (turnOf i .answer .ending) ≡ b → turnOf i .answer .listed ≤ length (turnOf i .buffers .output)
+  by-serving true p = served-room i (turnOf i .answer) (turnOf i .buffers .output) refl refl p
   by-serving false p = omega (arith, none-listed p)
 
-  pub listed-room : turnOf i .answer .listed ≤ length (turnOf i .output)
+  pub listed-room : turnOf i .answer .listed ≤ length (turnOf i .buffers .output)
   listed-room = by-serving (isServed (turnOf i .answer .ending)) refl
 
 -- ---- and is whole rows

@@ -206,7 +206,8 @@ module _ (keep : Keeping) (v : Survey) (plan : List ℕ) (a : Accepted (v .table
                 ap doneIn (append-nil (h .taken ++ (x ∷ [])))
                 ∙ done-more (h .taken) x (ap doneIn (sym all-taken) ∙ going)
 
-            pub goes-on : ¬ (saved ≡ 0) → (v : UnderWay keep v plan first before (count + 1) (turnOf i .state) (turnOf i .answer .saved) new words)
+            pub goes-on : ¬ (saved ≡ 0)
+                → (v : UnderWay keep v plan first before (count + 1) (turnOf i .buffers .state) (turnOf i .answer .saved) new words)
                 × (doneIn (servedIn (v .held)) ≡ isDone (turnOf i .answer .ending))
                 × (stepsIn (v .held .taken) ≡ stepsIn (h .taken) + x .steps)
             goes-on f =

@@ -65,7 +65,7 @@ module _ (keep : Keeping) (v : Survey) (plan : List ℕ) (a : Accepted (v .table
     Then now left w = Becomes keep v plan first before quantum most (length output) count now left w
 
     stopped : (y : ℕ) (left : List ℕ) → (left ≡ kept) × Cause keep t plan quantum (length output) before n y
-        → Then (turnOf i .state) left (Stopped y)
+        → Then (turnOf i .buffers .state) left (Stopped y)
     stopped y left p =
         leaving.stops keep v plan a first k before count state saved kept used u quantum most (length output) fewer (g .made) left y
         (p .1) (p .0)
@@ -78,7 +78,7 @@ module _ (keep : Keeping) (v : Survey) (plan : List ℕ) (a : Accepted (v .table
           (taking.made-more keep v plan a first k before quantum count output state saved kept used g (ap isServed f ∙ s)
           (ap (λ j. runFits (q .ending) (after t q j)) (sym (p .2)) ∙ p .0 .fits))
 
-      goes : isDone e ≡ false → Then (turnOf i .state) (m .buffers) (On (turnOf i .answer .saved) words)
+      goes : isDone e ≡ false → Then (turnOf i .buffers .state) (m .buffers) (On (turnOf i .answer .saved) words)
       goes d =
           record {
             under = p .0;
@@ -86,7 +86,7 @@ module _ (keep : Keeping) (v : Survey) (plan : List ℕ) (a : Accepted (v .table
             made = made-then;
           }
 
-      over-then : isDone e ≡ true → Then (turnOf i .state) (m .buffers) (Over words)
+      over-then : isDone e ≡ true → Then (turnOf i .buffers .state) (m .buffers) (Over words)
       over-then d =
           record {
             count = count + 1;
@@ -98,7 +98,7 @@ module _ (keep : Keeping) (v : Survey) (plan : List ℕ) (a : Accepted (v .table
           }
 
     by-taking : (e : TurnEnding) → turnOf i .answer .ending ≡ e → isServed e ≡ true → (w : Written) → Taken (m .buffers) w
-        → Then (turnOf i .state) (m .buffers) (wentAs e (turnOf i .answer .saved) w)
+        → Then (turnOf i .buffers .state) (m .buffers) (wentAs e (turnOf i .answer .saved) w)
     by-taking e f s (written.Refused y) p = stopped y (m .buffers) p
     by-taking ending.Done f s (written.Words words) p = over-then ending.Done f s words p refl
     by-taking ending.Spent f s (written.Words words) p = goes ending.Spent f s words p refl
@@ -106,7 +106,7 @@ module _ (keep : Keeping) (v : Survey) (plan : List ℕ) (a : Accepted (v .table
     by-taking (ending.Refused y) f s (written.Words words) p = absurd-true s refl
 
     module _ (e : TurnEnding) (f : turnOf i .answer .ending ≡ e) where
-      served-becomes : isServed e ≡ true → Then (turnOf i .state) (m .buffers) (wentAs e (turnOf i .answer .saved) (m .answer))
+      served-becomes : isServed e ≡ true → Then (turnOf i .buffers .state) (m .buffers) (wentAs e (turnOf i .answer .saved) (m .answer))
       served-becomes s = by-taking e f s (m .answer)
           (taking.list-taken keep v plan a first k before quantum count output state saved kept used g (ap isServed f ∙ s))
 
@@ -119,12 +119,13 @@ module _ (keep : Keeping) (v : Survey) (plan : List ℕ) (a : Accepted (v .table
         turn-stopped i a (advancing.given-passed keep v plan a first k before count state saved kept used u quantum output (g .alive)) (u .state-room)
         refl keep before n y f
 
-    by-ending : (e : TurnEnding) → turnOf i .answer .ending ≡ e → Then (turnOf i .state) (m .buffers) (wentAs e (turnOf i .answer .saved) (m .answer))
+    by-ending : (e : TurnEnding) → turnOf i .answer .ending ≡ e
+        → Then (turnOf i .buffers .state) (m .buffers) (wentAs e (turnOf i .answer .saved) (m .answer))
     by-ending ending.Done f = served-becomes ending.Done f refl
     by-ending ending.Spent f = served-becomes ending.Spent f refl
     by-ending ending.Full f = served-becomes ending.Full f refl
     by-ending (ending.Refused y) f =
-        subst⁻¹ (λ (r : WordsResult). Then (turnOf i .state) (r .buffers) (wentAs (ending.Refused y) (turnOf i .answer .saved) (r .answer)))
+        subst⁻¹ (λ (r : MergeResult). Then (turnOf i .buffers .state) (r .kept) (wentAs (ending.Refused y) (turnOf i .answer .saved) (r .answer)))
         (not-taken (ending.Refused y) f refl) (stopped y kept (refl, turn-cause y f))
 
     pub becomes : Then (takeTurnOf keep i kept used .state) (takeTurnOf keep i kept used .kept) (wentOf (takeTurnOf keep i kept used .answer))

@@ -85,7 +85,7 @@ module _ (keep : Keeping) (v : Survey) (plan : List ℕ) (a : Accepted (v .table
     -- what the list's taking comes to, by its answer
     abbrev pub TakenAs : List ℕ → Written → Type 0
     TakenAs left (written.Words words) =
-        (v : UnderWay keep v plan first before (count + 1) (turnOf i .state) (turnOf i .answer .saved) left words)
+        (v : UnderWay keep v plan first before (count + 1) (turnOf i .buffers .state) (turnOf i .answer .saved) left words)
         × (doneIn (servedIn (v .held)) ≡ isDone (turnOf i .answer .ending))
         × (stepsIn (v .held .taken) ≡ n + x .steps)
     TakenAs left (written.Refused y) = (left ≡ kept) × Cause keep t plan quantum (length output) before n y

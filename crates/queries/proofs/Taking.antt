@@ -18,7 +18,7 @@ use Rattle.plans.specs.Reading.{endingKindIn}
 use Rattle.turns.specs.declared.TurnEnding.{TurnEnding}
 use Rattle.turns.specs.declared.TurnEnding.the-variants as ending
 use Rattle.turns.specs.declared.Turned.{Turned}
-use Rattle.turns.specs.Turns.{TurnInput, turnOf}
+use Rattle.turns.specs.Turns.{TurnInput, turnResult, turnOf}
 use Rattle.turns.specs.Refusals.{Served}
 use Rattle.turns.proofs.Refusals as refusals
 use Rattle.turns.proofs.Follows.{follows}
@@ -64,28 +64,29 @@ served-form i r e h =
     refusals.turn-passed i 5 (is-served i (ap (λ (x : Turned). isServed (x .ending)) (sym e) ∙ h))
 
 -- its list is in the output
-pub served-room : (i : TurnInput) (r : Turned) (out : List ℕ) → r ≡ turnOf i .answer → out ≡ turnOf i .output → isServed (r .ending) ≡ true
-    → r .listed ≤ length out
+pub served-room : (i : TurnInput) (r : Turned) (out : List ℕ) → r ≡ turnOf i .answer → out ≡ turnOf i .buffers .output
+    → isServed (r .ending) ≡ true → r .listed ≤ length out
 served-room i r out e f h =
     let s = is-served i (ap (λ (x : Turned). isServed (x .ending)) (sym e) ∙ h) in
     omega (arith, follows i s .room, keeps-lengths i s .output, ap length f, ap (λ (x : Turned). x .listed) e)
 
 -- the output keeps its length, served or not
-output-kept : (i : TurnInput) (e : TurnEnding) → turnOf i .answer .ending ≡ e → length (turnOf i .output) ≡ length (i .output)
+output-kept : (i : TurnInput) (e : TurnEnding) → turnOf i .answer .ending ≡ e → length (turnOf i .buffers .output) ≡ length (i .output)
 output-kept i ending.Done p = keeps-lengths i (serves i ending.Done p refl) .output
 output-kept i ending.Spent p = keeps-lengths i (serves i ending.Spent p refl) .output
 output-kept i ending.Full p = keeps-lengths i (serves i ending.Full p refl) .output
-output-kept i (ending.Refused x) p = ap length (refusals.turn-refusals i .unchanged x p .output)
+output-kept i (ending.Refused x) p = ap length (refusals.turn-unchanged i x p .1)
 
 -- ---- a turn, and its list taken
 module _ (keep : Keeping) (i : TurnInput) (kept : List ℕ) (used : ℕ) where
-  module _ (r : Turned) (state out : List ℕ) (er : r ≡ turnOf i .answer) (es : state ≡ turnOf i .state) (eo : out ≡ turnOf i .output) where
+  module _ (r : Turned) (state out : List ℕ) (er : r ≡ turnOf i .answer) (es : state ≡ turnOf i .buffers .state)
+      (eo : out ≡ turnOf i .buffers .output) where
     -- the buffers are those of the turn
-    as-turned : (m : WordsResult) → steppedAs (record { answer = r; state = state; output = out }) m ≡ steppedAs (turnOf i) m
+    as-turned : (m : WordsResult) → steppedAs (turnResult r state out) m ≡ steppedAs (turnOf i) m
     as-turned m = rw (er, es, eo)
 
     pub list-taken : (m : WordsResult) → isServed (r .ending) ≡ true → m ≡ listTaken keep (i .plan) kept used (take (r .listed) out)
-        → steppedAs (record { answer = r; state = state; output = out }) m ≡ takeTurnOf keep i kept used
+        → steppedAs (turnResult r state out) m ≡ takeTurnOf keep i kept used
     unfolding takeTurnOf
     list-taken m h f =
         let g : isServed (turnOf i .answer .ending) ≡ true = rw er at h in
@@ -93,7 +94,7 @@ module _ (keep : Keeping) (i : TurnInput) (kept : List ℕ) (used : ℕ) where
         as-turned m ∙ ap (steppedAs (turnOf i)) (f ∙ ap (listTaken keep (i .plan) kept used) l ∙ rw g)
 
     pub none-taken : isServed (r .ending) ≡ false
-        → steppedAs (record { answer = r; state = state; output = out }) (leftAsIs kept used) ≡ takeTurnOf keep i kept used
+        → steppedAs (turnResult r state out) (leftAsIs kept used) ≡ takeTurnOf keep i kept used
     unfolding takeTurnOf
     none-taken h =
         let g : isServed (turnOf i .answer .ending) ≡ false = rw er at h in
@@ -109,7 +110,7 @@ module _ (keep : Keeping) (i : TurnInput) (kept : List ℕ) (used : ℕ) where
     unfolding takeTurnOf
     step-turned = ap (λ (x : Stepped). x .answer .turned) h
 
-    pub step-output : out ≡ turnOf i .output
+    pub step-output : out ≡ turnOf i .buffers .output
     unfolding takeTurnOf
     step-output = ap (λ (x : Stepped). x .output) h
 

@@ -67,11 +67,11 @@ pub record Stepped : Type 0 where
 
 abbrev pub steppedAs : TurnResult → WordsResult → Stepped
 steppedAs r m =
-    record { answer = record { turned = r .answer; taken = m .answer }; state = r .state; output = r .output; kept = m .buffers }
+    record { answer = record { turned = r .answer; taken = m .answer }; state = r .buffers .state; output = r .buffers .output; kept = m .buffers }
 
 -- the list that a turn leaves in its output
 abbrev pub outputList : TurnResult → List ℕ
-outputList r = take (r .answer .listed) (r .output)
+outputList r = take (r .answer .listed) (r .buffers .output)
 
 -- of a turn that was served its list is taken, of any other nothing
 abbrev pub takenBy : Keeping → TurnInput → TurnResult → List ℕ → ℕ → WordsResult

@@ -56,7 +56,7 @@ module _ (owner : ℕ) where
 -- ---- a turn of the front entry
 pub record FrontTold (v : Survey) (s : Serving) (e : Entry) (y : ServeResult) : Type 0 where
   pub turned : y .answer .turned ≡ frontTurn v s e .answer
-  pub output : y .output ≡ frontTurn v s e .output
+  pub output : y .output ≡ frontTurn v s e .buffers .output
   pub served : (x : ℕ) → frontTurn v s e .answer .ending ≡ ending.Refused x → ⊥
 
 abbrev pub NotDone : Survey → Serving → Entry → Type 0

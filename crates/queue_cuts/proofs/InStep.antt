@@ -90,7 +90,7 @@ module _ (v : Survey) (plan : List ℕ) (owner : ℕ) (s : Serving) (e : Entry) 
         ending = w .turned i .ending;
         steps = w .turned i .steps;
         list = take (w .turned i .listed) (w .output i);
-        left = take (w .turned i .saved) (res .state);
+        left = take (w .turned i .saved) (res .buffers .state);
       }
 
 -- ---- what one call means for the owner
@@ -171,7 +171,7 @@ module _ (v : Survey) (owner : ℕ) (plan : List ℕ) where
       step-of : (line aside : List Entry) (xs ys : List Entry) → line ≡ es ++ xs → aside ≡ q .aside ++ ys
           → ((e .owner ≡ owner → ⊥) → NoneOf owner xs × NoneOf owner ys)
           → (e .owner ≡ owner → (hs : AtFront (h .saved) q e es)
-          → Waits owner plan (take (made .answer .saved) (made .state)) (queue line aside))
+          → Waits owner plan (take (made .answer .saved) (made .buffers .state)) (queue line aside))
           → Step h (queue line aside) (events (q .line)) (services (q .line))
       step-of line aside xs ys f g others own = rw (front, counted) (by-owner (eqb (e .owner) owner) refl)
         where

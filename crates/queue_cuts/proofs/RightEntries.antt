@@ -107,10 +107,10 @@ module _ (v : Survey) where
       r : TurnResult
       r = frontTurn v s e
 
-      there : r .answer .saved ≤ length (r .state)
+      there : r .answer .saved ≤ length (r .buffers .state)
       there = let o = over-lengths (follows i serve .state) in o .0
 
-      roomy : leastStateWords ≤ length (r .state)
+      roomy : leastStateWords ≤ length (r .buffers .state)
       roomy = let o = over-lengths (follows i serve .state) in let g = h .room in omega (arith, o .1, g)
 
       left : WordsAccepted v (entryPlan e) (leftBy i)

@@ -31,7 +31,7 @@ entryWith e steps saved state =
 pub record EndedBy (r : TurnResult) (e : Entry) (x : Ended) (written : List ℕ) : Type 0 where
   pub turned : x .turned ≡ r .answer
   pub entry : x .entry ≡ entryAfter e r
-  pub output : written ≡ r .output
+  pub output : written ≡ r .buffers .output
 
 -- ---- where an entry goes after its turn, by places
 abbrev pub servingRefused : ℕ → ServeChanges

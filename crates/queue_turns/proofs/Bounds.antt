@@ -5,7 +5,7 @@ use mathlib.Core.Path.{_≡_, refl, ap}
 use lib.ListN.{length, drop, length-append, length-drop}
 use Rattle.turns.specs.declared.TurnEnding.{TurnEnding}
 use Rattle.turns.specs.declared.TurnEnding.the-variants as ending
-use Rattle.turns.specs.Turns.{TurnInput, turnOf}
+use Rattle.turns.specs.Turns.{TurnValues, TurnInput, turnOf}
 use Rattle.steps.specs.Saved.{savedWords}
 use Rattle.turns.specs.Follows.{turnRun}
 use Rattle.turns.specs.Refusals.{Served}
@@ -38,6 +38,6 @@ module _ (i : TurnInput) where
       by-ending ending.Spent is = when-served (λ x e. let z : _≡_ {A = ℕ} 0 1 = cc in omega arith)
       by-ending ending.Full is = when-served (λ x e. let z : _≡_ {A = ℕ} 0 1 = cc in omega arith)
       by-ending (ending.Refused y) is =
-          let u = turn-refusals i .unchanged y is in
-          let a = u .steps in let b = u .saved in
+          let u = turn-refusals i .unchanged y is .words in
+          let a = ap (λ (w : TurnValues). w .steps) u in let b = ap (λ (w : TurnValues). w .saved) u in
           record { steps = omega arith; saved = omega arith }

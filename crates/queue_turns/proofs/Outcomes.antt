@@ -64,7 +64,7 @@ module _ (s : Serving) (line : List Entry) (given : ℕ) (aside : List Entry) (k
       settled-back line e′ 0 given some-wait line-long
       ∙ ap (λ (n : ℕ). entriesOver (take n (drop 1 line) ++ (e′ ∷ [])) line) (let z : given - 1 - 0 ≡ given - 1 = omega arith in z)
 
-  leaves : DecidesServing l (dequeuedBy x given kept) (r .output) (serviceWith l e r es (asideOf l))
+  leaves : DecidesServing l (dequeuedBy x given kept) (r .buffers .output) (serviceWith l e r es (asideOf l))
   leaves =
       record {
         line = ((λ z. omega (arith, line-long)), (λ z. absurd-true z refl));
@@ -79,7 +79,7 @@ module _ (s : Serving) (line : List Entry) (given : ℕ) (aside : List Entry) (k
           };
           line = gone i;
           aside = sym (stays aside kept all-rest) i;
-          output = r .output;
+          output = r .buffers .output;
         };
       }
 
@@ -88,7 +88,7 @@ module _ (s : Serving) (line : List Entry) (given : ℕ) (aside : List Entry) (k
       (cond {A = ServeChanges} b
       (record { answer = answeredBy x (given - 1) (kept + 1); line = removed 0 given; aside = appended kept; entry = e′ })
       (record { answer = answeredBy x given kept; line = rotated given; aside = unchanged; entry = e′ }))
-      (r .output)
+      (r .buffers .output)
       (cond b (serviceWith l e r es (asideOf l ++ (e′ ∷ []))) (serviceWith l e r (es ++ (e′ ∷ [])) (asideOf l)))
   goes-back true =
       record {
@@ -104,7 +104,7 @@ module _ (s : Serving) (line : List Entry) (given : ℕ) (aside : List Entry) (k
           };
           line = gone i;
           aside = settled-added aside e′ kept aside-long i;
-          output = r .output;
+          output = r .buffers .output;
         };
       }
   goes-back false =
@@ -121,13 +121,13 @@ module _ (s : Serving) (line : List Entry) (given : ℕ) (aside : List Entry) (k
           };
           line = back i;
           aside = sym (stays aside kept all-rest) i;
-          output = r .output;
+          output = r .buffers .output;
         };
       }
 
   -- by the ending; a refused turn wrote nothing
-  pub goes-so : (y : TurnEnding) → ((z : ℕ) → y ≡ ending.Refused z → r .output ≡ s .output)
-      → DecidesServing l (turnOutcomeBy y x given kept) (r .output) (turnedTo l s e es r y)
+  pub goes-so : (y : TurnEnding) → ((z : ℕ) → y ≡ ending.Refused z → r .buffers .output ≡ s .output)
+      → DecidesServing l (turnOutcomeBy y x given kept) (r .buffers .output) (turnedTo l s e es r y)
   goes-so ending.Done h = leaves
   goes-so ending.Spent h = goes-back (eqb (e .allowance - r .answer .steps) 0)
   goes-so ending.Full h = goes-back (eqb (e .allowance - r .answer .steps) 0)

@@ -13,11 +13,11 @@ use Rattle.sequences.specs.Sequences.{all, distinct}
 use Rattle.words.specs.Tests.{Test, firstFailing, numberOf, AllPass}
 use Rattle.sequences.proofs.Booleans.{absurd-true, and-left, and-right, and-both}
 use Rattle.sequences.proofs.Elements.{all-head}
-use Rattle.words.proofs.Testing.{orElse, first-append, passes-all, test-passed}
+use Rattle.words.proofs.Testing.{orElse, first-append, passes-all, test-passed, first-fails}
 use Rattle.words.proofs.Numbering.{isNumbered, none-fails, one-fails, both-pass}
 use Rattle.turns.specs.Surveys.{Survey}
-use Rattle.turns.specs.Turns.{TurnInput, turnTests, turnedAs, turnOf, mostSteps}
-use Rattle.turns.proofs.Refusals.{turn-refusals}
+use Rattle.turns.specs.Turns.{TurnInput, turnTests, turnOf, mostSteps}
+use Rattle.turns.proofs.Refusals.{turn-refusals, turn-unchanged}
 use Rattle.queues.specs.declared.Entry.{Entry}
 use Rattle.queues.specs.Lists.{LentLists, lentAs, lineOf, asideOf, owners, hasSteps, hasNone, entriesRight}
 use Rattle.queues.specs.Serving.{Serving, ServeResult, entryTurn, quantumTests, frontTests, isEmpty, queueTestsBy, queueTests, serveTests}
@@ -230,12 +230,12 @@ module _ (v : Survey) (s : Serving) (line : List Entry) (given : ℕ) (aside : L
         ∙ same-at-least
 
     serve-is : serveOf v l s ≡ turnedTo l s e es (turnOf i′) (turnOf i′ .answer .ending)
-    unfolding serveOf turnOf
+    unfolding serveOf
     serve-is = ap (servedAs v l s) tests-are ∙ by-tests (firstFailing (turnTests i′)) refl
       where
         by-tests : (o : Option ℕ) → firstFailing (turnTests i′) ≡ o
             → servedAs v l s o ≡ turnedTo l s e es (turnOf i′) (turnOf i′ .answer .ending)
-        by-tests (some x) h = sym (ap (λ (q : Option ℕ). turnedTo l s e es (turnOf i′) (turnedAs i′ q .answer .ending)) h)
+        by-tests (some x) h = sym (ap (turnedTo l s e es (turnOf i′)) (turn-refusals i′ .refused x .1 (first-fails x (turnTests i′) h)))
         by-tests none h = ap (frontServed v l s) line-is
 
     -- the room that there is
@@ -267,7 +267,7 @@ module _ (v : Survey) (s : Serving) (line : List Entry) (given : ℕ) (aside : L
         let b : seen .spare ≡ length aside = is .spare in
         let c = roomy-so .line in let d = roomy-so .aside in let q = roomy-so .entries in let w = some-given in
         let goes = goes-so s line given aside kept e (turnOf i′) some-given (let z : given ≤ length line = omega arith in z)
-        (let z : kept < length aside = omega arith in z) (turnOf i′ .answer .ending) (λ y z. turn-refusals i′ .unchanged y z .output) in
+        (let z : kept < length aside = omega arith in z) (turnOf i′ .answer .ending) (λ y z. turn-unchanged i′ y z .1) in
         subst (λ (y : ServeResult). DecidesServing l (turnOutcomeBy (x .turned .ending) x given kept) written y) (sym serve-is)
         (subst (λ (y : Ended). DecidesServing l (turnOutcomeBy (y .turned .ending) y given kept) written
         (turnedTo l s e es (turnOf i′) (turnOf i′ .answer .ending)))

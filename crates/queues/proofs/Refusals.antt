@@ -88,7 +88,7 @@ module _ (v : Survey) (l : LentLists) (s : Serving) where
   front-serves : (e : Entry) → 1 ≤ e .allowance → AllPass (turnTests (entryTurn v s e (s .quantum)))
       → Served (entryTurn v s e (min (s .quantum) (e .allowance)))
   front-serves e some-left passed =
-      turn-refusals (entryTurn v s e n) .serves .1 (rw within (rw asked at passed))
+      turn-refusals (entryTurn v s e n) .served .1 (rw within (rw asked at passed))
     where
       n : ℕ
       n = min (s .quantum) (e .allowance)

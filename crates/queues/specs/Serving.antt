@@ -76,7 +76,7 @@ entryAfter e r =
       planned = e .planned;
       saved = r .answer .saved;
       plan = e .plan;
-      state = r .state;
+      state = r .buffers .state;
     }
 
 -- both lists after a turn of the front entry
@@ -92,7 +92,7 @@ serviceWith l e r line aside =
       };
       line = entriesOver line (l .line);
       aside = entriesOver aside (l .aside);
-      output = r .output;
+      output = r .buffers .output;
     }
 
 -- unfinished, it goes to the back with steps left, and to the end of the list set aside with none

@@ -69,10 +69,10 @@ pub extern "C" fn sotjarn_turn(
         (now (state .entry)) given quantum (now (threshold .entry)) (now (output .entry))) .answer) ⌝ }
     ensures state { λ _. ⌜ now (state .exit)
         ≡ turnOf (turnInput (now (rows .entry)) (now (pos .entry)) (now (osp .entry)) survey (now (plan .entry)) (now (state .entry)) given quantum
-        (now (threshold .entry)) (now (output .entry))) .state ⌝ }
+        (now (threshold .entry)) (now (output .entry))) .buffers .state ⌝ }
     ensures output { λ _. ⌜ now (output .exit)
         ≡ turnOf (turnInput (now (rows .entry)) (now (pos .entry)) (now (osp .entry)) survey (now (plan .entry)) (now (state .entry)) given quantum
-        (now (threshold .entry)) (now (output .entry))) .output ⌝ }
+        (now (threshold .entry)) (now (output .entry))) .buffers .output ⌝ }
 {
     turned_numbers(turn_calls::turn(
         rows,

@@ -12,11 +12,11 @@ ghost use Prim.Native.Nat.{_≤_, _<_};
 ghost use lib.ListN.{length};
 ghost use Rattle.words.specs.Words.{lowNumbers};
 ghost use Rattle.sequences.specs.Sequences.{over};
+ghost use Rattle.calls.specs.Calls.{AnswersRight};
 ghost use Rattle.steps.specs.Saved.{savedWords, leastStateWords};
 ghost use Rattle.state_saving.specs.Loading.{Storable};
 ghost use Rattle.turns.specs.declared.TurnEnding.{TurnEnding};
-ghost use Rattle.turns.specs.Turns.{turnOf, turnInput};
-ghost use Rattle.turns.specs.Refusals.{TurnAnswers};
+ghost use Rattle.turns.specs.Turns.{turnInput, turnResult, turnSchema, turnOf};
 ghost use Rattle.turn_savings.specs.Leaving.{leftAt};
 ghost use Rattle.turn_runs.specs.Running.{answerOf};
 
@@ -51,10 +51,10 @@ pub fn turn(
     threshold: &[u32],
     output: &mut [u32],
 ) -> Turned
-    ensures { λ r. ⌜ record { answer = r; state = now (state .exit); output = now (output .exit) }
+    ensures { λ r. ⌜ turnResult r (now (state .exit)) (now (output .exit))
         ≡ turnOf (turnInput (now (rows .entry)) (now (pos .entry)) (now (osp .entry)) survey (now (plan .entry)) (now (state .entry)) given quantum
         (now (threshold .entry)) (now (output .entry))) ⌝ }
-    ensures number { λ r. ⌜ TurnAnswers
+    ensures number { λ r. ⌜ AnswersRight turnSchema
         (turnInput (now (rows .entry)) (now (pos .entry)) (now (osp .entry)) survey (now (plan .entry)) (now (state .entry)) given quantum
         (now (threshold .entry)) (now (output .entry))) r ⌝ }
 {

@@ -1,7 +1,7 @@
 -- A served turn is steps of the run from the state that it was given, which its threshold prunes, and a served opening writes where the uncut run starts.
 use Prim.Native.Nat.{ℕ, _≤_}
 use native.Mathlib.Omega.{arith}
-use mathlib.Core.Path.{_≡_, refl, sym, _∙_, ap, subst⁻¹}
+use mathlib.Core.Path.{_≡_, sym, _∙_, ap, subst⁻¹}
 use mathlib.Core.List.{List, []}
 use lib.ListN.{length}
 use borrow.Author.Tests.{leb-true}
@@ -18,8 +18,7 @@ use Rattle.lists.proofs.OneRow.{none-fits}
 use Rattle.lists.proofs.Closing.{at-room}
 use Rattle.turns.specs.Surveys.{Survey}
 use Rattle.turns.specs.Opening.{openInput, startWords, openSchema, openOf, Opens}
-use Rattle.turns.specs.Turns.{Progress, going, stopped, endingOf, stepsOf, leftOf, rowsOf, TurnInput, TurnResult, resultOf, givenPlan}
-use Rattle.turns.specs.Turns.{isOver, turnList, finished, served, turnOf}
+use Rattle.turns.specs.Turns.{endingOf, stepsOf, leftOf, rowsOf, isOver, TurnInput, TurnResult, resultOf, givenPlan, served, turnOf}
 use Rattle.turns.specs.Refusals.{Served}
 use Rattle.turns.specs.Follows.{givenRun, turnRun, listOf, Follows, StartsRun}
 use Rattle.turns.proofs.Stepping.{has-room, served-attempts, done-over}
@@ -27,24 +26,12 @@ use Rattle.turns.proofs.Opening.{open-is-right, open-passed}
 use Rattle.turns.proofs.Refusals.{turned-so}
 use Rattle.turns.proofs.Limits.{turn-limits}
 
--- the result of some progress, by its parts
-pub by-parts : (i : TurnInput) (p : Progress)
-    → finished i p ≡ resultOf i (endingOf p) (stepsOf p) (savedWords (i .survey .number) (leftOf p)) (turnList i (endingOf p) (rowsOf p))
-by-parts i (going n s bs) = refl
-by-parts i (stopped e n s bs) = refl
-
 module _ (i : TurnInput) (serve : Served i) where
-  -- the parts of a served turn's result
-  pub served-parts : turnOf i
-      ≡ resultOf i (endingOf (served i)) (stepsOf (served i)) (savedWords (i .survey .number) (leftOf (served i)))
-      (turnList i (endingOf (served i)) (rowsOf (served i)))
-  served-parts = turned-so i serve ∙ by-parts i (served i)
-
   pub served-steps : turnOf i .answer .steps ≡ stepsOf (served i)
-  served-steps = ap (λ (r : TurnResult). r .answer .steps) served-parts
+  served-steps = ap (λ (r : TurnResult). r .answer .steps) (turned-so i serve)
 
   pub served-ending : turnOf i .answer .ending ≡ endingOf (served i)
-  served-ending = ap (λ (r : TurnResult). r .answer .ending) served-parts
+  served-ending = ap (λ (r : TurnResult). r .answer .ending) (turned-so i serve)
 
   -- the run where the turn leaves it
   pub served-run : turnRun i ≡ record { state = leftOf (served i); delivered = rowsOf (served i) }
@@ -54,7 +41,7 @@ module _ (i : TurnInput) (serve : Served i) where
   served-result : turnOf i
       ≡ resultOf i (endingOf (served i)) (stepsOf (served i)) (savedWords (i .survey .number) (turnRun i .state)) (listOf i (turnRun i))
   served-result =
-      served-parts
+      turned-so i serve
       ∙ ap (λ d. resultOf i (endingOf (served i)) (stepsOf (served i)) (savedWords (i .survey .number) (leftOf (served i)))
       (listAt (givenPlan i .ending) (i .threshold) d (rowsOf (served i)))) (done-over i)
       ∙ ap (λ (u : Run). resultOf i (endingOf (served i)) (stepsOf (served i)) (savedWords (i .survey .number) (u .state)) (listOf i u))
@@ -77,9 +64,9 @@ module _ (i : TurnInput) (serve : Served i) where
   pub follows : Follows i
   follows =
       record {
-        state = subst⁻¹ (λ (r : TurnResult). Overwritten (savedWords (i .survey .number) (turnRun i .state)) (i .state) (r .state) (r .answer .saved))
-            served-result (overwritten (savedWords (i .survey .number) (turnRun i .state)) (i .state));
-        output = subst⁻¹ (λ (r : TurnResult). Overwritten (listOf i (turnRun i)) (i .output) (r .output) (r .answer .listed))
+        state = let ws = savedWords (i .survey .number) (turnRun i .state) in
+            subst⁻¹ (λ (r : TurnResult). Overwritten ws (i .state) (r .buffers .state) (r .answer .saved)) served-result (overwritten ws (i .state));
+        output = subst⁻¹ (λ (r : TurnResult). Overwritten (listOf i (turnRun i)) (i .output) (r .buffers .output) (r .answer .listed))
             served-result (overwritten (listOf i (turnRun i)) (i .output));
         room = subst⁻¹ (λ (r : TurnResult). r .answer .listed ≤ length (i .output)) served-result list-fits;
       }

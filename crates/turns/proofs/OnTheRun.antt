@@ -56,7 +56,7 @@ module _ (i : TurnInput) (serve : Served i) where
   tables-right : Right (i .survey .tables)
   tables-right =
       right (i .survey .tables) (all-passes (tableTests (i .survey .tables))
-      (front-passes (tableTests (i .survey .tables)) (planTests (i .plan) ++ ownTests i) (turn-refusals i .serves .0 serve)))
+      (front-passes (tableTests (i .survey .tables)) (planTests (i .plan) ++ ownTests i) (turn-refusals i .served .0 serve)))
 
   shape : shapeRight (i .survey .tables) (givenPlan i) (givenState i) ≡ true
   shape =

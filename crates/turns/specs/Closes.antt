@@ -16,7 +16,7 @@ pub record Closes (i : TurnInput) : Type 0 where
   pub always : (m : ℕ) → givenPlan i .ending ≡ group [] m → turnOf i .answer .ending ≡ Done → turnOf i .answer .listed ≡ totalsWidth
   -- that of no rows, if it had none of its own
   pub of-nothing : (m : ℕ) → givenPlan i .ending ≡ group [] m → turnOf i .answer .ending ≡ Done → turnRun i .delivered ≡ []
-      → take (turnOf i .answer .listed) (turnOf i .output) ≡ groupWords ofNothing
+      → take (turnOf i .answer .listed) (turnOf i .buffers .output) ≡ groupWords ofNothing
   -- with a group variable no rows are no groups
   pub no-groups : (v : ℕ) (vs : List ℕ) (m : ℕ) → givenPlan i .ending ≡ group (v ∷ vs) m → turnRun i .delivered ≡ []
       → turnOf i .answer .listed ≡ 0
@@ -29,4 +29,4 @@ pub record Closes (i : TurnInput) : Type 0 where
   pub never-full : (v : ℕ) → givenPlan i .ending ≡ registers v → ¬ (turnOf i .answer .ending ≡ Full)
   -- of no rows they are all 0
   pub untouched : (v : ℕ) → givenPlan i .ending ≡ registers v → turnRun i .delivered ≡ []
-      → take (turnOf i .answer .listed) (turnOf i .output) ≡ replicate registerCount 0
+      → take (turnOf i .answer .listed) (turnOf i .buffers .output) ≡ replicate registerCount 0

@@ -28,9 +28,9 @@ listOf i r = listAt (givenPlan i .ending) (i .threshold) (isOver (r .state)) (r 
 
 pub record Follows (i : TurnInput) : Type 0 where
   -- the state buffer: the words of the state that many steps on, none at the run's end, over what it held
-  pub state : Overwritten (savedWords (i .survey .number) (turnRun i .state)) (i .state) (turnOf i .state) (turnOf i .answer .saved)
+  pub state : Overwritten (savedWords (i .survey .number) (turnRun i .state)) (i .state) (turnOf i .buffers .state) (turnOf i .answer .saved)
   -- the output: the list of the rows of those steps, closed at the run's end, over what it held
-  pub output : Overwritten (listOf i (turnRun i)) (i .output) (turnOf i .output) (turnOf i .answer .listed)
+  pub output : Overwritten (listOf i (turnRun i)) (i .output) (turnOf i .buffers .output) (turnOf i .answer .listed)
   -- which has room for it
   pub room : turnOf i .answer .listed ≤ length (i .output)
 

@@ -44,5 +44,5 @@ pub record OnTheRun (i : TurnInput) : Type 0 where
   pub on : TakesOn i before
 
 pub record KeepsLengths (i : TurnInput) : Type 0 where
-  pub state : length (turnOf i .state) ≡ length (i .state)
-  pub output : length (turnOf i .output) ≡ length (i .output)
+  pub state : length (turnOf i .buffers .state) ≡ length (i .state)
+  pub output : length (turnOf i .buffers .output) ≡ length (i .output)

@@ -2,12 +2,12 @@
 use Prim.Native.Nat.{ℕ}
 use mathlib.Core.List.{List, [], _∷_, _++_}
 use mathlib.Core.Bool.{Bool, _&&_}
-use mathlib.Core.Option.{Option, none, some}
 use lib.ListN.{length, take}
 use lib.Dec.{leb}
 use Rattle.words.specs.Bindings.{Bindings}
 use Rattle.sequences.specs.Sequences.{over}
-use Rattle.words.specs.Tests.{Test, firstFailing}
+use Rattle.words.specs.Tests.{Test}
+use Rattle.calls.specs.Calls.{CallSchema, CallResult, resultOfCall}
 use Rattle.tables.specs.Tables.{Tables, tableTests}
 use Rattle.plans.specs.Endings.{Ending}
 use Rattle.plans.specs.Plans.{Plan, planOf, planTests}
@@ -36,12 +36,19 @@ pub record TurnValues : Type 0 where
   pub saved : ℕ
   pub listed : ℕ
 
--- those that each ending has: done has no state, and a refusal has its number alone
+-- those of a refusal, which has its number alone
+abbrev pub noTurnValues : TurnValues
+noTurnValues = record { steps = 0; saved = 0; listed = 0 }
+
+abbrev pub valuesIn : Turned → TurnValues
+valuesIn a = record { steps = a .steps; saved = a .saved; listed = a .listed }
+
+-- those that each ending has: done has no state
 abbrev pub valuesBy : TurnEnding → ℕ → ℕ → ℕ → TurnValues
 valuesBy Done steps saved listed = record { steps = steps; saved = 0; listed = listed }
 valuesBy Spent steps saved listed = record { steps = steps; saved = saved; listed = listed }
 valuesBy Full steps saved listed = record { steps = steps; saved = saved; listed = listed }
-valuesBy (Refused x) steps saved listed = record { steps = 0; saved = 0; listed = 0 }
+valuesBy (Refused x) steps saved listed = noTurnValues
 
 abbrev pub valuesOf : Turned → TurnValues
 valuesOf a = valuesBy (a .ending) (a .steps) (a .saved) (a .listed)
@@ -108,28 +115,29 @@ abbrev pub turnTests : TurnInput → List Test
 turnTests i = tableTests (i .survey .tables) ++ (planTests (i .plan) ++ ownTests i)
 
 -- ---- what a turn answers, and what it leaves
-pub record TurnResult : Type 0 where
-  pub answer : Turned
+-- the buffers that a turn writes to
+pub record TurnBuffers : Type 0 where
   pub state : List ℕ
   pub output : List ℕ
+
+abbrev pub TurnResult : Type 0
+TurnResult = CallResult Turned TurnBuffers
+
+abbrev pub turnResult : Turned → List ℕ → List ℕ → TurnResult
+turnResult a state output = record { answer = a; buffers = record { state = state; output = output } }
 
 -- an ending, after n steps, with the new state's words and the turn's list
 abbrev pub resultOf : TurnInput → TurnEnding → ℕ → List ℕ → List ℕ → TurnResult
 resultOf i e n saved list =
-    record {
-      answer = record { steps = n; ending = e; saved = length saved; listed = length list };
-      state = over saved (i .state);
-      output = over list (i .output);
-    }
+    turnResult (record { steps = n; ending = e; saved = length saved; listed = length list }) (over saved (i .state)) (over list (i .output))
 
 -- the list that a turn writes at its ending: of its own rows, and closed when done
 abbrev pub turnList : TurnInput → TurnEnding → List Bindings → List ℕ
 turnList i e bs = listAt (givenPlan i .ending) (i .threshold) (isDone e) bs
 
--- a turn still under way after its quantum is spent
+-- the result of so many steps: a turn still under way after its quantum is spent
 abbrev pub finished : TurnInput → Progress → TurnResult
-finished i (going n s bs) = resultOf i Spent n (savedWords (i .survey .number) (some s)) (turnList i Spent bs)
-finished i (stopped e n s bs) = resultOf i e n (savedWords (i .survey .number) s) (turnList i e bs)
+finished i p = resultOf i (endingOf p) (stepsOf p) (savedWords (i .survey .number) (leftOf p)) (turnList i (endingOf p) (rowsOf p))
 
 -- the steps of a turn that is not refused
 abbrev pub served : TurnInput → Progress
@@ -137,10 +145,23 @@ served i =
     progress (i .survey .tables) (givenPlan i) (i .threshold) (fitsIn (givenPlan i .ending) (i .threshold) (length (i .output))) (i .quantum)
     (stateIn (givenState i))
 
--- a refusal answers its number alone, and changes nothing
-abbrev pub turnedAs : TurnInput → Option ℕ → TurnResult
-turnedAs i (some n) = resultOf i (Refused n) 0 [] []
-turnedAs i none = finished i (served i)
+-- ---- the call
+abbrev pub turnSchema : CallSchema TurnInput Turned TurnEnding TurnBuffers TurnValues
+turnSchema =
+    record {
+      tests = turnTests;
+      numbers = λ i. 1 ∷ 2 ∷ 23 ∷ 3 ∷ 4 ∷ 5 ∷ 6 ∷ 23 ∷ 7 ∷ 8 ∷ 9 ∷ 22 ∷ 10 ∷ 11 ∷ [];
+      lent = λ i. record { state = i .state; output = i .output };
+      refuses = λ x. record { steps = 0; ending = Refused x; saved = 0; listed = 0 };
+      serves = λ i. finished i (served i) .answer;
+      leaves = λ i. finished i (served i) .buffers;
+      counts = λ i. valuesOf (finished i (served i) .answer);
+      says = λ a. a .ending;
+      refusal = Refused;
+      tells = refusalOf;
+      counted = valuesIn;
+      nothing = noTurnValues;
+    }
 
-unfoldable pub turnOf : TurnInput → TurnResult
-turnOf i = turnedAs i (firstFailing (turnTests i))
+abbrev pub turnOf : TurnInput → TurnResult
+turnOf = resultOfCall turnSchema

@@ -14,10 +14,10 @@ use Rattle.worked_cases.specs.Wood.{wood, notError, rows01, planWith, pl
 use Rattle.worked_cases.specs.Calls.{turnCall, mergeCall}
 
 abbrev pub listIn : TurnResult → List ℕ
-listIn r = take (r .answer .listed) (r .output)
+listIn r = take (r .answer .listed) (r .buffers .output)
 
 abbrev pub stateAfter : TurnResult → List ℕ
-stateAfter r = take (r .answer .saved) (r .state)
+stateAfter r = take (r .answer .saved) (r .buffers .state)
 
 abbrev pub keptIn : WordsResult → List ℕ
 keptIn r = take (wordsIn (r .answer)) (r .buffers)

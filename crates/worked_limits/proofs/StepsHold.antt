@@ -7,13 +7,15 @@ use mathlib.Core.Option.{none}
 use mathlib.Core.List.{List, []}
 use Rattle.words.specs.Bindings.{Bindings}
 use Rattle.words.specs.Tests.{firstFailing}
+use Rattle.calls.proofs.Refusals.{by-none}
 use Rattle.tables.specs.Tables.{Tables}
 use Rattle.plans.specs.Plans.{Plan}
 use Rattle.steps.specs.Steps.{State}
 use Rattle.steps.specs.Saved.{stateIn}
 use Rattle.turns.specs.declared.TurnEnding.the-variants.{Done}
 use Rattle.turns.specs.Turns.{Progress, stopped, progress, fitsIn, TurnInput, givenState, givenPlan, turnTests}
-use Rattle.turns.specs.Turns.{turnList, served, turnOf, resultOf}
+use Rattle.turns.specs.Turns.{turnList, finished, served, turnSchema, turnOf, resultOf}
+use Rattle.turns.proofs.Refusals.{turn-is-right}
 use Rattle.turns.proofs.Stepping.{stopped-stays}
 use Rattle.worked_cases.specs.Literals.{stems}
 use Rattle.worked_limits.specs.Sizes.{emptyTurn, StepLimit}
@@ -29,8 +31,7 @@ stays t q threshold fits n s e = stopped-stays t q threshold fits s 1 (1 + n) Do
 
 -- an accepted turn that is done after one step
 done : (i : TurnInput) → firstFailing (turnTests i) ≡ none → served i ≡ doneAtOnce → turnOf i ≡ resultOf i Done 1 [] (turnList i Done [])
-unfolding turnOf
-done i f p = rw (f, p) refl
+done i f p = by-none turnSchema turn-is-right i f ∙ ap (finished i) p
 
 accepted : firstFailing (turnTests (emptyTurn 1000000)) ≡ none
 unfolding computing

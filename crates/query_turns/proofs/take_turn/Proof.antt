@@ -20,7 +20,7 @@ slice-reshare-prefix-take-list : tie.Need-slice-reshare-prefix-take-list
 slice-reshare-prefix-take-list c =
     let u = c .before .before .before .before .before .before .before in
     let e = u .turn .ensures .0 in
-    served-room _ (u .turn .result) _ (ap (λ (r : TurnResult). r .answer) e) (ap (λ (r : TurnResult). r .output) e)
+    served-room _ (u .turn .result) _ (ap (λ (r : TurnResult). r .answer) e) (ap (λ (r : TurnResult). r .buffers .output) e)
     (sym (c .before .before .is-served .ensures) ∙ c .before .if1 .taken)
 
 slice-aggregate-take-list : tie.Need-slice-aggregate-take-list
@@ -28,7 +28,7 @@ slice-aggregate-take-list c =
     let u = c .before .before .before .before .before .before .before .before in
     let e = u .turn .ensures .0 in
     sym (length-take-le (u .turn .result .listed) _
-    (served-room _ (u .turn .result) _ (ap (λ (r : TurnResult). r .answer) e) (ap (λ (r : TurnResult). r .output) e)
+    (served-room _ (u .turn .result) _ (ap (λ (r : TurnResult). r .answer) e) (ap (λ (r : TurnResult). r .buffers .output) e)
     (sym (c .before .before .before .is-served .ensures) ∙ c .before .before .if1 .taken)))
 
 take-list-requires : tie.Need-take-list-requires
@@ -53,7 +53,7 @@ returns c =
     let s = u .before .before .before .before .before .before .before .before .before .before .before in
     let e = u .turn .ensures .0 in
     list-taken (s .args .keeping) _ (s .args .kept .now) (s .args .used) (u .turn .result) _ _ (ap (λ (r : TurnResult). r .answer) e)
-    (ap (λ (r : TurnResult). r .state) e) (ap (λ (r : TurnResult). r .output) e)
+    (ap (λ (r : TurnResult). r .buffers .state) e) (ap (λ (r : TurnResult). r .buffers .output) e)
     (record { answer = l .take-list .result; buffers = l .take-list .last .1 .0 })
     (sym (c .before .before .before .before .before .before .is-served .ensures) ∙ c .before .before .before .before .before .if1 .taken)
     (l .take-list .ensures)
@@ -70,7 +70,7 @@ returns-2 c =
     let s = u .before .before .before .before .before .before .before .before .before .before .before in
     let e = u .turn .ensures .0 in
     none-taken (s .args .keeping) _ (s .args .kept .now) (s .args .used) (u .turn .result) _ _ (ap (λ (r : TurnResult). r .answer) e)
-    (ap (λ (r : TurnResult). r .state) e) (ap (λ (r : TurnResult). r .output) e)
+    (ap (λ (r : TurnResult). r .buffers .state) e) (ap (λ (r : TurnResult). r .buffers .output) e)
     (sym (c .before .is-served .ensures) ∙ c .if1 .left)
 
 pub take-turn-spec : {M : Type 1} → statement M

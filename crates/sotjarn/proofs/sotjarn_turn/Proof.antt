@@ -22,7 +22,7 @@ returns : tie.Need-returns
 returns c =
     let t = c .before .before .before .before .before .turn .ensures .0 in (
       c .turned-numbers .ensures ∙ ap (λ (x : TurnResult). turnedNumbers (x .answer)) t,
-      (ap (λ (x : TurnResult). x .state) t, ap (λ (x : TurnResult). x .output) t),
+      (ap (λ (x : TurnResult). x .buffers .state) t, ap (λ (x : TurnResult). x .buffers .output) t),
     )
 
 pub sotjarn-turn-spec : {M : Type 1} → statement M

@@ -81,8 +81,8 @@ returns c =
     (plan-read (a .e) (p .planned .ensures .1 .0) (p .planned .result) (p .planned .ensures .0)) in
     record {
       turned = ap (λ (r : TurnResult). r .answer) e;
-      entry = c .entry-with .ensures ∙ ap (λ (r : TurnResult). entryWith (a .e) (r .answer .steps) (r .answer .saved) (r .state)) e;
-      output = ap (λ (r : TurnResult). r .output) e;
+      entry = c .entry-with .ensures ∙ ap (λ (r : TurnResult). entryWith (a .e) (r .answer .steps) (r .answer .saved) (r .buffers .state)) e;
+      output = ap (λ (r : TurnResult). r .buffers .output) e;
     }
 
 pub turn-entry-spec : {M : Type 1} → statement M
