@@ -1,55 +1,71 @@
 -- `table_walks::walk` meets its contract. The invariants: the orders before `turn` are right; of this order the places before
 -- `place` are, and `last` has the keys of the one before it; `before` says whether it comes before the next by the columns after `column`.
-use Prim.Native.Nat.{ℕ, _+_, _-_, _≤_, _<_}
-use mathlib.Core.Path.{_≡_, sym, ap, ap₂, _∙_}
+use Prim.Native.Nat.{ℕ, _+_, _-_, _*_, _≤_, _<_}
+use mathlib.Core.Path.{_≡_, sym, ap, ap₂, _∙_, subst}
 use mathlib.Core.Bool.{Bool, true, false, cond}
 use mathlib.Core.List.{List}
 use native.Mathlib.Omega.{arith}
 use lib.Dec.{leb, ltb}
 use lib.ListN.{length, drop, getD}
+use lib.Seq.{length-take-le}
 use borrow.Author.Tests.{not-true, not-false}
 use Rattle.sequences.specs.Sequences.{lexBefore}
 use Rattle.tables.specs.declared.Order.{Order}
-use Rattle.tables.specs.Tables.{Tables, tablesOf, rowCount, rowAt}
+use Rattle.tables.specs.Tables.{Tables, tablesOf, columnCount, rowCount, rowAt}
+use Rattle.tables.specs.Right.{Sized}
 use Rattle.tables.proofs.Sides.{from-end}
 use Rattle.table_walk_keys.specs.Walk.{orderCount, keyCount, keysAt, orderRight, rightUpto, rightOrders}
 use Rattle.table_walk_keys.proofs.Keys.{keys-length}
 use Rattle.table_walk_keys.proofs.Walking.{read-row, read-keys, read-none, upto-first, upto-next, unnamed-fault, descent-fault}
 use Rattle.table_walk_keys.proofs.Walking.{RightBefore, orders-none, orders-next, orders-fault, orders-all}
 use Rattle.table_walks.proofs.Columns.{column-says}
+use Rattle.table_walks.proofs.Cuts.{cut, cut-none}
 use Rattle.table_walks.proofs.walk.Statement.{statement}
 use Rattle.table_walks.proofs.walk.Tie as tie
 
 abbrev Inv-columns : tie.InvT-columns
-Inv-columns rows pos osp alike turn order last place next column₀ before₀ column before =
+Inv-columns rows pos osp alike short count end own list turn order last place next column₀ before₀ column before =
     (column < keyCount) × (before ≡ lexBefore (drop (column + 1) last) (drop (column + 1) next))
 
 abbrev μ-columns : tie.MeasureT-columns
-μ-columns rows pos osp alike turn order last place next column₀ before₀ column before = column
+μ-columns rows pos osp alike short count end own list turn order last place next column₀ before₀ column before = column
 
 abbrev Inv-places : tie.InvT-places
-Inv-places rows pos osp alike turn order last₀ place₀ last place =
+Inv-places rows pos osp alike short count end own list turn order last₀ place₀ last place =
     (1 ≤ place)
-    × (place ≤ length pos)
-    × (last ≡ keysAt alike order (tablesOf rows pos osp) (place - 1))
-    × (rightUpto alike (tablesOf rows pos osp) order place ≡ true)
+    × (place ≤ length list)
+    × (last ≡ keysAt alike order (tablesOf own list osp) (place - 1))
+    × (rightUpto alike (tablesOf own list osp) order place ≡ true)
 
 abbrev μ-places : tie.MeasureT-places
-μ-places rows pos osp alike turn order last₀ place₀ last place = length pos - place
+μ-places rows pos osp alike short count end own list turn order last₀ place₀ last place = length list - place
 
 abbrev Inv-orders : tie.InvT-orders
-Inv-orders rows pos osp alike turn₀ turn = RightBefore alike (tablesOf rows pos osp) turn
+Inv-orders rows pos osp alike short count end own list turn₀ turn = RightBefore alike (tablesOf own list osp) turn
 
 abbrev μ-orders : tie.MeasureT-orders
-μ-orders rows pos osp alike turn₀ turn = orderCount - turn
+μ-orders rows pos osp alike short count end own list turn₀ turn = orderCount - turn
 
 -- ---- what each loop is about
 abbrev start : tie.At-orders Inv-columns μ-columns Inv-places μ-places Inv-orders μ-orders
     → tie.Start Inv-columns μ-columns Inv-places μ-places Inv-orders μ-orders
-start l = l .before .before .before .before
+start l = l .before .before .before .before .before .before
 
+abbrev given : tie.Start Inv-columns μ-columns Inv-places μ-places Inv-orders μ-orders → Tables
+given s = tablesOf (s .args .rows .now) (s .args .pos .now) (s .args .osp .now)
+
+-- the same with rows and POS cut to the lengths that they have
 abbrev lent : tie.At-orders Inv-columns μ-columns Inv-places μ-places Inv-orders μ-orders → Tables
-lent l = tablesOf (start l .args .rows .now) (start l .args .pos .now) (start l .args .osp .now)
+lent l = cut (given (start l))
+
+is-given : (l : tie.At-orders Inv-columns μ-columns Inv-places μ-places Inv-orders μ-orders) → lent l ≡ given (start l)
+is-given l = cut-none (given (start l)) (start l .pre .0)
+
+sized : (l : tie.At-orders Inv-columns μ-columns Inv-places μ-places Inv-orders μ-orders) → Sized (lent l)
+sized l = subst Sized (sym (is-given l)) (start l .pre .0)
+
+some-rows : (l : tie.At-orders Inv-columns μ-columns Inv-places μ-places Inv-orders μ-orders) → 0 < rowCount (lent l)
+some-rows l = subst (λ t. 0 < rowCount t) (sym (is-given l)) (start l .pre .1)
 
 abbrev walked : tie.At-places Inv-columns μ-columns Inv-places μ-places Inv-orders μ-orders → tie.After-order-at Inv-columns μ-columns Inv-places
     μ-places Inv-orders μ-orders
@@ -86,7 +102,7 @@ nexts c = c .before
 -- ---- what is known in them
 -- a place that the walk comes to is one of the tables'
 below : (c : tie.In-places Inv-columns μ-columns Inv-places μ-places Inv-orders μ-orders) → c .before .places .place < rowCount (tables (c .before))
-below c = omega (arith, start (walked (c .before) .before .before) .pre .0 .pos-length)
+below c = omega (arith, sized (walked (c .before) .before .before) .pos-length)
 
 next-named : (n : tie.After-next Inv-columns μ-columns Inv-places μ-places Inv-orders μ-orders) → reading n .read2 .result .named ≡ true
 next-named n = not-false _ (n .before .if2 .left)
@@ -136,30 +152,51 @@ goes-on n e =
 -- an order with a fault is where the walk stops
 stops : (c : tie.After-order-at Inv-columns μ-columns Inv-places μ-places Inv-orders μ-orders) →
     let l = c .before .before in
-    orderRight (start l .args .alike) (lent l) (c .order-at .result) ≡ false → l .orders .turn ≡ rightOrders (start l .args .alike) (lent l)
+    orderRight (start l .args .alike) (lent l) (c .order-at .result) ≡ false → l .orders .turn ≡ rightOrders (start l .args .alike) (given (start l))
 stops c e =
     let l = c .before .before in
     sym (orders-fault (start l .args .alike) (lent l) (l .orders .turn) (l .orders .inv) (omega arith) (rw (c .order-at .ensures) at e))
+    ∙ ap (rightOrders (start l .args .alike)) (is-given l)
 
 descends : (n : tie.After-next Inv-columns μ-columns Inv-places μ-places Inv-orders μ-orders) → lexBefore (last n) (next n) ≡ false
     → let l = walked (places n) .before .before in
-    l .orders .turn ≡ rightOrders (start l .args .alike) (lent l)
+    l .orders .turn ≡ rightOrders (start l .args .alike) (given (start l))
 descends n e =
     let l = places n in
     stops (walked l)
     (descent-fault (alike l) (tables l) (order l) (l .places .place) (l .places .inv .0) (below (reading n .before)) (rows-say n false e))
 
 -- ---- the needs
+cast-short : tie.Need-cast-short Inv-columns μ-columns Inv-places μ-places Inv-orders μ-orders
+cast-short c = let z = c .before .before .before .pre .0 in omega arith
+
+cast-count : tie.Need-cast-count Inv-columns μ-columns Inv-places μ-places Inv-orders μ-orders
+cast-count c = omega arith
+
+mul-end : tie.Need-mul-end Inv-columns μ-columns Inv-places μ-places Inv-orders μ-orders
+mul-end c = let z = c .before .before .before .pre .0 in omega arith
+
+slice-aggregate-own : tie.Need-slice-aggregate-own Inv-columns μ-columns Inv-places μ-places Inv-orders μ-orders
+slice-aggregate-own c =
+    let s = c .before .before .before .before in
+    let z = s .pre .0 in
+    sym (length-take-le (length (s .args .pos .now) * columnCount) (s .args .rows .now) (omega arith))
+
+slice-aggregate-list : tie.Need-slice-aggregate-list Inv-columns μ-columns Inv-places μ-places Inv-orders μ-orders
+slice-aggregate-list c =
+    let s = c .before .before .before .before .before in
+    sym (length-take-le (length (s .args .pos .now)) (s .args .pos .now) (omega arith))
+
 orders-holds : tie.Need-orders-holds Inv-columns μ-columns Inv-places μ-places Inv-orders μ-orders
 orders-holds c =
-    let a = c .before .before .before .args in
-    orders-none (a .alike) (tablesOf (a .rows .now) (a .pos .now) (a .osp .now))
+    let s = c .before .before .before .before .before in
+    orders-none (s .args .alike) (cut (given s))
 
 order-at-requires : tie.Need-order-at-requires Inv-columns μ-columns Inv-places μ-places Inv-orders μ-orders
 order-at-requires c κs = tt
 
 read-requires : tie.Need-read-requires Inv-columns μ-columns Inv-places μ-places Inv-orders μ-orders
-read-requires c κs = (start (c .before .before) .pre .0, start (c .before .before) .pre .1)
+read-requires c κs = (sized (c .before .before), some-rows (c .before .before))
 
 places-holds : tie.Need-places-holds Inv-columns μ-columns Inv-places μ-places Inv-orders μ-orders
 places-holds c =
@@ -170,16 +207,16 @@ places-holds c =
     let o = a .order-at .result in
     let n : r .read .result .named ≡ true = not-false _ (c .before .if1 .left) in (
       omega arith,
-      omega arith,
+      omega (arith, some-rows (a .before .before), sized (a .before .before) .pos-length),
       read-keys y t o 0 (r .read .result) (r .read .ensures) n,
       upto-first y t o (read-row y t o 0 (r .read .result) (r .read .ensures) n),
     )
 
 cast-places : tie.Need-cast-places Inv-columns μ-columns Inv-places μ-places Inv-orders μ-orders
-cast-places c = omega arith
+cast-places c = let z = sized (walked c .before .before) in omega (arith, c .places .inv .1)
 
 read-requires-2 : tie.Need-read-requires-2 Inv-columns μ-columns Inv-places μ-places Inv-orders μ-orders
-read-requires-2 c κs = (start (walked (c .before) .before .before) .pre .0, below c)
+read-requires-2 c κs = (sized (walked (c .before) .before .before), below c)
 
 columns-holds : tie.Need-columns-holds Inv-columns μ-columns Inv-places μ-places Inv-orders μ-orders
 columns-holds c = (omega arith, sym (from-end (last c) (next c) keyCount (omega (arith, next-length c))))
@@ -228,7 +265,7 @@ columns-again c =
 add-place : tie.Need-add-place Inv-columns μ-columns Inv-places μ-places Inv-orders μ-orders
 add-place c =
     let n = nexts (c .before .before .before .before .before) in
-    omega (arith, below (reading n .before), start (walked (places n) .before .before) .pre .0 .few)
+    omega (arith, below (reading n .before), sized (walked (places n) .before .before) .few)
 
 places-less : tie.Need-places-less Inv-columns μ-columns Inv-places μ-places Inv-orders μ-orders
 places-less c = omega arith
@@ -249,7 +286,7 @@ orders-again : tie.Need-orders-again Inv-columns μ-columns Inv-places μ-places
 orders-again c =
     let l = c .before in
     let d = walked l .before .before in
-    let whole : l .places .place ≡ rowCount (tables l) = omega (arith, start d .pre .0 .pos-length, l .places .inv .1, c .places-test .left) in
+    let whole : l .places .place ≡ rowCount (tables l) = omega (arith, sized d .pos-length, l .places .inv .1, c .places-test .left) in
     orders-next (start d .args .alike) (lent d) (d .orders .turn) (d .orders .inv) (omega (arith, walked l .before .orders-test .taken))
     (rw (← walked l .order-at .ensures) (rw whole at (l .places .inv .3)))
 
@@ -257,13 +294,14 @@ returns : tie.Need-returns Inv-columns μ-columns Inv-places μ-places Inv-order
 returns c =
     let l = c .before in
     sym (orders-all (start l .args .alike) (lent l) (l .orders .turn) (l .orders .inv) (omega arith))
+    ∙ ap (rightOrders (start l .args .alike)) (is-given l)
 
 returns-2 : tie.Need-returns-2 Inv-columns μ-columns Inv-places μ-places Inv-orders μ-orders
 returns-2 c =
     let r = c .before .before in
     let a = r .before in
     let t = lent (a .before .before) in
-    stops a (unnamed-fault (start (a .before .before) .args .alike) t (a .order-at .result) 0 (omega arith)
+    stops a (unnamed-fault (start (a .before .before) .args .alike) t (a .order-at .result) 0 (some-rows (a .before .before))
     (read-none (start (a .before .before) .args .alike) t (a .order-at .result) 0 (r .read .result) (r .read .ensures) (not-true _ (c .if1 .taken))))
 
 returns-3 : tie.Need-returns-3 Inv-columns μ-columns Inv-places μ-places Inv-orders μ-orders
@@ -288,6 +326,11 @@ walk-spec =
     μ-places
     Inv-orders
     μ-orders
+    cast-short
+    cast-count
+    mul-end
+    slice-aggregate-own
+    slice-aggregate-list
     orders-holds
     order-at-requires
     read-requires
