@@ -46,7 +46,8 @@ use Rattle.queues.proofs.Entry as T
 use denote.Enum.Laws as EL
 use Rattle.turns.specs.Surveys.{surveyOf as lent-survey}
 use Rattle.queues.specs.Lists.{lentAs}
-use Rattle.queues.specs.Joining.{QueuedResult, joinQueueOf}
+use Rattle.queues.specs.Changing.{QueuedResult}
+use Rattle.queues.specs.Joining.{joinQueueOf}
 use Rattle.queues.proofs.Queued as Q
 use Rattle.queues.proofs.Queued.Laws as Q′
 use Rattle.queue_entries.specs.declared.Seen.{Seen}
@@ -268,7 +269,7 @@ module _ {M : Type 1} (𝓤 : URA M) (H : Heap 𝓤) (A : Atoms 𝓤) (W : Given
   )
 
   exits : (d : Queueing) (us vs : List Entry) → Is D.the-row d (decided-vals d) → length us ≡ length (x .now) → length vs ≡ length (x′ .now)
-      → _≡_ {A = QueuedResult} (record { answer = d .answer; line = us; aside = vs })
+      → _≡_ {A = QueuedResult} (record { answer = d .answer; buffers = record { line = us; aside = vs } })
       (joinQueueOf (lent-survey (rows .now) (pos .now) (osp .now) survey) (lentAs (x .now) given (x′ .now) kept)
       (record { owner = owner; allowance = allowance; plan = plan .now; state = state .now }))
       → ent 𝓤 (⋆ 𝓤 H A
@@ -632,7 +633,7 @@ module _ {M : Type 1} (𝓤 : URA M) (H : Heap 𝓤) (A : Atoms 𝓤) (W : Given
         move ! (18 ∷ 19 ∷ []) $ free1 ! $ move ! (16 ∷ 17 ∷ []) $ free1 ! $ move ! (14 ∷ 15 ∷ []) $ free1 ! $ free0 ! $
         keep ! (8 ∷ 7 ∷ 6 ∷ 2 ∷ 0 ∷ 5 ∷ 4 ∷ 13 ∷ 12 ∷ 11 ∷ 3 ∷ 1 ∷ 10 ∷ 9 ∷ []) $
         by ! (exits d (vs₄ .0) (vs₅ .0) (told-d d g₃) len₄ len₅
-        ((λ i. record { answer = d .answer; line = e₄ i; aside = e₅ i })
+        ((λ i. record { answer = d .answer; buffers = record { line = e₄ i; aside = e₅ i } })
         ∙ told (x .now) (x′ .now) is .result))))))))))))))))))))))))))))))))))))))))))))))))))
       where
         told-seen : (seen : Seen) {w : Val} → Is S.the-row seen (w ∷ []) → Is S.the-row seen (LL.vals S.the-type S′.the-laws seen)

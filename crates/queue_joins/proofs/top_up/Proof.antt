@@ -46,7 +46,7 @@ use Rattle.queues.proofs.Entry as T
 use Rattle.queues.proofs.Entry.Laws as T′
 use denote.Enum.Laws as EL
 use Rattle.queues.specs.Lists.{lentAs}
-use Rattle.queues.specs.Joining.{QueuedResult}
+use Rattle.queues.specs.Changing.{QueuedResult}
 use Rattle.queues.specs.ToppingUp.{topUpOf}
 use Rattle.queues.proofs.Queued as Q
 use Rattle.queues.proofs.Queued.Laws as Q′
@@ -165,7 +165,7 @@ module _ {M : Type 1} (𝓤 : URA M) (H : Heap 𝓤) (A : Atoms 𝓤) (W : Given
   Post = walkOf 𝓤 H A f.ended stayed (f.clauses 𝓤 H A mem run) .post (((κ, (κ′, tt)), (q, (q′, tt)), tt, a, at), tt)
 
   exits : (d : Queueing) (us vs : List Entry) → Is D.the-row d (decided-vals d) → length us ≡ length ys → length vs ≡ length zs
-      → _≡_ {A = QueuedResult} (record { answer = d .answer; line = us; aside = vs }) (topUpOf (lentAs ys given zs kept) owner amount)
+      → _≡_ {A = QueuedResult} (record { answer = d .answer; buffers = record { line = us; aside = vs } }) (topUpOf (lentAs ys given zs kept) owner amount)
       → ent 𝓤 (⋆ 𝓤 H A (‵ (flft κ′ q′) ∷ ‵ (finally T.the-row γ′ vs) ∷ ‵ (flft κ q) ∷ ‵ (finally T.the-row γ us) ∷ []))
       (Post (EL.val Q.the-type Q′.the-laws (d .answer)))
   exits d us vs g lu lv is =
@@ -409,7 +409,7 @@ module _ {M : Type 1} (𝓤 : URA M) (H : Heap 𝓤) (A : Atoms 𝓤) (W : Given
         move ! (16 ∷ 17 ∷ []) $ free1 ! $ move ! (14 ∷ 15 ∷ []) $ free1 ! $ move ! (12 ∷ 13 ∷ []) $ free1 ! $ move ! (10 ∷ 11 ∷ []) $
         free1 ! $ move ! (8 ∷ 9 ∷ []) $ free1 ! $ move ! (6 ∷ 7 ∷ []) $ free1 ! $ move ! (4 ∷ 5 ∷ []) $ free1 ! $ free0 ! $
         by ! (exits d (vs₄ .0) (vs₅ .0) (told-d d g₃) len₄ len₅
-        ((λ i. record { answer = d .answer; line = e₄ i; aside = e₅ i })
+        ((λ i. record { answer = d .answer; buffers = record { line = e₄ i; aside = e₅ i } })
         ∙ told ys zs is its .result)))))))))))))))))))))))))))))))))))))))))))))))))))))
       where
         told-seen : (seen : Seen) {w : Val} → Is S.the-row seen (w ∷ []) → Is S.the-row seen (LL.vals S.the-type S′.the-laws seen)

@@ -258,7 +258,7 @@ module _ {M : Type 1} (𝓤 : URA M) (H : Heap 𝓤) (A : Atoms 𝓤) (W : Given
 
   exits : (d : ServeChanges) (us vs : List Entry) (os : List ℕ) → Is D.the-row d (served-vals d) → length us ≡ length (x .now)
       → length vs ≡ length (x′ .now) → length os ≡ length (output .now)
-      → _≡_ {A = ServeResult} (record { answer = d .answer; line = us; aside = vs; output = os })
+      → _≡_ {A = ServeResult} (record { answer = d .answer; buffers = record { line = us; aside = vs; output = os } })
       (serveOf (lent-survey (rows .now) (pos .now) (osp .now) survey) (lentAs (x .now) given (x′ .now) kept)
       (record { quantum = quantum; threshold = threshold .now; output = output .now }))
       → ent 𝓤 (⋆ 𝓤 H A
@@ -675,7 +675,7 @@ module _ {M : Type 1} (𝓤 : URA M) (H : Heap 𝓤) (A : Atoms 𝓤) (W : Given
         free1 ! $ move ! (18 ∷ 19 ∷ []) $ free1 ! $ move ! (16 ∷ 17 ∷ []) $ free1 ! $ move ! (14 ∷ 15 ∷ []) $ free1 ! $ free0 ! $
         keep ! (8 ∷ 7 ∷ 6 ∷ 2 ∷ 0 ∷ 5 ∷ 4 ∷ 13 ∷ 12 ∷ 11 ∷ 3 ∷ 1 ∷ 10 ∷ 9 ∷ []) $
         by ! (exits d (vs₄ .0) (vs₅ .0) (vs₃ .1 .1 .1 .1 .1 .1 .1 .1 .1 .1 .0) (told-d d g₃) len₄ len₅ len₃
-        ((λ i. record { answer = d .answer; line = e₄ i; aside = e₅ i; output = vs₃ .1 .1 .1 .1 .1 .1 .1 .1 .1 .1 .0 })
+        ((λ i. record { answer = d .answer; buffers = record { line = e₄ i; aside = e₅ i; output = vs₃ .1 .1 .1 .1 .1 .1 .1 .1 .1 .1 .0 } })
         ∙ told (x .now) (x′ .now) is its .result))))))))))))))))))))))))))))))))))))))))))))))))))))))))))))))
       where
         told-seen : (seen : Seen) {w : Val} → Is S.the-row seen (w ∷ []) → Is S.the-row seen (LL.vals S.the-type S′.the-laws seen)

@@ -44,7 +44,8 @@ use Rattle.queues.proofs.Entry as T
 use denote.Enum.Laws as EL
 use Rattle.queues.specs.declared.Queued.{Queued}
 use Rattle.queues.specs.Lists.{lentAs}
-use Rattle.queues.specs.Joining.{QueuedResult, joinQueueOf}
+use Rattle.queues.specs.Changing.{QueuedResult}
+use Rattle.queues.specs.Joining.{joinQueueOf}
 use Rattle.queues.proofs.Queued as Q
 use Rattle.queues.proofs.Queued.Laws as Q′
 use Rattle.turns.specs.Surveys.{surveyOf as lent-survey}
@@ -267,7 +268,7 @@ module _ {M : Type 1} (𝓤 : URA M) (H : Heap 𝓤) (A : Atoms 𝓤) (W : Given
 
   exits : (r : Queued) (z : QueuedNumbers) (w : Val) (us₀ : List Entry) (us₁ : List Entry) → length us₀ ≡ length (x .now)
       → length us₁ ≡ length (x′ .now)
-      → _≡_ {A = QueuedResult} (record { answer = r; line = us₀; aside = us₁ })
+      → _≡_ {A = QueuedResult} (record { answer = r; buffers = record { line = us₀; aside = us₁ } })
       (joinQueueOf (lent-survey (rows .now) (pos .now) (osp .now) survey) (lentAs (x .now) given (x′ .now) kept)
       (record { owner = owner; allowance = allowance; plan = plan .now; state = state .now })) → z ≡ queuedNumbers r
       → ent 𝓤 (⋆ 𝓤 H A
@@ -302,7 +303,7 @@ module _ {M : Type 1} (𝓤 : URA M) (H : Heap 𝓤) (A : Atoms 𝓤) (W : Given
       says ! (
         its
             ∙ ap (λ (o : QueuedResult). queuedNumbers (o .answer)) is,
-        (ap (λ (o : QueuedResult). o .line) is, ap (λ (o : QueuedResult). o .aside) is),
+        (ap (λ (o : QueuedResult). o .buffers .line) is, ap (λ (o : QueuedResult). o .buffers .aside) is),
       ) $
       nothing ! $ move ! (7 ∷ 0 ∷ []) $ join ! $ move ! (6 ∷ 0 ∷ []) $ join ! $ move ! (5 ∷ 0 ∷ []) $ join ! $ move ! (4 ∷ 0 ∷ []) $
       join ! $ move ! (3 ∷ 0 ∷ []) $ join ! $ move ! (2 ∷ 0 ∷ []) $ join ! $ move ! (1 ∷ 0 ∷ []) $ join ! $ nothing ! $
@@ -428,11 +429,11 @@ module _ {M : Type 1} (𝓤 : URA M) (H : Heap 𝓤) (A : Atoms 𝓤) (W : Given
         {0} × (List Entry × (Unit {0} × (List Entry × (Unit {0} × (Unit {0} × (Unit {0} × (Unit {0} × (Unit {0} × Unit {0})))))))))))). ‵
         (lasts callee.ended (κ₀, (κ₁, (κ₂, (κ₃, (κ₄, (κ₅, (κ₆, tt)))))))
         (rows, (pos, (osp, (survey, (x, (given, (x′, (kept, (owner, (allowance, (plan, (state, tt)))))))))))) vs) ⊛ raw
-        (fact 𝓤 (_≡_ {A = QueuedResult} (record { answer = r; line = vs .1 .1 .1 .1 .0; aside = vs .1 .1 .1 .1 .1 .1 .0 })
+        (fact 𝓤 (_≡_ {A = QueuedResult} (record { answer = r; buffers = record { line = vs .1 .1 .1 .1 .0; aside = vs .1 .1 .1 .1 .1 .1 .0 } })
         (joinQueueOf (lent-survey (rows .now) (pos .now) (osp .now) survey) (lentAs (x .now) given (x′ .now) kept)
         (record { owner = owner; allowance = allowance; plan = plan .now; state = state .now })))))) (id⊢ 𝓤 _) $
         pick ! (λ vs. split ! $ move ! (1 ∷ []) $
-        heard ! (_≡_ {A = QueuedResult} (record { answer = r; line = vs .1 .1 .1 .1 .0; aside = vs .1 .1 .1 .1 .1 .1 .0 })
+        heard ! (_≡_ {A = QueuedResult} (record { answer = r; buffers = record { line = vs .1 .1 .1 .1 .0; aside = vs .1 .1 .1 .1 .1 .1 .0 } })
         (joinQueueOf (lent-survey (rows .now) (pos .now) (osp .now) survey) (lentAs (x .now) given (x′ .now) kept)
         (record { owner = owner; allowance = allowance; plan = plan .now; state = state .now }))) (λ is.
         fsplit ! $ move ! (1 ∷ []) $ fsplit ! $ move ! (1 ∷ []) $ fsplit ! $ move ! (1 ∷ []) $ fsplit ! $ move ! (1 ∷ []) $ fsplit ! $

@@ -252,7 +252,7 @@ module _ {M : Type 1} (𝓤 : URA M) (H : Heap 𝓤) (A : Atoms 𝓤) (W : Given
 
   exits : (r : Service) (z : ServiceNumbers) (w : Val) (us₀ : List Entry) (us₁ : List Entry) (us₂ : List ℕ) → length us₀ ≡ length (x .now)
       → length us₁ ≡ length (x′ .now) → length us₂ ≡ length (output .now)
-      → _≡_ {A = ServeResult} (record { answer = r; line = us₀; aside = us₁; output = us₂ })
+      → _≡_ {A = ServeResult} (record { answer = r; buffers = record { line = us₀; aside = us₁; output = us₂ } })
       (serveOf (lent-survey (rows .now) (pos .now) (osp .now) survey) (lentAs (x .now) given (x′ .now) kept)
       (record { quantum = quantum; threshold = threshold .now; output = output .now })) → z ≡ serviceNumbers r
       → ent 𝓤 (⋆ 𝓤 H A
@@ -289,7 +289,7 @@ module _ {M : Type 1} (𝓤 : URA M) (H : Heap 𝓤) (A : Atoms 𝓤) (W : Given
       says ! (
         its
             ∙ ap (λ (o : ServeResult). serviceNumbers (o .answer)) is,
-        (ap (λ (o : ServeResult). o .line) is, (ap (λ (o : ServeResult). o .aside) is, ap (λ (o : ServeResult). o .output) is)),
+        (ap (λ (o : ServeResult). o .buffers .line) is, (ap (λ (o : ServeResult). o .buffers .aside) is, ap (λ (o : ServeResult). o .buffers .output) is)),
       ) $
       nothing ! $ move ! (7 ∷ 0 ∷ []) $ join ! $ move ! (6 ∷ 0 ∷ []) $ join ! $ move ! (5 ∷ 0 ∷ []) $ join ! $ move ! (4 ∷ 0 ∷ []) $
       join ! $ move ! (3 ∷ 0 ∷ []) $ join ! $ move ! (2 ∷ 0 ∷ []) $ join ! $ move ! (1 ∷ 0 ∷ []) $ join ! $ nothing ! $
@@ -411,12 +411,12 @@ module _ {M : Type 1} (𝓤 : URA M) (H : Heap 𝓤) (A : Atoms 𝓤) (W : Given
         (lasts callee.ended (κ₀, (κ₁, (κ₂, (κ₃, (κ₄, (κ₅, (κ₆, tt)))))))
         (rows, (pos, (osp, (survey, (x, (given, (x′, (kept, (quantum, (threshold, (output, tt))))))))))) vs) ⊛ raw
         (fact 𝓤 (_≡_ {A = ServeResult}
-        (record { answer = r; line = vs .1 .1 .1 .1 .0; aside = vs .1 .1 .1 .1 .1 .1 .0; output = vs .1 .1 .1 .1 .1 .1 .1 .1 .1 .1 .0 })
+        (record { answer = r; buffers = record { line = vs .1 .1 .1 .1 .0; aside = vs .1 .1 .1 .1 .1 .1 .0; output = vs .1 .1 .1 .1 .1 .1 .1 .1 .1 .1 .0 } })
         (serveOf (lent-survey (rows .now) (pos .now) (osp .now) survey) (lentAs (x .now) given (x′ .now) kept)
         (record { quantum = quantum; threshold = threshold .now; output = output .now })))))) (id⊢ 𝓤 _) $
         pick ! (λ vs. split ! $ move ! (1 ∷ []) $
         heard ! (_≡_ {A = ServeResult}
-        (record { answer = r; line = vs .1 .1 .1 .1 .0; aside = vs .1 .1 .1 .1 .1 .1 .0; output = vs .1 .1 .1 .1 .1 .1 .1 .1 .1 .1 .0 })
+        (record { answer = r; buffers = record { line = vs .1 .1 .1 .1 .0; aside = vs .1 .1 .1 .1 .1 .1 .0; output = vs .1 .1 .1 .1 .1 .1 .1 .1 .1 .1 .0 } })
         (serveOf (lent-survey (rows .now) (pos .now) (osp .now) survey) (lentAs (x .now) given (x′ .now) kept)
         (record { quantum = quantum; threshold = threshold .now; output = output .now }))) (λ is.
         fsplit ! $ move ! (1 ∷ []) $ fsplit ! $ move ! (1 ∷ []) $ fsplit ! $ move ! (1 ∷ []) $ fsplit ! $ move ! (1 ∷ []) $ fsplit ! $

@@ -43,7 +43,7 @@ use Rattle.queues.proofs.Entry as T
 use denote.Enum.Laws as EL
 use Rattle.queues.specs.declared.Queued.{Queued}
 use Rattle.queues.specs.Lists.{lentAs}
-use Rattle.queues.specs.Joining.{QueuedResult}
+use Rattle.queues.specs.Changing.{QueuedResult}
 use Rattle.queues.specs.ToppingUp.{topUpOf}
 use Rattle.queues.proofs.Queued as Q
 use Rattle.queues.proofs.Queued.Laws as Q′
@@ -152,7 +152,8 @@ module _ {M : Type 1} (𝓤 : URA M) (H : Heap 𝓤) (A : Atoms 𝓤) (W : Given
 
   exits : (r : Queued) (z : QueuedNumbers) (w : Val) (us₀ : List Entry) (us₁ : List Entry) → length us₀ ≡ length (x .now)
       → length us₁ ≡ length (x′ .now)
-      → _≡_ {A = QueuedResult} (record { answer = r; line = us₀; aside = us₁ }) (topUpOf (lentAs (x .now) given (x′ .now) kept) owner amount)
+      → _≡_ {A = QueuedResult} (record { answer = r; buffers = record { line = us₀; aside = us₁ } })
+      (topUpOf (lentAs (x .now) given (x′ .now) kept) owner amount)
       → z ≡ queuedNumbers r
       → ent 𝓤 (⋆ 𝓤 H A
       (‵ (flft κ₀ q₀) ∷ ‵ (flft κ₁ q₁) ∷ ‵ (finally T.the-row (x .name) us₀) ∷ ‵ (finally T.the-row (x′ .name) us₁) ∷ ‵
@@ -166,7 +167,7 @@ module _ {M : Type 1} (𝓤 : URA M) (H : Heap 𝓤) (A : Atoms 𝓤) (W : Given
       (us₀, (tt, (us₁, (tt, (tt, (tt, tt)))))) (lu₀, (tt, (lu₁, (tt, (tt, (tt, tt))))))) $ says ! (
         its
             ∙ ap (λ (o : QueuedResult). queuedNumbers (o .answer)) is,
-        (ap (λ (o : QueuedResult). o .line) is, ap (λ (o : QueuedResult). o .aside) is),
+        (ap (λ (o : QueuedResult). o .buffers .line) is, ap (λ (o : QueuedResult). o .buffers .aside) is),
       ) $
       nothing ! $ move ! (2 ∷ 0 ∷ []) $ join ! $ move ! (1 ∷ 0 ∷ []) $ join ! $ nothing ! $
       owned ! u64 (Is u64) (uint-makes 𝓤 H A W w64) amount _ (refl, amount-fits) $ fjoin ! $
@@ -227,10 +228,10 @@ module _ {M : Type 1} (𝓤 : URA M) (H : Heap 𝓤) (A : Atoms 𝓤) (W : Given
         await ! tt $ pick ! (λ r. split ! $ move ! (1 ∷ []) $ use1 W (some
         (λ (vs : List Entry × (Unit {0} × (List Entry × (Unit {0} × (Unit {0} × (Unit {0} × Unit {0})))))). ‵
         (lasts callee.ended (κ₀, (κ₁, tt)) (x, (given, (x′, (kept, (owner, (amount, tt)))))) vs) ⊛ raw
-        (fact 𝓤 (_≡_ {A = QueuedResult} (record { answer = r; line = vs .0; aside = vs .1 .1 .0 })
+        (fact 𝓤 (_≡_ {A = QueuedResult} (record { answer = r; buffers = record { line = vs .0; aside = vs .1 .1 .0 } })
         (topUpOf (lentAs (x .now) given (x′ .now) kept) owner amount))))) (id⊢ 𝓤 _) $
         pick ! (λ vs. split ! $ move ! (1 ∷ []) $
-        heard ! (_≡_ {A = QueuedResult} (record { answer = r; line = vs .0; aside = vs .1 .1 .0 })
+        heard ! (_≡_ {A = QueuedResult} (record { answer = r; buffers = record { line = vs .0; aside = vs .1 .1 .0 } })
         (topUpOf (lentAs (x .now) given (x′ .now) kept) owner amount)) (λ is.
         fsplit ! $ fsplit ! $ move ! (1 ∷ []) $ feqL ! (λ len₀.
         move ! (1 ∷ []) $ fsplit ! $ move ! (1 ∷ []) $ fsplit ! $ fsplit ! $ move ! (1 ∷ []) $ feqL ! (λ len₂.
