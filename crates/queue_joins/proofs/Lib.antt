@@ -1,3 +1,4 @@
 pub mod Shared
 pub mod Lending
 pub mod Decided
+pub mod Walking
