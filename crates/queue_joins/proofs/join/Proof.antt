@@ -24,10 +24,10 @@ use types.Part.{agg, whole, sub, look-in}
 use sound.WpLaws.{FmC, fmOf, WpFn-mono}
 use denote.RattleType.{owns}
 use denote.Laws.{Is, shows}
-use denote.Plain.{uint-makes, uint-vals, uint-tells}
+use denote.Plain.{uint-makes}
 use denote.Builtin.{usize, u32, u64}
 use denote.Ref.{RefT}
-use denote.Slice.{sliceVal, MutSlice, ShrSlice, Room, finally, slice-vals, mut-slice-tells, shr-slice-tells, shr-slice-copy}
+use denote.Slice.{sliceVal, MutSlice, ShrSlice, Room, finally, shr-slice-copy}
 use denote.Steps.{only, owned, peeks, heard, nothing}
 use denote.Struct.Laws as LL
 use denote.Triple.Entry.{Vals, onEntry}
@@ -36,10 +36,8 @@ use denote.Triple.Statement.{Contract, Triple}
 use denote.Triple.Call.{calls-at}
 use denote.Triple.Clauses.{ensured, lasts}
 use denote.Triple.Table.{entered, cited}
-use denote.Triple.Walked.{says, Stays, stay-none, stay-none-slice, gave-slice, walkOf, goes-none, goes-none-slice, goes-gave-slice, Walks, ends-at, walked}
+use denote.Triple.Walked.{says, walkOf, Walks, ends-at, walked}
 use denote.Triple.Walked.{walk-meets}
-use denote.Exit.{yes}
-use denote.Signature.{plain}
 use Rattle.queues.specs.declared.Entry.{Entry}
 use Rattle.queues.proofs.Entry as T
 use denote.Enum.Laws as EL
@@ -74,39 +72,7 @@ use Rattle.queue_joins.proofs.join.Key.{name as #queue_joins·join}
 use Rattle.queue_joins.proofs.join as f
 use Rattle.queue_joins.proofs.join.Statement as stated
 use Rattle.queue_joins.proofs.join.Code as code
-
-abbrev stayed : Stays (f.ended .signature .params) (f.ended .kept)
-stayed = (
-  stay-none-slice (0 ∷ []) tt (plain (λ _. u32)) yes,
-  (
-    stay-none-slice (1 ∷ []) tt (plain (λ _. u32)) yes,
-    (
-      stay-none-slice (2 ∷ []) tt (plain (λ _. u32)) yes,
-      (
-        stay-none (λ _. u32) yes,
-        (
-          gave-slice (3 ∷ []) tt (plain (λ _. T.the-row)),
-          (
-            stay-none (λ _. usize) yes,
-            (
-              gave-slice (4 ∷ []) tt (plain (λ _. T.the-row)),
-              (
-                stay-none (λ _. usize) yes,
-                (
-                  stay-none (λ _. u32) yes,
-                  (
-                    stay-none (λ _. u64) yes,
-                    (stay-none-slice (5 ∷ []) tt (plain (λ _. u32)) yes, (stay-none-slice (6 ∷ []) tt (plain (λ _. u32)) yes, tt)),
-                  ),
-                ),
-              ),
-            ),
-          ),
-        ),
-      ),
-    ),
-  ),
-)
+use Rattle.queue_joins.proofs.JoinSlots.{stayed, spelt, told-by, all-go}
 
 -- ---- the decision's contract
 module _ {M : Type 1} (𝓤 : URA M) (H : Heap 𝓤) (A : Atoms 𝓤) (mem : Memory → SProp 𝓤) (run : Routine → Fun 𝓤) where
@@ -554,50 +520,8 @@ module _ {M : Type 1} (𝓤 : URA M) (H : Heap 𝓤) (A : Atoms 𝓤) (W : Given
       → Walks 𝓤 H A f.ended stayed (WpFn 𝓤 H C Λ code.function) (f.clauses 𝓤 H A mem run)
   join-walks C Λ fm known-looks known-puts known-joins =
       walked 𝓤 H A f.ended stayed (f.clauses 𝓤 H A mem run) (WpFn 𝓤 H C Λ code.function)
-      (λ κs. (
-        slice-vals,
-        (
-          slice-vals,
-          (
-            slice-vals,
-            (uint-vals w32, (slice-vals, (uint-vals w64, (slice-vals, (uint-vals w64, (uint-vals w32, (uint-vals w64, (slice-vals, (slice-vals, tt))))))))),
-          ),
-        ),
-      ))
-      (λ κs. (
-        shr-slice-tells (named 0) (κs .0) u32,
-        (
-          shr-slice-tells (named 1) (κs .1 .0) u32,
-          (
-            shr-slice-tells (named 2) (κs .1 .1 .0) u32,
-            (
-              uint-tells w32,
-              (
-                mut-slice-tells (named 3) (κs .1 .1 .1 .0) T.the-row,
-                (
-                  uint-tells w64,
-                  (
-                    mut-slice-tells (named 4) (κs .1 .1 .1 .1 .0) T.the-row,
-                    (
-                      uint-tells w64,
-                      (
-                        uint-tells w32,
-                        (
-                          uint-tells w64,
-                          (
-                            shr-slice-tells (named 5) (κs .1 .1 .1 .1 .1 .0) u32,
-                            (shr-slice-tells (named 6) (κs .1 .1 .1 .1 .1 .1 .0) u32, tt),
-                          ),
-                        ),
-                      ),
-                    ),
-                  ),
-                ),
-              ),
-            ),
-          ),
-        ),
-      ))
+      spelt
+      told-by
       (λ κs qs bounds a g are. via 𝓤 _ (fst∗ 𝓤 _ (emp 𝓤)) (
       walk 𝓤 H A W mem run (κs .0) (κs .1 .0) (κs .1 .1 .0) (κs .1 .1 .1 .0) (κs .1 .1 .1 .1 .0) (κs .1 .1 .1 .1 .1 .0) (κs .1 .1 .1 .1 .1 .1 .0)
       (qs .0) (qs .1 .0) (qs .1 .1 .0) (qs .1 .1 .1 .0) (qs .1 .1 .1 .1 .0) (qs .1 .1 .1 .1 .1 .0) (qs .1 .1 .1 .1 .1 .1 .0) (a .0) (a .1 .0) (a .1 .1 .0)
@@ -613,40 +537,7 @@ join-meets : {M : Type 1} (𝓤 : URA M) (H : Heap 𝓤) (A : Atoms 𝓤) → Gi
     → Triple 𝓤 (𝓣 .C #joins) (Joins 𝓤 H A mem run)
     → Meets 𝓤 H A f.signature (WpFn 𝓤 H (𝓣 .C) (𝓣 .Λ) code.function) (f.spec 𝓤 H A mem run)
 join-meets 𝓤 H A W mem run 𝓣 known-looks known-puts known-joins =
-    walk-meets 𝓤 H A f.ended stayed W (
-      goes-none-slice 𝓤 H A W 7 (0 ∷ []) tt (plain (λ _. u32)) yes,
-      (
-        goes-none-slice 𝓤 H A W 7 (1 ∷ []) tt (plain (λ _. u32)) yes,
-        (
-          goes-none-slice 𝓤 H A W 7 (2 ∷ []) tt (plain (λ _. u32)) yes,
-          (
-            goes-none 𝓤 H A W 7 (λ _. u32) yes (λ κs x f. refl),
-            (
-              goes-gave-slice 𝓤 H A W 7 3 tt (plain (λ _. T.the-row)),
-              (
-                goes-none 𝓤 H A W 7 (λ _. usize) yes (λ κs x f. refl),
-                (
-                  goes-gave-slice 𝓤 H A W 7 4 tt (plain (λ _. T.the-row)),
-                  (
-                    goes-none 𝓤 H A W 7 (λ _. usize) yes (λ κs x f. refl),
-                    (
-                      goes-none 𝓤 H A W 7 (λ _. u32) yes (λ κs x f. refl),
-                      (
-                        goes-none 𝓤 H A W 7 (λ _. u64) yes (λ κs x f. refl),
-                        (
-                          goes-none-slice 𝓤 H A W 7 (5 ∷ []) tt (plain (λ _. u32)) yes,
-                          (goes-none-slice 𝓤 H A W 7 (6 ∷ []) tt (plain (λ _. u32)) yes, tt),
-                        ),
-                      ),
-                    ),
-                  ),
-                ),
-              ),
-            ),
-          ),
-        ),
-      ),
-    )
+    walk-meets 𝓤 H A f.ended stayed W (all-go 𝓤 H A W)
     (f.clauses 𝓤 H A mem run) (WpFn 𝓤 H (𝓣 .C) (𝓣 .Λ) code.function) (WpFn-mono 𝓤 H (W .laws) 𝓣 code.function)
     (join-walks 𝓤 H A W mem run (𝓣 .C) (𝓣 .Λ) (fmOf 𝓤 H (W .laws) 𝓣) known-looks known-puts known-joins)
 

@@ -25,10 +25,10 @@ use types.Part.{agg, whole, sub, look-in}
 use sound.WpLaws.{FmC, fmOf, WpFn-mono}
 use denote.RattleType.{owns}
 use denote.Laws.{Is, shows}
-use denote.Plain.{uint-makes, uint-vals, uint-tells}
+use denote.Plain.{uint-makes}
 use denote.Builtin.{usize, u32, u64}
 use denote.Ref.{RefT}
-use denote.Slice.{sliceVal, MutSlice, Room, finally, slice-vals, mut-slice-tells}
+use denote.Slice.{sliceVal, MutSlice, Room, finally}
 use denote.Steps.{only, owned, peeks, heard, nothing}
 use denote.Struct.Laws as LL
 use denote.Triple.Entry.{Vals, onEntry}
@@ -37,9 +37,7 @@ use denote.Triple.Statement.{Contract, Triple}
 use denote.Triple.Call.{calls-at}
 use denote.Triple.Clauses.{ensured, lasts}
 use denote.Triple.Table.{entered, cited}
-use denote.Triple.Walked.{says, Stays, stay-none, gave-slice, walkOf, goes-none, goes-gave-slice, Walks, ends-at, walked, walk-meets}
-use denote.Exit.{yes}
-use denote.Signature.{plain}
+use denote.Triple.Walked.{says, walkOf, Walks, ends-at, walked, walk-meets}
 use Rattle.queues.specs.declared.Entry.{Entry}
 use Rattle.queues.proofs.Entry as T
 use Rattle.queues.proofs.Entry.Laws as T′
@@ -78,15 +76,7 @@ use Rattle.queue_joins.proofs.top_up.Key.{name as #queue_joins·top-up}
 use Rattle.queue_joins.proofs.top_up as f
 use Rattle.queue_joins.proofs.top_up.Statement as stated
 use Rattle.queue_joins.proofs.top_up.Code as code
-
-abbrev stayed : Stays (f.ended .signature .params) (f.ended .kept)
-stayed = (
-  gave-slice (0 ∷ []) tt (plain (λ _. T.the-row)),
-  (
-    stay-none (λ _. usize) yes,
-    (gave-slice (1 ∷ []) tt (plain (λ _. T.the-row)), (stay-none (λ _. usize) yes, (stay-none (λ _. u32) yes, (stay-none (λ _. u64) yes, tt)))),
-  ),
-)
+use Rattle.queue_joins.proofs.TopUpSlots.{stayed, spelt, told-by, all-go}
 
 -- ---- the decision's contract
 module _ {M : Type 1} (𝓤 : URA M) (H : Heap 𝓤) (A : Atoms 𝓤) (mem : Memory → SProp 𝓤) (run : Routine → Fun 𝓤) where
@@ -326,11 +316,8 @@ module _ {M : Type 1} (𝓤 : URA M) (H : Heap 𝓤) (A : Atoms 𝓤) (W : Given
       → Walks 𝓤 H A f.ended stayed (WpFn 𝓤 H C Λ code.function) (f.clauses 𝓤 H A mem run)
   top-up-walks C Λ fm known-looks known-reads known-puts known-top =
       walked 𝓤 H A f.ended stayed (f.clauses 𝓤 H A mem run) (WpFn 𝓤 H C Λ code.function)
-      (λ κs. (slice-vals, (uint-vals w64, (slice-vals, (uint-vals w64, (uint-vals w32, (uint-vals w64, tt)))))))
-      (λ κs. (
-        mut-slice-tells (named 0) (κs .0) T.the-row,
-        (uint-tells w64, (mut-slice-tells (named 1) (κs .1 .0) T.the-row, (uint-tells w64, (uint-tells w32, (uint-tells w64, tt))))),
-      ))
+      spelt
+      told-by
       (λ κs qs bounds a g are. via 𝓤 _ (fst∗ 𝓤 _ (emp 𝓤)) (
       walk 𝓤 H A W mem run (κs .0) (κs .1 .0) (qs .0) (qs .1 .0) (a .0 .ptr .0) (a .0 .ptr .1) (a .0 .name) (a .0 .now) (a .1 .1 .0 .ptr .0)
       (a .1 .1 .0 .ptr .1) (a .1 .1 .0 .name) (a .1 .1 .0 .now) (a .1 .0) (a .1 .1 .1 .0) (a .1 .1 .1 .1 .0) (a .1 .1 .1 .1 .1 .0) (are .0 .0 .1)
@@ -343,19 +330,7 @@ top-up-meets : {M : Type 1} (𝓤 : URA M) (H : Heap 𝓤) (A : Atoms 𝓤) → 
     → Triple 𝓤 (𝓣 .C #puts) (Append 𝓤 H A mem run) → Triple 𝓤 (𝓣 .C #top) (Top 𝓤 H A mem run)
     → Meets 𝓤 H A f.signature (WpFn 𝓤 H (𝓣 .C) (𝓣 .Λ) code.function) (f.spec 𝓤 H A mem run)
 top-up-meets 𝓤 H A W mem run 𝓣 known-looks known-reads known-puts known-top =
-    walk-meets 𝓤 H A f.ended stayed W (
-      goes-gave-slice 𝓤 H A W 2 0 tt (plain (λ _. T.the-row)),
-      (
-        goes-none 𝓤 H A W 2 (λ _. usize) yes (λ κs x f. refl),
-        (
-          goes-gave-slice 𝓤 H A W 2 1 tt (plain (λ _. T.the-row)),
-          (
-            goes-none 𝓤 H A W 2 (λ _. usize) yes (λ κs x f. refl),
-            (goes-none 𝓤 H A W 2 (λ _. u32) yes (λ κs x f. refl), (goes-none 𝓤 H A W 2 (λ _. u64) yes (λ κs x f. refl), tt)),
-          ),
-        ),
-      ),
-    )
+    walk-meets 𝓤 H A f.ended stayed W (all-go 𝓤 H A W)
     (f.clauses 𝓤 H A mem run) (WpFn 𝓤 H (𝓣 .C) (𝓣 .Λ) code.function) (WpFn-mono 𝓤 H (W .laws) 𝓣 code.function)
     (top-up-walks 𝓤 H A W mem run (𝓣 .C) (𝓣 .Λ) (fmOf 𝓤 H (W .laws) 𝓣) known-looks known-reads known-puts known-top)
 

@@ -23,10 +23,10 @@ use types.Part.{agg, whole, sub, look-in}
 use sound.WpLaws.{FmC, fmOf, WpFn-mono}
 use denote.RattleType.{owns}
 use denote.Laws.{Is, shows}
-use denote.Plain.{uint-makes, uint-vals, uint-tells}
+use denote.Plain.{uint-makes}
 use denote.Builtin.{usize, u32, u64}
 use denote.Ref.{RefT}
-use denote.Slice.{sliceVal, MutSlice, Room, finally, slice-vals, mut-slice-tells}
+use denote.Slice.{sliceVal, MutSlice, Room, finally}
 use denote.Steps.{owned, peeks, heard, nothing}
 use denote.Struct.Laws as LL
 use denote.Triple.Entry.{Vals, onEntry}
@@ -35,9 +35,7 @@ use denote.Triple.Statement.{Contract, Triple}
 use denote.Triple.Call.{calls-at}
 use denote.Triple.Clauses.{ensured, lasts}
 use denote.Triple.Table.{entered, cited}
-use denote.Triple.Walked.{says, Stays, stay-none, gave-slice, walkOf, goes-none, goes-gave-slice, Walks, ends-at, walked, walk-meets}
-use denote.Exit.{yes}
-use denote.Signature.{plain}
+use denote.Triple.Walked.{says, walkOf, Walks, ends-at, walked, walk-meets}
 use Rattle.queues.specs.declared.Entry.{Entry}
 use Rattle.queues.proofs.Entry as T
 use denote.Enum.Laws as EL
@@ -63,15 +61,7 @@ use Rattle.sotjarn.proofs.sotjarn_top_up.Key.{name as #sotjarn·sotjarn
 use Rattle.sotjarn.proofs.sotjarn_top_up as f
 use Rattle.sotjarn.proofs.sotjarn_top_up.Statement as stated
 use Rattle.sotjarn.proofs.sotjarn_top_up.Code as code
-
-abbrev stayed : Stays (f.ended .signature .params) (f.ended .kept)
-stayed = (
-  gave-slice (0 ∷ []) tt (plain (λ _. T.the-row)),
-  (
-    stay-none (λ _. usize) yes,
-    (gave-slice (1 ∷ []) tt (plain (λ _. T.the-row)), (stay-none (λ _. usize) yes, (stay-none (λ _. u32) yes, (stay-none (λ _. u64) yes, tt)))),
-  ),
-)
+use Rattle.queue_joins.proofs.TopUpSlots.{stayed, spelt, told-by, all-go}
 
 -- ---- what both callees are given, and what they say
 module _ {M : Type 1} (𝓤 : URA M) (H : Heap 𝓤) (A : Atoms 𝓤) (mem : Memory → SProp 𝓤) (run : Routine → Fun 𝓤) where
@@ -261,11 +251,8 @@ module _ {M : Type 1} (𝓤 : URA M) (H : Heap 𝓤) (A : Atoms 𝓤) (W : Given
       → Triple 𝓤 (C #numbers) (Numbers 𝓤 H A mem run) → Walks 𝓤 H A f.ended stayed (WpFn 𝓤 H C Λ code.function) (f.clauses 𝓤 H A mem run)
   sotjarn-top-up-walks C Λ fm known-callee known-numbers =
       walked 𝓤 H A f.ended stayed (f.clauses 𝓤 H A mem run) (WpFn 𝓤 H C Λ code.function)
-      (λ κs. (slice-vals, (uint-vals w64, (slice-vals, (uint-vals w64, (uint-vals w32, (uint-vals w64, tt)))))))
-      (λ κs. (
-        mut-slice-tells (named 0) (κs .0) T.the-row,
-        (uint-tells w64, (mut-slice-tells (named 1) (κs .1 .0) T.the-row, (uint-tells w64, (uint-tells w32, (uint-tells w64, tt))))),
-      ))
+      spelt
+      told-by
       (λ κs qs bounds a g are. via 𝓤 _ (fst∗ 𝓤 _ (emp 𝓤)) (
       walk 𝓤 H A W mem run (κs .0) (κs .1 .0) (qs .0) (qs .1 .0) (a .0) (a .1 .0) (a .1 .1 .0) (a .1 .1 .1 .0) (a .1 .1 .1 .1 .0) (a .1 .1 .1 .1 .1 .0)
       (are .0 .0 .1) (are .1 .1 .0 .0 .1) (are .1 .0 .1) (are .1 .1 .1 .0 .1) (are .1 .1 .1 .1 .0 .1) (are .1 .1 .1 .1 .1 .0 .1) C Λ fm known-callee
@@ -276,19 +263,7 @@ sotjarn-top-up-meets : {M : Type 1} (𝓤 : URA M) (H : Heap 𝓤) (A : Atoms �
     → Triple 𝓤 (𝓣 .C #callee) (Call 𝓤 H A mem run) → Triple 𝓤 (𝓣 .C #numbers) (Numbers 𝓤 H A mem run)
     → Meets 𝓤 H A f.signature (WpFn 𝓤 H (𝓣 .C) (𝓣 .Λ) code.function) (f.spec 𝓤 H A mem run)
 sotjarn-top-up-meets 𝓤 H A W mem run 𝓣 known-callee known-numbers =
-    walk-meets 𝓤 H A f.ended stayed W (
-      goes-gave-slice 𝓤 H A W 2 0 tt (plain (λ _. T.the-row)),
-      (
-        goes-none 𝓤 H A W 2 (λ _. usize) yes (λ κs x f. refl),
-        (
-          goes-gave-slice 𝓤 H A W 2 1 tt (plain (λ _. T.the-row)),
-          (
-            goes-none 𝓤 H A W 2 (λ _. usize) yes (λ κs x f. refl),
-            (goes-none 𝓤 H A W 2 (λ _. u32) yes (λ κs x f. refl), (goes-none 𝓤 H A W 2 (λ _. u64) yes (λ κs x f. refl), tt)),
-          ),
-        ),
-      ),
-    )
+    walk-meets 𝓤 H A f.ended stayed W (all-go 𝓤 H A W)
     (f.clauses 𝓤 H A mem run) (WpFn 𝓤 H (𝓣 .C) (𝓣 .Λ) code.function) (WpFn-mono 𝓤 H (W .laws) 𝓣 code.function)
     (sotjarn-top-up-walks 𝓤 H A W mem run (𝓣 .C) (𝓣 .Λ) (fmOf 𝓤 H (W .laws) 𝓣) known-callee known-numbers)
 
