@@ -12,7 +12,7 @@ use Rattle.table_answers.specs.declared.TablesWritten.{TablesWritten}
 use Rattle.table_answers.specs.Writing.{tablesRefusal, tableWords}
 use Rattle.queues.specs.declared.Queued.{Queued}
 use Rattle.queues.specs.declared.Service.{Service}
-use Rattle.queues.specs.Refusals.{refusalBy, lineBy, asideBy}
+use Rattle.queues.specs.Changing.{refusalBy, entryCounts}
 use Rattle.call_numbers.specs.declared.WrittenNumbers.{WrittenNumbers}
 use Rattle.call_numbers.specs.declared.EndingNumbers.{EndingNumbers}
 use Rattle.call_numbers.specs.declared.TurnedNumbers.{TurnedNumbers}
@@ -58,7 +58,7 @@ abbrev pub tablesNumbers : TablesWritten → TablesNumbers
 tablesNumbers t = record { refused = tablesRefusal t; rows = tableWords t .rows; pos = tableWords t .pos; osp = tableWords t .osp }
 
 abbrev pub queuedNumbers : Queued → QueuedNumbers
-queuedNumbers q = record { refused = refusalBy q; waiting = lineBy q; resting = asideBy q }
+queuedNumbers q = record { refused = refusalBy q; waiting = entryCounts q .waiting; resting = entryCounts q .resting }
 
 abbrev pub serviceNumbers : Service → ServiceNumbers
 serviceNumbers s =

@@ -9,7 +9,7 @@ use lib.ListN.{length}
 use Rattle.queues.specs.declared.Entry.{Entry}
 use Rattle.queues.specs.declared.Queued.the-variants.{Lists, Refused}
 use Rattle.queues.specs.Lists.{mostEntries, LentLists}
-use Rattle.queues.specs.Joining.{QueuedResult}
+use Rattle.queues.specs.Changing.{QueuedResult}
 use Rattle.queue_entries.specs.Entries.{nobody, settled}
 use Rattle.queue_changes.specs.declared.Change.{Change}
 use Rattle.queue_changes.specs.declared.Queueing.{Queueing}
@@ -48,7 +48,10 @@ queueingRefused x = record { answer = Refused x; line = unchanged; aside = uncha
 -- both lists after a decision
 abbrev pub queuedBy : LentLists → Queueing → QueuedResult
 queuedBy l d =
-    record { answer = d .answer; line = changed (l .line) (d .line) (d .entry); aside = changed (l .aside) (d .aside) (d .entry) }
+    record {
+      answer = d .answer;
+      buffers = record { line = changed (l .line) (d .line) (d .entry); aside = changed (l .aside) (d .aside) (d .entry) };
+    }
 
 -- a decision of joining or topping up leaves what the definition of the call does
 pub record Decides (l : LentLists) (d : Queueing) (r : QueuedResult) : Type 0 where

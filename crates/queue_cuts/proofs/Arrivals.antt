@@ -13,9 +13,9 @@ use Rattle.words.proofs.Testing.{none-some}
 use Rattle.tables.specs.Tables.{tableTests}
 use Rattle.plans.specs.Plans.{planTests}
 use Rattle.turns.specs.Surveys.{Survey}
-use Rattle.queues.specs.Lists.{LentLists, lineOf, asideOf, ownersIn, owners, entriesRight}
+use Rattle.queues.specs.Lists.{LentLists, lineOf, asideOf, ownersIn, owners, entriesRight, Queue}
 use Rattle.queues.specs.Joining.{Joining, joinTests}
-use Rattle.queues.specs.Calls.{Queue, MadeCall, lentTo}
+use Rattle.queues.specs.Calls.{MadeCall, lentTo}
 use Rattle.queue_cuts.specs.Owners.{NoneOf}
 use Rattle.queues.proofs.Moving.{line-lent, aside-lent, first-passes}
 

@@ -10,16 +10,17 @@ use lib.Dec.{eqb, leb}
 use borrow.Author.Tests.{eqb-false, ne-eqb, le-leb}
 use Rattle.sequences.specs.Sequences.{member}
 use Rattle.words.specs.Tests.{firstFailing}
+use Rattle.calls.specs.Calls.{resultByNumber, resultOfCall}
 use Rattle.sequences.proofs.Booleans.{or-left, or-right}
 use Rattle.turns.specs.Surveys.{Survey}
 use Rattle.turns.specs.declared.TurnEnding.{TurnEnding}
 use Rattle.turns.specs.declared.TurnEnding.the-variants as ending
 use Rattle.turns.specs.Turns.{TurnResult}
 use Rattle.queues.specs.declared.Entry.{Entry}
-use Rattle.queues.specs.Lists.{LentLists, lineOf, asideOf, ownersIn, hasSteps, hasNone}
-use Rattle.queues.specs.Serving.{Serving, ServeResult, entryAfter, frontTurn, requeued, turnedTo, frontServed, servedAs, serveOf, serveTests}
+use Rattle.queues.specs.Lists.{LentLists, lineOf, asideOf, ownersIn, hasSteps, hasNone, Queue}
+use Rattle.queues.specs.Serving.{Serving, ServeResult, entryAfter, frontTurn, requeued, turnedTo, frontServed, serveSchema, serveOf, serveTests}
 use Rattle.queues.specs.Serving.{serviceWith}
-use Rattle.queues.specs.Calls.{Queue, serve, MadeCall, lentTo, afterService, afterCall}
+use Rattle.queues.specs.Calls.{serve, MadeCall, lentTo, afterService, afterCall}
 use Rattle.queries.specs.Stepping.{isServed}
 use Rattle.queue_cuts.specs.Owners.{NoneOf}
 use Rattle.queues.proofs.Moving.{queue, line-lent, aside-lent, both-taken}
@@ -56,7 +57,7 @@ module _ (owner : ℕ) where
 -- ---- a turn of the front entry
 pub record FrontTold (v : Survey) (s : Serving) (e : Entry) (y : ServeResult) : Type 0 where
   pub turned : y .answer .turned ≡ frontTurn v s e .answer
-  pub output : y .output ≡ frontTurn v s e .buffers .output
+  pub output : y .buffers .output ≡ frontTurn v s e .buffers .output
   pub served : (x : ℕ) → frontTurn v s e .answer .ending ≡ ending.Refused x → ⊥
 
 abbrev pub NotDone : Survey → Serving → Entry → Type 0
@@ -90,7 +91,7 @@ module _ (v : Survey) (q : Queue) (m : MadeCall) (s : Serving) where
 
     -- the lists of a turn that was served are those it left
     left : (y : ServeResult) (x : TurnEnding) → ((z : ℕ) → x ≡ ending.Refused z → ⊥)
-        → afterService q y x ≡ queue (take (y .answer .waiting) (y .line)) (take (y .answer .resting) (y .aside))
+        → afterService q y x ≡ queue (take (y .answer .waiting) (y .buffers .line)) (take (y .answer .resting) (y .buffers .aside))
     left y ending.Done h = refl
     left y ending.Spent h = refl
     left y ending.Full h = refl
@@ -137,9 +138,9 @@ module _ (v : Survey) (q : Queue) (m : MadeCall) (s : Serving) where
   by-line (e ∷ es) is = by-ending e es is (frontTurn v s e .answer .ending) refl
 
   pub serves : Serviced v s q (serveOf v held s) (afterCall v q held (serve s))
-  unfolding serveOf
+  unfolding resultOfCall
   serves = by-tests (firstFailing (serveTests v held s))
     where
-      by-tests : (o : Option ℕ) → Serviced v s q (servedAs v held s o) (afterService q (servedAs v held s o) (servedAs v held s o .answer .turned .ending))
+      by-tests : (o : Option ℕ) → let y = resultByNumber (serveSchema v held) s o in Serviced v s q y (afterService q y (y .answer .turned .ending))
       by-tests (some x) = not-served refl
       by-tests none = by-line (lineOf held) refl

@@ -4,13 +4,12 @@ use mathlib.Core.Path.{_≡_, refl, sym, _∙_, ap, subst}
 use mathlib.Core.Logic.{_⊎_, inl, inr}
 use mathlib.Core.Bool.{Bool, true, false, cond}
 use mathlib.Core.Option.{Option, none, some}
-use mathlib.Core.List.{List, [], _∷_, _++_, map, append-assoc, append-nil}
+use mathlib.Core.List.{List, [], _∷_, _++_, append-assoc, append-nil}
 use lib.ListN.{length, take, drop, take-append-drop}
 use lib.Dec.{eqb}
 use borrow.Author.Tests.{eqb-true, eqb-false}
 use Rattle.words.specs.declared.Written.{Written}
 use Rattle.words.specs.declared.Written.the-variants as written
-use Rattle.sequences.specs.Sequences.{keep}
 use Rattle.words.specs.Tests.{firstFailing}
 use Rattle.plans.specs.Endings.{Ending, rows, top, group, registers}
 use Rattle.plans.specs.Plans.{planOf}
@@ -25,15 +24,15 @@ use Rattle.cuts.specs.Histories.{Event, merges, joins, Phone, ServedTurn, serve
 use Rattle.cuts.specs.Histories.{afterTaking, mergeInputOf, afterMerge, afterJoin, afterMerging, afterJoining, happens, history}
 use Rattle.cuts.proofs.Keeping.{served-more}
 use Rattle.queues.specs.declared.Entry.{Entry}
-use Rattle.queues.specs.Lists.{LentLists, lineOf, asideOf, hasOwner}
-use Rattle.queues.specs.Joining.{Joining, newEntry, joinTests, joinedAs, joinQueueOf, QueuedResult, listsWith}
-use Rattle.queues.specs.ToppingUp.{notOwner, topUpTests, toppedAs, topUpOf, withAllowance}
+use Rattle.queues.specs.Lists.{LentLists, hasOwner, Queue}
+use Rattle.queues.specs.Joining.{Joining, newEntry, joinTests}
+use Rattle.queues.specs.ToppingUp.{topUpTests, withAllowance}
 use Rattle.queues.specs.Serving.{Serving, ServeResult, entryTurn, entryAfter, frontTurn, serveOf}
-use Rattle.queues.specs.Calls.{Queue, QueueCall, join, serve, topUp, MadeCall, lentTo, afterQueued, afterCall}
+use Rattle.queues.specs.Calls.{QueueCall, join, serve, topUp, MadeCall, lentTo, afterCall}
 use Rattle.queries.specs.Stepping.{isServed}
 use Rattle.queue_cuts.specs.Owners.{Act, calls, merging, joining, ownTurn, ownService, ifOwn, callEvents, callServices, ownEvents}
 use Rattle.queue_cuts.specs.Owners.{ownServices, afterActs, NotAnother, NeverAgain, NoneOf, HoldsQuery, Waits, gone, in-line, set-aside}
-use Rattle.queues.proofs.Moving.{queue, line-lent, aside-lent, both-taken, topped-up}
+use Rattle.queues.proofs.Moving.{queue, topped-up, join-leaves, joined-to, with-entry, top-up-leaves, topped-to, one-topped}
 use Rattle.queue_cuts.proofs.FrontTurns.{other, not-first, none-behind, none-both, none-of-no-one, none-and-one, has-one}
 use Rattle.queue_cuts.proofs.FrontTurns.{FrontTold, Serviced, not-served, off, on, out, serves}
 use Rattle.queue_cuts.proofs.Arrivals.{comes-new}
@@ -219,8 +218,8 @@ module _ (v : Survey) (owner : ℕ) (plan : List ℕ) where
 
   join-waits : (saved : List ℕ) (q : Queue) (m : MadeCall) (j : Joining) → NotAnother v owner q (lentTo q m) (join j)
       → Waits owner plan saved q → Waits owner plan saved (afterCall v q (lentTo q m) (join j))
-  unfolding joinQueueOf
-  join-waits saved q m j first w = by-tests (firstFailing (joinTests v (lentTo q m) j)) refl
+  join-waits saved q m j first w =
+      subst (Waits owner plan saved) (sym (join-leaves v q m j)) (by-tests (firstFailing (joinTests v (lentTo q m) j)) refl)
     where
       l : LentLists
       l = lentTo q m
@@ -234,23 +233,15 @@ module _ (v : Survey) (owner : ℕ) (plan : List ℕ) where
           let free = comes-new v q m j passed in
           first (subst (λ (o : ℕ). NoneOf o (q .line)) hers (free .0)) (subst (λ (o : ℕ). NoneOf o (q .aside)) hers (free .1)) passed hers
 
-      choose : Bool → QueuedResult
-      choose b = cond b (listsWith l (lineOf l) (asideOf l ++ (d ∷ []))) (listsWith l (lineOf l ++ (d ∷ [])) (asideOf l))
-
-      by-steps : NoneOf owner (d ∷ []) → (b : Bool) → Waits owner plan saved (afterQueued q (choose b) (choose b .answer))
+      by-steps : NoneOf owner (d ∷ []) → (b : Bool) → Waits owner plan saved (with-entry v q m j b)
       by-steps n true =
-          subst (Waits owner plan saved)
-          (sym (both-taken l (lineOf l) (asideOf l ++ (d ∷ [])) (q .line ++ []) (q .aside ++ (d ∷ [])) (line-lent q m ∙ sym (append-nil (q .line)))
-          (ap (λ (es : List Entry). es ++ (d ∷ [])) (aside-lent q m))))
+          subst (λ (es : List Entry). Waits owner plan saved (queue es (q .aside ++ (d ∷ [])))) (append-nil (q .line))
           (more-waits saved q w [] (d ∷ []) (none-of-no-one owner) n)
       by-steps n false =
-          subst (Waits owner plan saved)
-          (sym (both-taken l (lineOf l ++ (d ∷ [])) (asideOf l) (q .line ++ (d ∷ [])) (q .aside ++ [])
-          (ap (λ (es : List Entry). es ++ (d ∷ [])) (line-lent q m)) (aside-lent q m ∙ sym (append-nil (q .aside)))))
+          subst (λ (es : List Entry). Waits owner plan saved (queue (q .line ++ (d ∷ [])) es)) (append-nil (q .aside))
           (more-waits saved q w (d ∷ []) [] n (none-of-no-one owner))
 
-      by-tests : (o : Option ℕ) → firstFailing (joinTests v l j) ≡ o
-          → Waits owner plan saved (afterQueued q (joinedAs l j o) (joinedAs l j o .answer))
+      by-tests : (o : Option ℕ) → firstFailing (joinTests v l j) ≡ o → Waits owner plan saved (joined-to v q m j o)
       by-tests (some x) e = w
       by-tests none e = by-steps (other owner d [] (another's e) (none-of-no-one owner)) (eqb (j .allowance) 0)
 
@@ -327,22 +318,17 @@ module _ (v : Survey) (owner : ℕ) (plan : List ℕ) where
 
   top-up-waits : (saved : List ℕ) (q : Queue) (m : MadeCall) (o n : ℕ) → Waits owner plan saved q
       → Waits owner plan saved (afterCall v q (lentTo q m) (topUp o n))
-  unfolding topUpOf
-  top-up-waits saved q m o n w = by-tests (firstFailing (topUpTests l o n)) refl
+  top-up-waits saved q m o n w =
+      subst (Waits owner plan saved) (sym (top-up-leaves q m v o n)) (by-tests (firstFailing (topUpTests l o n)) refl)
     where
       l : LentLists
       l = lentTo q m
 
-      by-tests : (x : Option ℕ) → firstFailing (topUpTests l o n) ≡ x
-          → Waits owner plan saved (afterQueued q (toppedAs l o n x) (toppedAs l o n x .answer))
+      by-tests : (x : Option ℕ) → firstFailing (topUpTests l o n) ≡ x → Waits owner plan saved (topped-to q m o n x)
       by-tests (some x) e = w
       by-tests none e =
           let f = topped-up q m o n e in
-          subst (Waits owner plan saved)
-          (sym (both-taken l (lineOf l ++ map (withAllowance n) (keep (hasOwner o) (asideOf l))) (keep (notOwner o) (asideOf l))
-          (q .line ++ (withAllowance n (f .entry) ∷ [])) (f .before ++ f .behind)
-          (λ i. line-lent q m i ++ map (withAllowance n) ((ap (λ (es : List Entry). keep (hasOwner o) es) (aside-lent q m) ∙ f .taken-out) i))
-          (ap (λ (es : List Entry). keep (notOwner o) es) (aside-lent q m) ∙ f .others)))
+          subst (Waits owner plan saved) (sym (one-topped q m o n e))
           (returned saved q (f .before) (f .behind) (f .entry) n (f .whole) w)
 
   -- ---- the phone takes a list: no words are saved and no turn is served by it

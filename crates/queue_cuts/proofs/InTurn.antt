@@ -12,6 +12,7 @@ use lib.ListN.{length, length-append, length-replicate}
 use borrow.Author.Tests.{le-leb}
 use Rattle.sequences.specs.Sequences.{all}
 use Rattle.words.specs.Tests.{AllPass}
+use Rattle.calls.specs.Calls.{NotRefused}
 use Rattle.sequences.proofs.Booleans.{and-both}
 use Rattle.words.proofs.Testing.{none-some}
 use Rattle.plans.specs.Plans.{planOf}
@@ -21,10 +22,9 @@ use Rattle.turns.specs.declared.TurnEnding.{TurnEnding}
 use Rattle.turns.specs.declared.TurnEnding.the-variants as ending
 use Rattle.turns.specs.Turns.{mostSteps}
 use Rattle.queues.specs.declared.Entry.{Entry}
-use Rattle.queues.specs.Lists.{mostEntries, LentLists, entryPlan, lineOf, hasSteps, hasNone, entriesRight, spaceRight}
-use Rattle.queues.specs.Serving.{Serving, ServeResult, frontTests, queueTests, serveOf}
-use Rattle.queues.specs.Calls.{Queue, serve, MadeCall, lentTo, turns, tookTurn, deedOf, afterCall, afterCalls, deeds, turnsOf, turnsIn, placeInLine}
-use Rattle.queues.specs.Refusals.{Serves}
+use Rattle.queues.specs.Lists.{mostEntries, LentLists, entryPlan, lineOf, hasSteps, hasNone, entriesRight, spaceRight, Queue}
+use Rattle.queues.specs.Serving.{Serving, ServeResult, frontTests, queueTests, serveSchema, serveOf}
+use Rattle.queues.specs.Calls.{serve, MadeCall, lentTo, turns, tookTurn, deedOf, afterCall, afterCalls, deeds, turnsOf, turnsIn, placeInLine}
 use Rattle.queues.proofs.Moving.{line-lent, aside-lent}
 use Rattle.queues.proofs.Refusals.{serve-refusals}
 use Rattle.queues.proofs.Fairness.{fair}
@@ -57,9 +57,9 @@ module _ (v : Survey) where
     lists-pass : AllPass (queueTests l)
     lists-pass = (entries, (space, (rw front-is refl, tt)))
 
-    pub right-served : Serves v l s
+    pub right-served : NotRefused (serveSchema v l) s
     right-served =
-        serve-refusals v l s .serves .1
+        serve-refusals v l s .served .1
         (subst (λ (es : List Entry). AllPass (frontTests v s es ++ queueTests l)) (sym front-is)
         (both-passed (frontTests v s (f .front ∷ f .behind)) (queueTests l)
         (right-passes v s (f .front) (subst (EachRight v) (f .stands) (h .line) .0) (f .limits) (f .unsent)) lists-pass))
@@ -76,7 +76,7 @@ module _ (v : Survey) where
         by-ending (ending.Refused y) k = absurd (k y refl)
 
   -- ---- a queue that was reached
-  pub front-served : (q : Queue) → ReachedQueue v q → (m : MadeCall) (s : Serving) → ForFront q m s → Serves v (lentTo q m) s
+  pub front-served : (q : Queue) → ReachedQueue v q → (m : MadeCall) (s : Serving) → ForFront q m s → NotRefused (serveSchema v (lentTo q m)) s
   front-served q r m s f = right-served q (reached-right v q r) m s f
 
   -- ---- the least serves, one after the other

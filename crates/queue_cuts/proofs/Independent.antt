@@ -2,7 +2,7 @@
 use Prim.Native.Nat.{ℕ, _≤_}
 use native.Mathlib.Omega.{arith}
 use mathlib.Core.Path.{_≡_, refl, sym, _∙_, ap, subst}
-use mathlib.Core.Bool.{Bool, true, false, cond}
+use mathlib.Core.Bool.{Bool, true, false}
 use mathlib.Core.Option.{none}
 use mathlib.Core.List.{List, [], _∷_, _++_}
 use lib.ListN.{length, length-append}
@@ -21,12 +21,12 @@ use Rattle.cuts.specs.Premises.{Premises}
 use Rattle.cuts.specs.Uncut.{EndsAt, AsUncut, runList}
 use Rattle.cuts.proofs.AnyCut.{any-cut}
 use Rattle.queues.specs.declared.Entry.{Entry}
-use Rattle.queues.specs.Lists.{entryPlanRoom, filled, LentLists, lineOf, asideOf}
-use Rattle.queues.specs.Joining.{Joining, newEntry, joinTests, joinQueueOf, QueuedResult, listsWith}
-use Rattle.queues.specs.Calls.{Queue, join, MadeCall, lentTo, afterQueued, afterCall}
+use Rattle.queues.specs.Lists.{entryPlanRoom, filled, LentLists, Queue}
+use Rattle.queues.specs.Joining.{Joining, newEntry, joinTests}
+use Rattle.queues.specs.Calls.{join, MadeCall, lentTo, afterCall}
 use Rattle.queue_cuts.specs.Owners.{Act, ownEvents}
 use Rattle.queue_cuts.specs.Owners.{NeverAgain, NoneOf, HoldsQuery, Waits, in-line, set-aside}
-use Rattle.queues.proofs.Moving.{line-lent, aside-lent, both-taken}
+use Rattle.queues.proofs.Moving.{join-leaves, joined-to, with-entry}
 use Rattle.queue_cuts.proofs.FrontTurns.{none-of-no-one}
 use Rattle.queue_cuts.proofs.Arrivals.{comes-new}
 use Rattle.queue_cuts.proofs.InStep.{in-step}
@@ -80,8 +80,8 @@ same-list v plan h k a b f g =
 -- ---- a served join
 pub joined-waits : (v : Survey) (q : Queue) (m : MadeCall) (j : Joining) → firstFailing (joinTests v (lentTo q m) j) ≡ none
     → Waits (j .owner) (j .plan) (j .state) (afterCall v q (lentTo q m) (join j))
-unfolding joinQueueOf
-joined-waits v q m j passed = rw passed (by-steps (eqb (j .allowance) 0))
+joined-waits v q m j passed =
+    subst (Waits (j .owner) (j .plan) (j .state)) (sym (join-leaves v q m j ∙ ap (joined-to v q m j) passed)) (by-steps (eqb (j .allowance) 0))
   where
     l : LentLists
     l = lentTo q m
@@ -95,17 +95,8 @@ joined-waits v q m j passed = rw passed (by-steps (eqb (j .allowance) 0))
     aside-free : NoneOf (j .owner) (q .aside)
     aside-free = comes-new v q m j passed .1
 
-    choose : Bool → QueuedResult
-    choose b = cond b (listsWith l (lineOf l) (asideOf l ++ (d ∷ []))) (listsWith l (lineOf l ++ (d ∷ [])) (asideOf l))
-
-    by-steps : (b : Bool) → Waits (j .owner) (j .plan) (j .state) (afterQueued q (choose b) (choose b .answer))
+    by-steps : (b : Bool) → Waits (j .owner) (j .plan) (j .state) (with-entry v q m j b)
     by-steps true =
-        subst (Waits (j .owner) (j .plan) (j .state))
-        (sym (both-taken l (lineOf l) (asideOf l ++ (d ∷ [])) (q .line) (q .aside ++ (d ∷ [])) (line-lent q m)
-        (ap (λ (es : List Entry). es ++ (d ∷ [])) (aside-lent q m))))
-        (set-aside (q .aside) [] d refl (entry-holds j) line-free aside-free (none-of-no-one (j .owner)))
+        set-aside (q .aside) [] d refl (entry-holds j) line-free aside-free (none-of-no-one (j .owner))
     by-steps false =
-        subst (Waits (j .owner) (j .plan) (j .state))
-        (sym (both-taken l (lineOf l ++ (d ∷ [])) (asideOf l) (q .line ++ (d ∷ [])) (q .aside)
-        (ap (λ (es : List Entry). es ++ (d ∷ [])) (line-lent q m)) (aside-lent q m)))
-        (in-line (q .line) [] d refl (entry-holds j) line-free (none-of-no-one (j .owner)) aside-free)
+        in-line (q .line) [] d refl (entry-holds j) line-free (none-of-no-one (j .owner)) aside-free

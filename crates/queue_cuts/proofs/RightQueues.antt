@@ -2,25 +2,25 @@
 use Prim.Native.Nat.{ℕ, _+_, _≤_}
 use native.Mathlib.Omega.{arith}
 use mathlib.Core.Path.{_≡_, refl, sym, _∙_, ap, subst}
-use mathlib.Core.Bool.{Bool, true, false, cond, _&&_, not}
+use mathlib.Core.Bool.{Bool, true, false, _&&_, not}
 use mathlib.Core.Option.{Option, none, some}
-use mathlib.Core.List.{List, [], _∷_, _++_, map, map-append, append-assoc, append-nil}
+use mathlib.Core.List.{List, [], _∷_, _++_, map-append, append-assoc, append-nil}
 use lib.Dec.{eqb, leb}
 use lib.ListN.{length, length-append}
 use borrow.Author.Tests.{leb-true}
-use Rattle.sequences.specs.Sequences.{all, keep, member, distinct}
+use Rattle.sequences.specs.Sequences.{all, member, distinct}
 use Rattle.words.specs.Tests.{firstFailing}
 use Rattle.sequences.proofs.Booleans.{and-left, and-right, and-both}
 use Rattle.sequences.proofs.Elements.{all-head, all-tail, all-cons, all-append}
 use Rattle.words.proofs.Testing.{passes-all, test-passed}
 use Rattle.turns.specs.Surveys.{Survey}
 use Rattle.queues.specs.declared.Entry.{Entry}
-use Rattle.queues.specs.Lists.{mostEntries, LentLists, lineOf, asideOf, ownersIn, owners, hasOwner, hasSteps, hasNone, entriesRight}
-use Rattle.queues.specs.Joining.{Joining, newEntry, joinTests, joinedAs, joinQueueOf, QueuedResult, listsWith}
-use Rattle.queues.specs.ToppingUp.{topUpTests, toppedAs, topUpOf, withAllowance, notOwner}
+use Rattle.queues.specs.Lists.{mostEntries, LentLists, asideOf, ownersIn, owners, hasSteps, hasNone, entriesRight, Queue}
+use Rattle.queues.specs.Joining.{Joining, newEntry, joinTests}
+use Rattle.queues.specs.ToppingUp.{topUpTests, withAllowance}
 use Rattle.queues.specs.Serving.{Serving, ServeResult, entryAfter, frontTurn, serveOf}
-use Rattle.queues.specs.Calls.{Queue, QueueCall, join, serve, topUp, MadeCall, lentTo, afterQueued, afterCall, afterCalls}
-use Rattle.queues.proofs.Moving.{queue, line-lent, aside-lent, both-taken, topped-up}
+use Rattle.queues.specs.Calls.{QueueCall, join, serve, topUp, MadeCall, lentTo, afterCall, afterCalls}
+use Rattle.queues.proofs.Moving.{queue, line-lent, aside-lent, topped-up, join-leaves, joined-to, with-entry, top-up-leaves, topped-to, one-topped}
 use Rattle.queue_cuts.specs.InTurn.{ReachedQueue, EntryRight, EachRight, QueueRight}
 use Rattle.queue_cuts.proofs.OwnersOnce.{distinct-among}
 use Rattle.queue_cuts.proofs.FrontTurns.{Serviced, not-served, off, on, out, serves, some-left}
@@ -166,17 +166,13 @@ module _ (v : Survey) where
 
   -- ---- the three calls
   join-right : (q : Queue) (m : MadeCall) (j : Joining) → QueueRight v q → QueueRight v (afterCall v q (lentTo q m) (join j))
-  unfolding joinQueueOf
-  join-right q m j h = by-tests (firstFailing (joinTests v l j)) refl
+  join-right q m j h = subst (QueueRight v) (sym (join-leaves v q m j)) (by-tests (firstFailing (joinTests v l j)) refl)
     where
       l : LentLists
       l = lentTo q m
 
       d : Entry
       d = newEntry j
-
-      choose : Bool → QueuedResult
-      choose b = cond b (listsWith l (lineOf l) (asideOf l ++ (d ∷ []))) (listsWith l (lineOf l ++ (d ∷ [])) (asideOf l))
 
       free : firstFailing (joinTests v l j) ≡ none → RoomFor (j .owner) (q .line) (q .aside)
       free e =
@@ -192,41 +188,28 @@ module _ (v : Survey) where
           }
 
       by-steps : RoomFor (j .owner) (q .line) (q .aside) → EntryRight v d → (b : Bool) → eqb (j .allowance) 0 ≡ b
-          → QueueRight v (afterQueued q (choose b) (choose b .answer))
-      by-steps f right true z =
-          subst (QueueRight v)
-          (sym (both-taken l (lineOf l) (asideOf l ++ (d ∷ [])) (q .line) (q .aside ++ (d ∷ [])) (line-lent q m)
-          (ap (λ (es : List Entry). es ++ (d ∷ [])) (aside-lent q m))))
-          (to-aside (q .line) (q .aside) d f right z)
-      by-steps f right false z =
-          subst (QueueRight v)
-          (sym (both-taken l (lineOf l ++ (d ∷ [])) (asideOf l) (q .line ++ (d ∷ [])) (q .aside)
-          (ap (λ (es : List Entry). es ++ (d ∷ [])) (line-lent q m)) (aside-lent q m)))
-          (to-line (q .line) (q .aside) d f right (some-left (j .allowance) z))
+          → QueueRight v (with-entry v q m j b)
+      by-steps f right true z = to-aside (q .line) (q .aside) d f right z
+      by-steps f right false z = to-line (q .line) (q .aside) d f right (some-left (j .allowance) z)
 
-      by-tests : (o : Option ℕ) → firstFailing (joinTests v l j) ≡ o → QueueRight v (afterQueued q (joinedAs l j o) (joinedAs l j o .answer))
+      by-tests : (o : Option ℕ) → firstFailing (joinTests v l j) ≡ o → QueueRight v (joined-to v q m j o)
       by-tests (some x) e = h
       by-tests none e = by-steps (free e) (joined-right v l j e) (eqb (j .allowance) 0) refl
 
   top-up-right : (q : Queue) (m : MadeCall) (o n : ℕ) → QueueRight v q → QueueRight v (afterCall v q (lentTo q m) (topUp o n))
-  unfolding topUpOf
-  top-up-right q m o n h = by-tests (firstFailing (topUpTests l o n)) refl
+  top-up-right q m o n h = subst (QueueRight v) (sym (top-up-leaves q m v o n)) (by-tests (firstFailing (topUpTests l o n)) refl)
     where
       l : LentLists
       l = lentTo q m
 
-      by-tests : (x : Option ℕ) → firstFailing (topUpTests l o n) ≡ x → QueueRight v (afterQueued q (toppedAs l o n x) (toppedAs l o n x .answer))
+      by-tests : (x : Option ℕ) → firstFailing (topUpTests l o n) ≡ x → QueueRight v (topped-to q m o n x)
       by-tests (some x) e = h
       by-tests none e =
           let f = topped-up q m o n e in
           let right = and-right (entriesRight l) (leb 1 n && member o (ownersIn (asideOf l)))
           (test-passed 17 (topUpTests l o n) (passes-all (topUpTests l o n) e)) in
           let whole = subst (λ (es : List Entry). QueueRight v (queue (q .line) es)) (f .whole) h in
-          subst (QueueRight v)
-          (sym (both-taken l (lineOf l ++ map (withAllowance n) (keep (hasOwner o) (asideOf l))) (keep (notOwner o) (asideOf l))
-          (q .line ++ (withAllowance n (f .entry) ∷ [])) (f .before ++ f .behind)
-          (λ i. line-lent q m i ++ map (withAllowance n) ((ap (λ (es : List Entry). keep (hasOwner o) es) (aside-lent q m) ∙ f .taken-out) i))
-          (ap (λ (es : List Entry). keep (notOwner o) es) (aside-lent q m) ∙ f .others)))
+          subst (QueueRight v) (sym (one-topped q m o n e))
           (to-line (q .line) (f .before ++ f .behind) (withAllowance n (f .entry)) (off-aside (q .line) (f .before) (f .behind) (f .entry) whole)
           (topped-right v n (f .entry) (each-without (f .before) (f .behind) (f .entry) (whole .aside) .0))
           (and-left (leb 1 n) (member o (ownersIn (asideOf l))) right))

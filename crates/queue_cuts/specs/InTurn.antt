@@ -6,6 +6,7 @@ use mathlib.Core.Bool.{true}
 use mathlib.Core.List.{List, [], _∷_, _++_}
 use lib.ListN.{length, replicate}
 use Rattle.sequences.specs.Sequences.{all, distinct}
+use Rattle.calls.specs.Calls.{NotRefused}
 use Rattle.plans.specs.Plans.{planOf}
 use Rattle.steps.specs.Saved.{leastStateWords}
 use Rattle.lists.specs.Gathering.{leastOutput}
@@ -14,10 +15,9 @@ use Rattle.turns.specs.Turns.{mostSteps}
 use Rattle.cuts.specs.Accepting.{Accepted, Passed}
 use Rattle.queries.specs.Playing.{InLimits}
 use Rattle.queues.specs.declared.Entry.{Entry}
-use Rattle.queues.specs.Lists.{entryPlan, hasSteps, hasNone, ownersIn}
-use Rattle.queues.specs.Serving.{Serving, entryTurn, serveOf}
-use Rattle.queues.specs.Calls.{Queue, serve, MadeCall, lentTo, afterCall, afterCalls, deeds, turnsIn}
-use Rattle.queues.specs.Refusals.{Serves}
+use Rattle.queues.specs.Lists.{entryPlan, hasSteps, hasNone, ownersIn, Queue}
+use Rattle.queues.specs.Serving.{Serving, entryTurn, serveSchema, serveOf}
+use Rattle.queues.specs.Calls.{serve, MadeCall, lentTo, afterCall, afterCalls, deeds, turnsIn}
 
 -- a queue that calls over one survey, refused ones among them, made of an empty one
 pub record ReachedQueue (v : Survey) (q : Queue) : Type 0 where
@@ -75,7 +75,8 @@ leastCalls v quantum behind (suc n) q =
 -- ---- what is promised to an owner at place p of the line
 pub record ServedInTurn (v : Survey) (q : Queue) (owner p : ℕ) : Type 0 where
   -- whatever is called meanwhile, a serve for the front is not refused
-  pub had : (ms : List MadeCall) (m : MadeCall) (s : Serving) → ForFront (afterCalls v q ms) m s → Serves v (lentTo (afterCalls v q ms) m) s
+  pub had : (ms : List MadeCall) (m : MadeCall) (s : Serving) → ForFront (afterCalls v q ms) m s
+      → NotRefused (serveSchema v (lentTo (afterCalls v q ms) m)) s
   -- and after p turns it is the owner's
   pub its : (ms : List MadeCall) → turnsIn (deeds v q ms) ≡ p → (m : MadeCall) (s : Serving) → ForFront (afterCalls v q ms) m s
       → serveOf v (lentTo (afterCalls v q ms) m) s .answer .owner ≡ owner

@@ -14,10 +14,10 @@ use Rattle.cuts.specs.Uncut.{AsUncut}
 use Rattle.cuts.specs.Histories.{Phone, servedIn, doneIn, history, Event, turns, merges, joins, ServedTurn}
 use Rattle.queries.specs.Stepping.{isServed}
 use Rattle.queues.specs.declared.Entry.{Entry}
-use Rattle.queues.specs.Lists.{LentLists, hasOwner, ownersIn, entryPlan}
+use Rattle.queues.specs.Lists.{LentLists, hasOwner, ownersIn, entryPlan, Queue}
 use Rattle.queues.specs.Joining.{joinTests}
 use Rattle.queues.specs.Serving.{Serving, ServeResult, entryAfter, frontTurn, serveOf}
-use Rattle.queues.specs.Calls.{Queue, QueueCall, join, serve, topUp, MadeCall, lentTo, afterCall}
+use Rattle.queues.specs.Calls.{QueueCall, join, serve, topUp, MadeCall, lentTo, afterCall}
 
 -- what happens: a call on the queue, by anyone; or the owner's phone takes its earliest list, by a merge or a join
 pub data Act : Type 0 where
@@ -38,7 +38,7 @@ ownService v s e r =
       sent = s .threshold;
       ending = r .answer .turned .ending;
       steps = r .answer .turned .steps;
-      list = take (r .answer .turned .listed) (r .output);
+      list = take (r .answer .turned .listed) (r .buffers .output);
       left = take (r .answer .turned .saved) (entryAfter e (frontTurn v s e) .state);
     }
 

@@ -25,7 +25,7 @@ pub fn join(
     plan: &[u32],
     state: &[u32],
 ) -> Queued
-    ensures { λ r. ⌜ record { answer = r; line = now (line .exit); aside = now (aside .exit) }
+    ensures { λ r. ⌜ record { answer = r; buffers = record { line = now (line .exit); aside = now (aside .exit) } }
         ≡ joinQueueOf (surveyOf (now (rows .entry)) (now (pos .entry)) (now (osp .entry)) survey)
         (lentAs (now (line .entry)) given (now (aside .entry)) kept)
         (record { owner = owner; allowance = allowance; plan = now (plan .entry); state = now (state .entry) }) ⌝ }
@@ -58,7 +58,7 @@ pub fn top_up(
     owner: u32,
     amount: u64,
 ) -> Queued
-    ensures { λ r. ⌜ record { answer = r; line = now (line .exit); aside = now (aside .exit) }
+    ensures { λ r. ⌜ record { answer = r; buffers = record { line = now (line .exit); aside = now (aside .exit) } }
         ≡ topUpOf (lentAs (now (line .entry)) given (now (aside .entry)) kept) owner amount ⌝ }
 {
     let seen = look(line, given, aside, kept, owner);

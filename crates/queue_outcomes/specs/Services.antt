@@ -12,7 +12,7 @@ use Rattle.turns.specs.Turns.{TurnResult}
 use Rattle.queues.specs.declared.Entry.{Entry}
 use Rattle.queues.specs.declared.Service.{Service}
 use Rattle.queues.specs.Lists.{LentLists, entryPlanRoom}
-use Rattle.queues.specs.Serving.{Serving, ServeResult, frontTests, entryAfter}
+use Rattle.queues.specs.Serving.{Serving, ServeResult, frontTests, entryAfter, refusedAnswer}
 use Rattle.queue_entries.specs.Entries.{nobody}
 use Rattle.queue_changes.specs.Changes.{unchanged, appended, removed, rotated, changed, ChangeFits}
 use Rattle.queue_outcomes.specs.declared.Ended.{Ended}
@@ -37,7 +37,7 @@ pub record EndedBy (r : TurnResult) (e : Entry) (x : Ended) (written : List ℕ)
 abbrev pub servingRefused : ℕ → ServeChanges
 servingRefused x =
     record {
-      answer = record { turned = record { steps = 0; ending = ending.Refused x; saved = 0; listed = 0 }; owner = 0; left = 0; waiting = 0; resting = 0 };
+      answer = refusedAnswer x;
       line = unchanged;
       aside = unchanged;
       entry = nobody;
@@ -74,9 +74,11 @@ abbrev pub servedBy : LentLists → ServeChanges → List ℕ → ServeResult
 servedBy l d written =
     record {
       answer = d .answer;
-      line = changed (l .line) (d .line) (d .entry);
-      aside = changed (l .aside) (d .aside) (d .entry);
-      output = written;
+      buffers = record {
+        line = changed (l .line) (d .line) (d .entry);
+        aside = changed (l .aside) (d .aside) (d .entry);
+        output = written;
+      };
     }
 
 -- the decision `d` of serving, with the output `written`, leaves what its definition does

@@ -1,1 +1,2 @@
 pub mod ServeChanges
+pub mod ServeSlots

@@ -23,7 +23,7 @@ pub fn serve(
     threshold: &[u32],
     output: &mut [u32],
 ) -> Service
-    ensures { λ r. ⌜ record { answer = r; line = now (line .exit); aside = now (aside .exit); output = now (output .exit) }
+    ensures { λ r. ⌜ record { answer = r; buffers = record { line = now (line .exit); aside = now (aside .exit); output = now (output .exit) } }
         ≡ serveOf (surveyOf (now (rows .entry)) (now (pos .entry)) (now (osp .entry)) survey)
         (lentAs (now (line .entry)) given (now (aside .entry)) kept)
         (record { quantum = quantum; threshold = now (threshold .entry); output = now (output .entry) }) ⌝ }

@@ -10,6 +10,7 @@ use lib.ListN.{length, take, drop, getD, replicate, length-append, length-drop}
 use lib.Seq.{take-length, length-take-le, paste}
 use Rattle.sequences.specs.Sequences.{all, member}
 use Rattle.words.specs.Tests.{firstFailing, numberOf, AllPass}
+use Rattle.calls.specs.Calls.{resultByNumber, resultOfCall}
 use Rattle.sequences.proofs.Booleans.{absurd-true, and-right}
 use Rattle.words.proofs.Numbering.{none-fails, one-fails}
 use Rattle.words.proofs.Testing.{passes-all, test-passed}
@@ -23,7 +24,8 @@ use Rattle.turns.specs.Surveys.{Survey}
 use Rattle.queues.specs.declared.Entry.{Entry}
 use Rattle.queues.specs.declared.Queued.the-variants.{Lists}
 use Rattle.queues.specs.Lists.{LentLists, lentAs, lineOf, asideOf, ownersIn, owners, filled, entryPlanRoom, entryStateRoom}
-use Rattle.queues.specs.Joining.{Joining, joinTests, joinTestsBy, newEntry, joinedAs, joinQueueOf, listsWith}
+use Rattle.queues.specs.Changing.{listsWith}
+use Rattle.queues.specs.Joining.{Joining, joinTests, joinTestsBy, newEntry, joinSchema, joinQueueOf}
 use Rattle.queues.specs.ToppingUp.{topUpTestsBy}
 use Rattle.queue_entries.specs.declared.Seen.{Seen}
 use Rattle.queue_entries.specs.Seeing.{SeenOf}
@@ -84,12 +86,13 @@ module _ (v : Survey) (line : List Entry) (given : ℕ) (aside : List Entry) (ke
 
   pub join-refuses : (n : ℕ) → n ≡ numberOf (firstFailing (joinTestsBy v (j .plan) (j .state) entries room)) → (n ≡ 0 → ⊥)
       → Decides l (queueingRefused n) (joinQueueOf v l j)
-  unfolding joinQueueOf
+  unfolding resultOfCall
   join-refuses n e h =
       record {
         line = ((λ z. absurd (omega arith)), (λ z. absurd-true z refl));
         aside = ((λ z. absurd (omega arith)), (λ z. absurd-true z refl));
-        result = sym (ap (joinedAs l j) (sym same-tests ∙ one-fails (firstFailing (joinTestsBy v (j .plan) (j .state) entries room)) n e h));
+        result = sym (ap (resultByNumber (joinSchema v l) j)
+            (sym same-tests ∙ one-fails (firstFailing (joinTestsBy v (j .plan) (j .state) entries room)) n e h));
       }
 
 -- the number that the code puts together
@@ -151,15 +154,18 @@ module _ (line : List Entry) (given : ℕ) (aside : List Entry) (kept : ℕ) (e 
         aside = record { gap = 0; last = 0; adds = false };
         entry = e;
       }))
-      (cond b (listsWith lent (lineOf lent) (asideOf lent ++ (e ∷ []))) (listsWith lent (lineOf lent ++ (e ∷ [])) (asideOf lent)))
+      (listsWith lent
+      (cond b (record { line = lineOf lent; aside = asideOf lent ++ (e ∷ []) }) (record { line = lineOf lent ++ (e ∷ []); aside = asideOf lent })))
   goes true =
       record {
         line = ((λ z. absurd (omega arith)), (λ z. absurd-true z refl));
         aside = ((λ z. absurd (omega arith)), (λ z. aside-long));
         result = λ i. record {
           answer = Lists (as-many line given line-long i) (one-more aside kept aside-long i);
-          line = sym (stays line given (let z : given ≤ length line = omega (arith, line-long) in z)) i;
-          aside = settled-added aside e kept aside-long i;
+          buffers = record {
+            line = sym (stays line given (let z : given ≤ length line = omega (arith, line-long) in z)) i;
+            aside = settled-added aside e kept aside-long i;
+          };
         };
       }
   goes false =
@@ -168,8 +174,10 @@ module _ (line : List Entry) (given : ℕ) (aside : List Entry) (kept : ℕ) (e 
         aside = ((λ z. absurd (omega arith)), (λ z. absurd-true z refl));
         result = λ i. record {
           answer = Lists (one-more line given line-long i) (as-many aside kept aside-long i);
-          line = settled-added line e given line-long i;
-          aside = sym (stays aside kept (let z : kept ≤ length aside = omega (arith, aside-long) in z)) i;
+          buffers = record {
+            line = settled-added line e given line-long i;
+            aside = sym (stays aside kept (let z : kept ≤ length aside = omega (arith, aside-long) in z)) i;
+          };
         };
       }
 
@@ -178,13 +186,14 @@ module _ (v : Survey) (line : List Entry) (given : ℕ) (aside : List Entry) (ke
     (passed : numberOf
     (firstFailing (joinTestsBy v (j .plan) (j .state) (entries v line given aside kept j seen is) (room v line given aside kept j seen is))) ≡ 0) where
   pub join-accepts : Decides (lentAs line given aside kept) (admittedBy (newEntry j) given kept) (joinQueueOf v (lentAs line given aside kept) j)
-  unfolding joinQueueOf
+  unfolding resultOfCall
   join-accepts =
       let r = joined-room v (j .plan) (j .state) (entries v line given aside kept j seen is) seen given kept passed in
       let a : seen .room ≡ length line = is .room in
       let b : seen .spare ≡ length aside = is .spare in
       let f = r .line in let g = r .aside in let h = r .entries in
-      subst (λ (o : Option ℕ). Decides (lentAs line given aside kept) (admittedBy (newEntry j) given kept) (joinedAs (lentAs line given aside kept) j o))
+      subst (λ (o : Option ℕ). Decides (lentAs line given aside kept) (admittedBy (newEntry j) given kept)
+      (resultByNumber (joinSchema v (lentAs line given aside kept)) j o))
       (sym (joined-none v (j .plan) (j .state) (entries v line given aside kept j seen is) seen given kept passed)
       ∙ same-tests v line given aside kept j seen is)
       (goes line given aside kept (newEntry j) (let z : given < length line = omega arith in z) (let z : kept < length aside = omega arith in

@@ -11,12 +11,13 @@ use lib.Seq.{take-take, getD-take, length-take-le}
 use borrow.Author.Tests.{eq-eqb, ne-eqb, ltb-true}
 use Rattle.sequences.specs.Sequences.{keep, member, distinct}
 use Rattle.words.specs.Tests.{firstFailing, numberOf}
+use Rattle.calls.specs.Calls.{resultByNumber, resultOfCall}
 use Rattle.sequences.proofs.Booleans.{absurd-true, and-left, and-right}
 use Rattle.words.proofs.Numbering.{one-fails}
 use Rattle.queues.specs.declared.Entry.{Entry}
 use Rattle.queues.specs.declared.Queued.the-variants.{Lists}
 use Rattle.queues.specs.Lists.{LentLists, lentAs, lineOf, asideOf, ownersIn, owners, hasOwner, entriesOver}
-use Rattle.queues.specs.ToppingUp.{notOwner, topUpTestsBy, topUpTests, withAllowance, toppedAs, topUpOf}
+use Rattle.queues.specs.ToppingUp.{notOwner, topUpTestsBy, topUpTests, withAllowance, topUpSchema, topUpOf}
 use Rattle.queues.proofs.Moving.{kept-none, distinct-right}
 use Rattle.queue_entries.specs.declared.Seen.{Seen}
 use Rattle.queue_entries.specs.Entries.{nobody}
@@ -104,12 +105,12 @@ module _ (line : List Entry) (given : ℕ) (aside : List Entry) (kept owner amou
 
   pub top-up-refuses : (n : ℕ) → n ≡ numberOf (firstFailing (topUpTestsBy entries room)) → (n ≡ 0 → ⊥)
       → Decides l (queueingRefused n) (topUpOf l owner amount)
-  unfolding topUpOf
+  unfolding resultOfCall
   top-up-refuses n e h =
       record {
         line = ((λ z. absurd (omega arith)), (λ z. absurd-true z refl));
         aside = ((λ z. absurd (omega arith)), (λ z. absurd-true z refl));
-        result = sym (ap (toppedAs l owner amount) (sym same-tests ∙ one-fails (firstFailing (topUpTestsBy entries room)) n e h));
+        result = sym (ap (resultByNumber (topUpSchema l) (owner, amount)) (sym same-tests ∙ one-fails (firstFailing (topUpTestsBy entries room)) n e h));
       }
 
   -- all tests pass
@@ -188,15 +189,17 @@ module _ (line : List Entry) (given : ℕ) (aside : List Entry) (kept owner amou
           ∙ (let z : k + (kept - 1 - k) ≡ kept - 1 = omega (arith, k-kept) in z))
 
       pub top-up-accepts : Decides l (toppedBy k given kept e′) (topUpOf l owner amount)
-      unfolding topUpOf
+      unfolding resultOfCall
       top-up-accepts =
           record {
             line = ((λ z. absurd (omega arith)), (λ z. line-long));
             aside = ((λ z. omega (arith, k-kept, aside-long)), (λ z. absurd-true z refl));
             result = (λ i. record {
               answer = Lists (line-count i) (aside-count i);
-              line = (settled-added line e′ given line-long ∙ ap (λ (es : List Entry). entriesOver es line) (sym new-line)) i;
-              aside = (settled-gone aside e′ k kept k-kept aside-long ∙ ap (λ (es : List Entry). entriesOver es aside) (sym new-aside)) i;
+              buffers = record {
+                line = (settled-added line e′ given line-long ∙ ap (λ (es : List Entry). entriesOver es line) (sym new-line)) i;
+                aside = (settled-gone aside e′ k kept k-kept aside-long ∙ ap (λ (es : List Entry). entriesOver es aside) (sym new-aside)) i;
+              };
             })
-                ∙ ap (toppedAs l owner amount) (sym none-fails);
+                ∙ ap (resultByNumber (topUpSchema l) (owner, amount)) (sym none-fails);
           }

@@ -13,7 +13,7 @@ use Rattle.turns.specs.declared.TurnEnding.the-variants as ending
 use Rattle.turns.specs.Turns.{TurnResult}
 use Rattle.queues.specs.declared.Entry.{Entry}
 use Rattle.queues.specs.Lists.{LentLists, lentAs, asideOf, entriesOver}
-use Rattle.queues.specs.Serving.{Serving, entryAfter, serviceWith, turnedTo}
+use Rattle.queues.specs.Serving.{Serving, ServeResult, entryAfter, serviceWith, refusedAnswer, turnedTo}
 use Rattle.queue_entries.proofs.Placing.{settled-added, settled-gone, settled-back, stays}
 use Rattle.queue_changes.specs.Changes.{unchanged, appended, removed, rotated, changed}
 use Rattle.queue_outcomes.specs.declared.Ended.{Ended}
@@ -64,23 +64,20 @@ module _ (s : Serving) (line : List Entry) (given : ℕ) (aside : List Entry) (k
       settled-back line e′ 0 given some-wait line-long
       ∙ ap (λ (n : ℕ). entriesOver (take n (drop 1 line) ++ (e′ ∷ [])) line) (let z : given - 1 - 0 ≡ given - 1 = omega arith in z)
 
+  -- a service with `n` and `m` entries in the lists, and these buffers
+  abbrev service : ℕ → ℕ → List Entry → List Entry → ServeResult
+  service n m line aside =
+      record {
+        answer = record { turned = r .answer; owner = e .owner; left = e .allowance - r .answer .steps; waiting = n; resting = m };
+        buffers = record { line = line; aside = aside; output = r .buffers .output };
+      }
+
   leaves : DecidesServing l (dequeuedBy x given kept) (r .buffers .output) (serviceWith l e r es (asideOf l))
   leaves =
       record {
         line = ((λ z. omega (arith, line-long)), (λ z. absurd-true z refl));
         aside = ((λ z. absurd (omega arith)), (λ z. absurd-true z refl));
-        result = λ i. record {
-          answer = record {
-            turned = r .answer;
-            owner = e .owner;
-            left = e .allowance - r .answer .steps;
-            waiting = one-less i;
-            resting = resting i;
-          };
-          line = gone i;
-          aside = sym (stays aside kept all-rest) i;
-          output = r .buffers .output;
-        };
+        result = λ i. service (one-less i) (resting i) (gone i) (sym (stays aside kept all-rest) i);
       }
 
   goes-back : (b : Bool)
@@ -94,35 +91,13 @@ module _ (s : Serving) (line : List Entry) (given : ℕ) (aside : List Entry) (k
       record {
         line = ((λ z. omega (arith, line-long)), (λ z. absurd-true z refl));
         aside = ((λ z. absurd (omega arith)), (λ z. aside-long));
-        result = λ i. record {
-          answer = record {
-            turned = r .answer;
-            owner = e .owner;
-            left = e .allowance - r .answer .steps;
-            waiting = one-less i;
-            resting = one-more i;
-          };
-          line = gone i;
-          aside = settled-added aside e′ kept aside-long i;
-          output = r .buffers .output;
-        };
+        result = λ i. service (one-less i) (one-more i) (gone i) (settled-added aside e′ kept aside-long i);
       }
   goes-back false =
       record {
         line = ((λ z. omega (arith, line-long)), (λ z. omega (arith, line-long, some-wait)));
         aside = ((λ z. absurd (omega arith)), (λ z. absurd-true z refl));
-        result = λ i. record {
-          answer = record {
-            turned = r .answer;
-            owner = e .owner;
-            left = e .allowance - r .answer .steps;
-            waiting = as-many i;
-            resting = resting i;
-          };
-          line = back i;
-          aside = sym (stays aside kept all-rest) i;
-          output = r .buffers .output;
-        };
+        result = λ i. service (as-many i) (resting i) (back i) (sym (stays aside kept all-rest) i);
       }
 
   -- by the ending; a refused turn wrote nothing
@@ -135,16 +110,5 @@ module _ (s : Serving) (line : List Entry) (given : ℕ) (aside : List Entry) (k
       record {
         line = ((λ z. absurd (omega arith)), (λ z. absurd-true z refl));
         aside = ((λ z. absurd (omega arith)), (λ z. absurd-true z refl));
-        result = λ i. record {
-          answer = record {
-            turned = record { steps = 0; ending = ending.Refused z; saved = 0; listed = 0 };
-            owner = 0;
-            left = 0;
-            waiting = 0;
-            resting = 0;
-          };
-          line = line;
-          aside = aside;
-          output = h z refl i;
-        };
+        result = λ i. record { answer = refusedAnswer z; buffers = record { line = line; aside = aside; output = h z refl i } };
       }

@@ -11,6 +11,7 @@ use lib.ListN.{length, take, drop, getD}
 use borrow.Author.Tests.{le-leb, leb-true, eqb-true, eqb-false}
 use Rattle.sequences.specs.Sequences.{all, distinct}
 use Rattle.words.specs.Tests.{Test, firstFailing, numberOf, AllPass}
+use Rattle.calls.specs.Calls.{resultByNumber, resultOfCall}
 use Rattle.sequences.proofs.Booleans.{absurd-true, and-left, and-right, and-both}
 use Rattle.sequences.proofs.Elements.{all-head}
 use Rattle.words.proofs.Testing.{orElse, first-append, passes-all, test-passed, first-fails}
@@ -21,7 +22,7 @@ use Rattle.turns.proofs.Refusals.{turn-refusals, turn-unchanged}
 use Rattle.queues.specs.declared.Entry.{Entry}
 use Rattle.queues.specs.Lists.{LentLists, lentAs, lineOf, asideOf, owners, hasSteps, hasNone, entriesRight}
 use Rattle.queues.specs.Serving.{Serving, ServeResult, entryTurn, quantumTests, frontTests, isEmpty, queueTestsBy, queueTests, serveTests}
-use Rattle.queues.specs.Serving.{entryAfter, turnedTo, frontServed, servedAs, serveOf}
+use Rattle.queues.specs.Serving.{entryAfter, turnedTo, frontServed, serveSchema, serveOf}
 use Rattle.queue_entries.specs.declared.Seen.{Seen}
 use Rattle.queue_entries.specs.Entries.{nobody}
 use Rattle.queue_entries.specs.Seeing.{SeenOf}
@@ -164,12 +165,12 @@ module _ (v : Survey) (s : Serving) (line : List Entry) (given : ℕ) (aside : L
 
   pub serve-refuses : (r : ℕ) → r ≡ numberOf (firstFailing (frontBy v s n e ++ queueTestsBy entries room (not (eqb n 0)))) → (r ≡ 0 → ⊥)
       → DecidesServing l (servingRefused r) (s .output) (serveOf v l s)
-  unfolding serveOf
+  unfolding resultOfCall
   serve-refuses r f h =
       record {
         line = ((λ z. absurd (omega arith)), (λ z. absurd-true z refl));
         aside = ((λ z. absurd (omega arith)), (λ z. absurd-true z refl));
-        result = sym (ap (servedAs v l s) (sym same-tests ∙ one-fails _ r f h));
+        result = sym (ap (resultByNumber (serveSchema v l) s) (sym same-tests ∙ one-fails _ r f h));
       }
     where
       same-tests : firstFailing (frontBy v s n e ++ queueTestsBy entries room (not (eqb n 0))) ≡ firstFailing (serveTests v l s)
@@ -230,11 +231,11 @@ module _ (v : Survey) (s : Serving) (line : List Entry) (given : ℕ) (aside : L
         ∙ same-at-least
 
     serve-is : serveOf v l s ≡ turnedTo l s e es (turnOf i′) (turnOf i′ .answer .ending)
-    unfolding serveOf
-    serve-is = ap (servedAs v l s) tests-are ∙ by-tests (firstFailing (turnTests i′)) refl
+    unfolding resultOfCall
+    serve-is = ap (resultByNumber (serveSchema v l) s) tests-are ∙ by-tests (firstFailing (turnTests i′)) refl
       where
         by-tests : (o : Option ℕ) → firstFailing (turnTests i′) ≡ o
-            → servedAs v l s o ≡ turnedTo l s e es (turnOf i′) (turnOf i′ .answer .ending)
+            → resultByNumber (serveSchema v l) s o ≡ turnedTo l s e es (turnOf i′) (turnOf i′ .answer .ending)
         by-tests (some x) h = sym (ap (turnedTo l s e es (turnOf i′)) (turn-refusals i′ .refused x .1 (first-fails x (turnTests i′) h)))
         by-tests none h = ap (frontServed v l s) line-is
 

@@ -10,7 +10,8 @@ use Rattle.turns.specs.declared.TurnEnding.{TurnEnding}
 use Rattle.turns.specs.declared.TurnEnding.the-variants as ending
 use Rattle.queues.specs.declared.Entry.{Entry}
 use Rattle.queues.specs.ToppingUp.{withAllowance}
-use Rattle.queues.specs.Calls.{Queue, MadeCall, lentTo, Deed, turns, afterCall, afterCalls, deeds, forOwner, grantedBy}
+use Rattle.queues.specs.Lists.{Queue}
+use Rattle.queues.specs.Calls.{MadeCall, lentTo, Deed, turns, afterCall, afterCalls, deeds, forOwner, grantedBy}
 use Rattle.queues.specs.Calls.{steppedBy, carriedBy, summed, leftIn, leftTo, Accounts}
 use Rattle.queues.proofs.Moving.{Moves, stays, waits, rests, returns, leaves, goes-on, runs-out, call-moves}
 

@@ -11,7 +11,8 @@ use Rattle.words.proofs.Testing.{none-some}
 use Rattle.turns.specs.Surveys.{Survey}
 use Rattle.turns.specs.declared.TurnEnding.{TurnEnding}
 use Rattle.queues.specs.declared.Entry.{Entry}
-use Rattle.queues.specs.Calls.{Queue, MadeCall, lentTo, Deed, turns, afterCall, afterCalls, deedOf, deeds, turnsOf, turnsIn, placeInLine, Fair}
+use Rattle.queues.specs.Lists.{Queue}
+use Rattle.queues.specs.Calls.{MadeCall, lentTo, Deed, turns, afterCall, afterCalls, deedOf, deeds, turnsOf, turnsIn, placeInLine, Fair}
 use Rattle.queues.proofs.Moving.{Moves, stays, waits, rests, returns, leaves, goes-on, runs-out, call-moves}
 
 module _ (owner : ℕ) where

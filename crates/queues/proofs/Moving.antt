@@ -14,18 +14,20 @@ use Rattle.sequences.specs.Sequences.{all, keep, member, distinct}
 use Rattle.words.specs.Tests.{Test, firstFailing}
 use Rattle.sequences.proofs.Booleans.{absurd-true, and-left, and-right, or-left, or-right}
 use Rattle.words.proofs.Testing.{none-some}
+use Rattle.calls.specs.Calls.{resultByNumber, resultOfCall}
 use Rattle.turns.specs.Surveys.{Survey}
 use Rattle.turns.specs.declared.TurnEnding.{TurnEnding}
 use Rattle.turns.specs.declared.TurnEnding.the-variants as ending
 use Rattle.turns.specs.Turns.{TurnResult}
 use Rattle.turns.proofs.Progress.{progresses}
 use Rattle.queues.specs.declared.Entry.{Entry}
-use Rattle.queues.specs.Lists.{LentLists, hasSteps, hasNone, lineOf, asideOf, entriesOver, ownersIn, owners, entriesRight, hasOwner}
-use Rattle.queues.specs.Joining.{Joining, newEntry, joinedAs, joinQueueOf, joinTests, listsWith}
-use Rattle.queues.specs.ToppingUp.{notOwner, withAllowance, topUpTests, toppedAs, topUpOf}
-use Rattle.queues.specs.Serving.{Serving, entryTurn, ServeResult, entryAfter, requeued, turnedTo, frontTurn, frontServed, servedAs, serveOf}
+use Rattle.queues.specs.Lists.{LentLists, hasSteps, hasNone, lineOf, asideOf, entriesOver, ownersIn, owners, entriesRight, hasOwner, Queue}
+use Rattle.queues.specs.Changing.{listsWith}
+use Rattle.queues.specs.Joining.{Joining, newEntry, admitted, joinSchema, joinTests}
+use Rattle.queues.specs.ToppingUp.{notOwner, withAllowance, toppedUp, topUpSchema, topUpTests}
+use Rattle.queues.specs.Serving.{Serving, entryTurn, ServeResult, entryAfter, requeued, turnedTo, frontTurn, frontServed, serveSchema}
 use Rattle.queues.specs.Serving.{serveTests, serviceWith}
-use Rattle.queues.specs.Calls.{Queue, QueueCall, join, serve, topUp, MadeCall, lentTo, Deed, grants, turns, nothing}
+use Rattle.queues.specs.Calls.{QueueCall, join, serve, topUp, MadeCall, lentTo, Deed, grants, turns, nothing}
 use Rattle.queues.specs.Calls.{afterQueued, afterService, afterCall}
 use Rattle.queues.specs.Calls.{granted, tookTurn, deedOf}
 
@@ -54,42 +56,49 @@ line-lent q m = take-append-seam (q .line) (m .behindLine)
 pub aside-lent : (q : Queue) (m : MadeCall) → asideOf (lentTo q m) ≡ q .aside
 aside-lent q m = take-append-seam (q .aside) (m .behindAside)
 
-taken : (es buffer : List Entry) → take (length es) (entriesOver es buffer) ≡ es
-taken es buffer = take-append-seam es _
+-- the lists that are written are read back
+read-back : (l : LentLists) (q : Queue)
+    → queue (take (length (q .line)) (listsWith l q .buffers .line)) (take (length (q .aside)) (listsWith l q .buffers .aside)) ≡ q
+read-back l q = λ i. queue (seam (q .line) (l .line) i) (seam (q .aside) (l .aside) i)
+  where
+    seam : (es buffer : List Entry) → take (length es) (entriesOver es buffer) ≡ es
+    seam es buffer = take-append-seam es _
 
 pub both-taken : (l : LentLists) (line aside : List Entry) (line′ aside′ : List Entry) → line ≡ line′ → aside ≡ aside′
     → queue (take (length line) (entriesOver line (l .line))) (take (length aside) (entriesOver aside (l .aside))) ≡ queue line′ aside′
-both-taken l line aside line′ aside′ e f = λ i. queue ((taken line (l .line) ∙ e) i) ((taken aside (l .aside) ∙ f) i)
+both-taken l line aside line′ aside′ e f = read-back l (queue line aside) ∙ (λ i. queue (e i) (f i))
 
 -- ---- joining
-module _ (v : Survey) (q : Queue) (m : MadeCall) where
+module _ (v : Survey) (q : Queue) (m : MadeCall) (j : Joining) where
   abbrev l : LentLists
   l = lentTo q m
 
-  join-moves : (j : Joining) (o : Option ℕ) → firstFailing (joinTests v l j) ≡ o
-      → Moves q (afterQueued q (joinedAs l j o) (joinedAs l j o .answer)) (granted (j .owner) (j .allowance) (joinedAs l j o .answer))
-  join-moves j (some x) e = stays
-  join-moves j none e = by-steps (eqb (j .allowance) 0) refl
-    where
-      d : Entry
-      d = newEntry j
+  -- the new entry at the end of the line, or of the list set aside; the queue as it was where a test fails
+  abbrev pub with-entry : Bool → Queue
+  with-entry b = cond b (queue (q .line) (q .aside ++ (newEntry j ∷ []))) (queue (q .line ++ (newEntry j ∷ [])) (q .aside))
 
+  abbrev pub joined-to : Option ℕ → Queue
+  joined-to (some x) = q
+  joined-to none = with-entry (eqb (j .allowance) 0)
+
+  pub join-leaves : afterCall v q l (join j) ≡ joined-to (firstFailing (joinTests v l j))
+  unfolding resultOfCall
+  join-leaves = by-tests (firstFailing (joinTests v l j))
+    where
+      by-tests : (o : Option ℕ)
+          → afterQueued q (resultByNumber (joinSchema v l) j o) (resultByNumber (joinSchema v l) j o .answer) ≡ joined-to o
+      by-tests (some x) = refl
+      by-tests none = read-back l (admitted l (newEntry j)) ∙ (λ i. cond (eqb (j .allowance) 0)
+          (queue (line-lent q m i) (aside-lent q m i ++ (newEntry j ∷ []))) (queue (line-lent q m i ++ (newEntry j ∷ [])) (aside-lent q m i)))
+
+  join-moves : (o : Option ℕ) → Moves q (joined-to o) (granted (j .owner) (j .allowance) (resultByNumber (joinSchema v l) j o .answer))
+  join-moves (some x) = stays
+  join-moves none = by-steps (eqb (j .allowance) 0) refl
+    where
       -- whichever list it goes to
-      by-steps : (b : Bool) → eqb (j .allowance) 0 ≡ b
-          → Moves q (afterQueued q (cond b (listsWith l (lineOf l) (asideOf l ++ (d ∷ []))) (listsWith l (lineOf l ++ (d ∷ [])) (asideOf l)))
-          (cond b (listsWith l (lineOf l) (asideOf l ++ (d ∷ []))) (listsWith l (lineOf l ++ (d ∷ [])) (asideOf l)) .answer))
-          (granted (j .owner) (j .allowance)
-          (cond b (listsWith l (lineOf l) (asideOf l ++ (d ∷ []))) (listsWith l (lineOf l ++ (d ∷ [])) (asideOf l)) .answer))
-      by-steps true z =
-          subst (λ (x : Queue). Moves q x (grants (j .owner) (j .allowance)))
-          (sym (both-taken l (lineOf l) (asideOf l ++ (d ∷ [])) (q .line) (q .aside ++ (d ∷ [])) (line-lent q m)
-          (ap (λ es. es ++ (d ∷ [])) (aside-lent q m))))
-          (rests d (eqb-true (j .allowance) 0 z))
-      by-steps false z =
-          subst (λ (x : Queue). Moves q x (grants (j .owner) (j .allowance)))
-          (sym (both-taken l (lineOf l ++ (d ∷ [])) (asideOf l) (q .line ++ (d ∷ [])) (q .aside) (ap (λ es. es ++ (d ∷ [])) (line-lent q m))
-          (aside-lent q m)))
-          (waits d)
+      by-steps : (b : Bool) → eqb (j .allowance) 0 ≡ b → Moves q (with-entry b) (grants (j .owner) (j .allowance))
+      by-steps true z = rests (newEntry j) (eqb-true (j .allowance) 0 z)
+      by-steps false z = waits (newEntry j)
 
 -- ---- topping up
 pub distinct-right : (xs ys : List ℕ) → distinct (xs ++ ys) ≡ true → distinct ys ≡ true
@@ -193,22 +202,37 @@ module _ (q : Queue) (m : MadeCall) where
           let rest = and-right (all hasSteps (lineOf lent)) (all hasNone (asideOf lent)) (and-right all-owners allowances entries) in
           subst (λ (es : List Entry). FoundEntry owner es) (aside-lent q m) (found owner (asideOf lent) named apart rest)
 
+  -- the queue after a top-up, by its first test that fails
+  abbrev pub topped-to : ℕ → ℕ → Option ℕ → Queue
+  topped-to owner n (some x) = q
+  topped-to owner n none = queue (q .line ++ map (withAllowance n) (keep (hasOwner owner) (q .aside))) (keep (notOwner owner) (q .aside))
+
+  pub top-up-leaves : (v : Survey) (owner n : ℕ) → afterCall v q lent (topUp owner n) ≡ topped-to owner n (firstFailing (topUpTests lent owner n))
+  unfolding resultOfCall
+  top-up-leaves v owner n = by-tests (firstFailing (topUpTests lent owner n))
+    where
+      by-tests : (o : Option ℕ)
+          → afterQueued q (resultByNumber (topUpSchema lent) (owner, n) o) (resultByNumber (topUpSchema lent) (owner, n) o .answer) ≡ topped-to owner n o
+      by-tests (some x) = refl
+      by-tests none = read-back lent (toppedUp lent owner n) ∙ (λ i. queue
+          (line-lent q m i ++ map (withAllowance n) (keep (hasOwner owner) (aside-lent q m i))) (keep (notOwner owner) (aside-lent q m i)))
+
+  -- where all pass it moves one entry
+  pub one-topped : (owner n : ℕ) (e : firstFailing (topUpTests lent owner n) ≡ none) → topped-to owner n none
+      ≡ queue (q .line ++ (withAllowance n (topped-up owner n e .entry) ∷ [])) (topped-up owner n e .before ++ topped-up owner n e .behind)
+  one-topped owner n e =
+      λ i. queue (q .line ++ map (withAllowance n) (topped-up owner n e .taken-out i)) (topped-up owner n e .others i)
+
   top-up-moves : (owner n : ℕ) (o : Option ℕ) → firstFailing (topUpTests lent owner n) ≡ o
-      → Moves q (afterQueued q (toppedAs lent owner n o) (toppedAs lent owner n o .answer)) (granted owner n (toppedAs lent owner n o .answer))
+      → Moves q (topped-to owner n o) (granted owner n (resultByNumber (topUpSchema lent) (owner, n) o .answer))
   top-up-moves owner n (some x) e = stays
   top-up-moves owner n none e =
-      subst (λ (x : Queue). Moves q x (grants owner n))
-      (sym (both-taken lent (lineOf lent ++ map (withAllowance n) (keep (hasOwner owner) (asideOf lent))) (keep (notOwner owner) (asideOf lent))
-      (q .line ++ (withAllowance n (topped-up owner n e .entry) ∷ [])) (topped-up owner n e .before ++ topped-up owner n e .behind)
-      (λ i. line-lent q m i ++ map (withAllowance n) ((ap (λ es. keep (hasOwner owner) es) (aside-lent q m) ∙ topped-up owner n e .taken-out) i))
-      (ap (λ es. keep (notOwner owner) es) (aside-lent q m) ∙ topped-up owner n e .others)))
-      (subst (λ (x : ℕ). Moves q
-      (queue (q .line ++ (withAllowance n (topped-up owner n e .entry) ∷ [])) (topped-up owner n e .before ++ topped-up owner n e .behind))
-      (grants x n)) (topped-up owner n e .its)
+      let f = topped-up owner n e in
+      subst (λ (x : Queue). Moves q x (grants owner n)) (sym (one-topped owner n e))
+      (subst (λ (x : ℕ). Moves q (queue (q .line ++ (withAllowance n (f .entry) ∷ [])) (f .before ++ f .behind)) (grants x n)) (f .its)
       (subst (λ (x : List Entry). Moves (queue (q .line) x)
-      (queue (q .line ++ (withAllowance n (topped-up owner n e .entry) ∷ [])) (topped-up owner n e .before ++ topped-up owner n e .behind))
-      (grants (topped-up owner n e .entry .owner) n)) (sym (topped-up owner n e .whole))
-      (returns (q .line) (topped-up owner n e .before) (topped-up owner n e .behind) (topped-up owner n e .entry) n (topped-up owner n e .nothing-left))))
+      (queue (q .line ++ (withAllowance n (f .entry) ∷ [])) (f .before ++ f .behind)) (grants (f .entry .owner) n)) (sym (f .whole))
+      (returns (q .line) (f .before) (f .behind) (f .entry) n (f .nothing-left))))
 
 -- ---- serving
 module _ (v : Survey) (q : Queue) (m : MadeCall) (s : Serving) where
@@ -236,7 +260,7 @@ module _ (v : Survey) (q : Queue) (m : MadeCall) (s : Serving) where
     to-lists : (line aside line′ aside′ : List Entry) (x : TurnEnding) → r .answer .ending ≡ x → line ≡ line′ → aside ≡ aside′
         → Moves q (queue line′ aside′) (turns (e .owner) x n (e .allowance - n))
         → ((y : ServeResult) (z : TurnEnding) → z ≡ x
-        → Moves q (queue (take (y .answer .waiting) (y .line)) (take (y .answer .resting) (y .aside)))
+        → Moves q (queue (take (y .answer .waiting) (y .buffers .line)) (take (y .answer .resting) (y .buffers .aside)))
         (turns (y .answer .owner) x (y .answer .turned .steps) (y .answer .left))
         → Moves q (afterService q y z) (tookTurn y z))
         → Moves q (afterService q (serviceWith held e r line aside) (r .answer .ending)) (tookTurn (serviceWith held e r line aside) (r .answer .ending))
@@ -245,26 +269,26 @@ module _ (v : Survey) (q : Queue) (m : MadeCall) (s : Serving) where
         (subst (λ (y : Queue). Moves q y (turns (e .owner) x n (e .allowance - n))) (sym (both-taken held line aside line′ aside′ f g)) h)
 
     done : (y : ServeResult) (z : TurnEnding) → z ≡ ending.Done
-        → Moves q (queue (take (y .answer .waiting) (y .line)) (take (y .answer .resting) (y .aside)))
+        → Moves q (queue (take (y .answer .waiting) (y .buffers .line)) (take (y .answer .resting) (y .buffers .aside)))
         (turns (y .answer .owner) ending.Done (y .answer .turned .steps) (y .answer .left))
         → Moves q (afterService q y z) (tookTurn y z)
     done y z is h = subst (λ (x : TurnEnding). Moves q (afterService q y x) (tookTurn y x)) (sym is) h
 
     spent : (y : ServeResult) (z : TurnEnding) → z ≡ ending.Spent
-        → Moves q (queue (take (y .answer .waiting) (y .line)) (take (y .answer .resting) (y .aside)))
+        → Moves q (queue (take (y .answer .waiting) (y .buffers .line)) (take (y .answer .resting) (y .buffers .aside)))
         (turns (y .answer .owner) ending.Spent (y .answer .turned .steps) (y .answer .left))
         → Moves q (afterService q y z) (tookTurn y z)
     spent y z is h = subst (λ (x : TurnEnding). Moves q (afterService q y x) (tookTurn y x)) (sym is) h
 
     full : (y : ServeResult) (z : TurnEnding) → z ≡ ending.Full
-        → Moves q (queue (take (y .answer .waiting) (y .line)) (take (y .answer .resting) (y .aside)))
+        → Moves q (queue (take (y .answer .waiting) (y .buffers .line)) (take (y .answer .resting) (y .buffers .aside)))
         (turns (y .answer .owner) ending.Full (y .answer .turned .steps) (y .answer .left))
         → Moves q (afterService q y z) (tookTurn y z)
     full y z is h = subst (λ (x : TurnEnding). Moves q (afterService q y x) (tookTurn y x)) (sym is) h
 
     back : (x : TurnEnding) → r .answer .ending ≡ x → (x ≡ ending.Done → ⊥) → ((y : ℕ) → x ≡ ending.Refused y → ⊥)
         → ((y : ServeResult) (z : TurnEnding) → z ≡ x
-        → Moves q (queue (take (y .answer .waiting) (y .line)) (take (y .answer .resting) (y .aside)))
+        → Moves q (queue (take (y .answer .waiting) (y .buffers .line)) (take (y .answer .resting) (y .buffers .aside)))
         (turns (y .answer .owner) x (y .answer .turned .steps) (y .answer .left))
         → Moves q (afterService q y z) (tookTurn y z))
         → Moves q (afterService q (requeued held e es r) (requeued held e es r .answer .turned .ending))
@@ -307,15 +331,18 @@ module _ (v : Survey) (q : Queue) (m : MadeCall) (s : Serving) where
   by-line [] is = stays
   by-line (e ∷ es) is = by-ending e es is (frontTurn v s e .answer .ending) refl
 
-  serve-moves : (o : Option ℕ)
-      → Moves q (afterService q (servedAs v held s o) (servedAs v held s o .answer .turned .ending))
-      (tookTurn (servedAs v held s o) (servedAs v held s o .answer .turned .ending))
+  serve-moves : (o : Option ℕ) → let y = resultByNumber (serveSchema v held) s o in
+      Moves q (afterService q y (y .answer .turned .ending)) (tookTurn y (y .answer .turned .ending))
   serve-moves (some x) = stays
   serve-moves none = by-line (lineOf held) refl
 
 -- what one call does
 pub call-moves : (v : Survey) (q : Queue) (m : MadeCall) (c : QueueCall) → Moves q (afterCall v q (lentTo q m) c) (deedOf v (lentTo q m) c)
-unfolding joinQueueOf topUpOf serveOf
-call-moves v q m (join j) = join-moves v q m j (firstFailing (joinTests v (lentTo q m) j)) refl
+unfolding resultOfCall
+call-moves v q m (join j) =
+    subst (λ (x : Queue). Moves q x (deedOf v (lentTo q m) (join j))) (sym (join-leaves v q m j))
+    (join-moves v q m j (firstFailing (joinTests v (lentTo q m) j)))
 call-moves v q m (serve s) = serve-moves v q m s (firstFailing (serveTests v (lentTo q m) s))
-call-moves v q m (topUp owner n) = top-up-moves q m owner n (firstFailing (topUpTests (lentTo q m) owner n)) refl
+call-moves v q m (topUp owner n) =
+    subst (λ (x : Queue). Moves q x (deedOf v (lentTo q m) (topUp owner n))) (sym (top-up-leaves q m v owner n))
+    (top-up-moves q m owner n (firstFailing (topUpTests (lentTo q m) owner n)) refl)

@@ -1,21 +1,19 @@
--- Demand 1 of joining, topping up and serving, for every input: refused with a number exactly where that test is the first to fail, and
--- then no entry and no word is written; served exactly where every test passes.
+-- Joining, topping up and serving are right calls: so demand 1 holds of each, for every input.
 use Prim.Native.Nat.{ℕ, _-_, _≤_, min}
 use native.Mathlib.Nat.{le-trans, le-min, min-le-left}
 use native.Mathlib.Omega.{arith}
-use mathlib.Core.Path.{_≡_, refl, sym, _∙_, ap}
-use mathlib.Core.Logic.{_↔_}
+use mathlib.Core.Path.{_≡_, refl, sym, _∙_}
 use mathlib.Core.Bool.{Bool, true, false, cond, _&&_}
-use mathlib.Core.Option.{Option, none, some}
 use mathlib.Core.List.{List, [], _∷_, _++_, map}
 use lib.Dec.{leb, eqb}
 use borrow.Author.Tests.{le-leb, leb-true}
 use Rattle.sequences.specs.Sequences.{all, distinct}
-use Rattle.words.specs.Tests.{Test, firstFailing, numberOf, AllPass, FirstFails}
+use Rattle.words.specs.Tests.{Test, AllPass}
 use Rattle.sequences.proofs.Booleans.{absurd-true, and-left, and-right, and-both}
 use Rattle.sequences.proofs.Elements.{all-head}
-use Rattle.words.proofs.Testing.{passes-all, all-passes, first-fails, fails-first, front-passes, rest-passes, test-passed}
-use Rattle.words.proofs.Refusing.{refused-by, served-when}
+use Rattle.words.proofs.Testing.{front-passes, rest-passes, test-passed}
+use Rattle.calls.specs.Calls.{RightCall, CallRefusals}
+use Rattle.calls.proofs.Refusals.{call-refusals}
 use Rattle.turns.specs.Surveys.{Survey}
 use Rattle.turns.specs.declared.TurnEnding.{TurnEnding}
 use Rattle.turns.specs.declared.TurnEnding.the-variants as ending
@@ -23,64 +21,44 @@ use Rattle.turns.specs.Turns.{mostSteps, refusalOf, turnTests}
 use Rattle.turns.specs.Refusals.{Served}
 use Rattle.turns.proofs.Refusals.{turn-refusals}
 use Rattle.queues.specs.declared.Entry.{Entry}
-use Rattle.queues.specs.declared.Queued.{Queued}
-use Rattle.queues.specs.declared.Queued.the-variants.{Lists, Refused}
-use Rattle.queues.specs.Lists.{LentLists, lineOf, asideOf, hasSteps, hasNone, owners}
-use Rattle.queues.specs.Joining.{Joining, QueuedResult, joinTests, joinedAs, joinQueueOf, newEntry, listsAsWere, listsWith}
-use Rattle.queues.specs.ToppingUp.{topUpTests, toppedAs, topUpOf}
+use Rattle.queues.specs.declared.Queued.the-variants.{Refused}
+use Rattle.queues.specs.Lists.{LentLists, lineOf, asideOf, Queue, hasSteps, hasNone, owners}
+use Rattle.queues.specs.Changing.{changesLists}
+use Rattle.queues.specs.Joining.{Joining, newEntry, admitted, joinTests, joinSchema, joinQueueOf}
+use Rattle.queues.specs.ToppingUp.{topUpTests, toppedUp, topUpSchema, topUpOf}
 use Rattle.queues.specs.Serving.{Serving, ServeResult, entryTurn, frontTests, queueTests, serveTests, turnedTo, entryAfter, frontTurn, frontServed}
-use Rattle.queues.specs.Serving.{servedAs, serveOf, refusedService, serviceWith, requeued}
-use Rattle.queues.specs.Refusals.{refusalBy, lineBy, asideBy, QueuedRefusals, JoinRefusals, TopUpRefusals, serveNumbers, Serves}
-use Rattle.queues.specs.Refusals.{ServeRefusals}
+use Rattle.queues.specs.Serving.{serveNumbers, serveSchema, serveOf, serviceWith, requeued}
 
--- ---- joining and topping up: one argument for both
-module _ (l : LentLists) (tests : List Test) (leaves : Option ℕ → QueuedResult) (refuses : (x : ℕ) → leaves (some x) ≡ listsAsWere l x)
-    (never : (x : ℕ) → ¬ (leaves none .answer ≡ Refused x)) where
-  not-queued : (x : ℕ) → FirstFails x tests → leaves (firstFailing tests) ≡ listsAsWere l x
-  not-queued x h = ap leaves (fails-first x tests h) ∙ refuses x
+-- ---- joining and topping up
+changing-right : {I : Type 0} (l : LentLists) (tests : I → List Test) (numbers : List ℕ) (after : I → Queue)
+    → ((i : I) → map (λ (x : Test). x .0) (tests i) ≡ numbers) → RightCall (changesLists l tests numbers after)
+changing-right l tests numbers after order =
+    record {
+      order = order;
+      refused = λ x. refl;
+      told = λ x. refl;
+      empty = λ x. refl;
+      serving = λ i h x e. let z : _≡_ {A = ℕ} 0 1 = cc in omega arith;
+      zero = λ i h. refl;
+      counting = λ i h. refl;
+    }
 
-  refused-so : (x : ℕ) → (leaves (firstFailing tests) .answer ≡ Refused x) ↔ FirstFails x tests
-  refused-so x =
-      refused-by Refused (λ o. leaves o .answer) (λ x y e. cc) (λ x. ap (λ (r : QueuedResult). r .answer) (refuses x)) never tests x
+module _ (v : Survey) (l : LentLists) (j : Joining) where
+  pub join-refusals : CallRefusals (joinSchema v l) j
+  join-refusals = call-refusals (joinSchema v l) (changing-right l (joinTests v l) _ (λ i. admitted l (newEntry i)) (λ i. refl)) j
 
-  numbered : (o : Option ℕ) → refusalBy (leaves o .answer) ≡ numberOf o
-  numbered (some x) = ap (λ (r : QueuedResult). refusalBy (r .answer)) (refuses x)
-  numbered none = served-none (leaves none .answer) never
-    where
-      served-none : (a : Queued) → ((x : ℕ) → ¬ (a ≡ Refused x)) → refusalBy a ≡ 0
-      served-none (Lists n m) h = refl
-      served-none (Refused x) h = absurd (h x refl)
+  -- a refusal leaves both lists that were lent
+  pub join-unchanged : (x : ℕ) → joinQueueOf v l j .answer ≡ Refused x → joinQueueOf v l j .buffers ≡ record { line = l .line; aside = l .aside }
+  join-unchanged x e = join-refusals .unchanged x e .buffers
 
-  queued-refusals : (numbers : List ℕ) → map (λ (x : Test). x .0) tests ≡ numbers → QueuedRefusals l numbers tests (leaves (firstFailing tests))
-  queued-refusals numbers order =
-      record {
-        order = order;
-        number = numbered (firstFailing tests);
-        refused = refused-so;
-        unchanged = λ x e. let r = not-queued x (refused-so x .0 e) in
-            record {
-              line = ap (λ (o : QueuedResult). o .line) r;
-              aside = ap (λ (o : QueuedResult). o .aside) r;
-              waiting = ap (λ (o : QueuedResult). lineBy (o .answer)) r;
-              resting = ap (λ (o : QueuedResult). asideBy (o .answer)) r;
-            };
-        serves = served-when Refused (λ o. leaves o .answer) (λ x y e. cc) (λ x. ap (λ (r : QueuedResult). r .answer) (refuses x)) never tests;
-      }
+module _ (l : LentLists) (owner amount : ℕ) where
+  pub top-up-refusals : CallRefusals (topUpSchema l) (owner, amount)
+  top-up-refusals =
+      call-refusals (topUpSchema l) (changing-right l (λ i. topUpTests l (i .0) (i .1)) _ (λ i. toppedUp l (i .0) (i .1)) (λ i. refl)) (owner, amount)
 
-pub join-refusals : (v : Survey) (l : LentLists) (j : Joining) → JoinRefusals v l j
-unfolding joinQueueOf
-join-refusals v l j = queued-refusals l (joinTests v l j) (joinedAs l j) (λ x. refl) (λ x. admits (eqb (j .allowance) 0) x) _ refl
-  where
-    admits : (b : Bool) (x : ℕ)
-        → ¬ (cond b (listsWith l (lineOf l) (asideOf l ++ (newEntry j ∷ [])))
-        (listsWith l (lineOf l ++ (newEntry j ∷ [])) (asideOf l)) .answer ≡ Refused x)
-    admits true x e = let z : _≡_ {A = ℕ} 0 1 = cc in omega arith
-    admits false x e = let z : _≡_ {A = ℕ} 0 1 = cc in omega arith
-
-pub top-up-refusals : (l : LentLists) (owner amount : ℕ) → TopUpRefusals l owner amount
-unfolding topUpOf
-top-up-refusals l owner amount =
-    queued-refusals l (topUpTests l owner amount) (toppedAs l owner amount) (λ x. refl) (λ x e. let z : _≡_ {A = ℕ} 0 1 = cc in omega arith) _ refl
+  pub top-up-unchanged : (x : ℕ) → topUpOf l owner amount .answer ≡ Refused x
+      → topUpOf l owner amount .buffers ≡ record { line = l .line; aside = l .aside }
+  top-up-unchanged x e = top-up-refusals .unchanged x e .buffers
 
 -- ---- serving
 module _ (v : Survey) (l : LentLists) (s : Serving) where
@@ -126,7 +104,7 @@ module _ (v : Survey) (l : LentLists) (s : Serving) where
       by-ending (ending.Refused z) is f = h z is
 
   -- where every test passes there is a front entry, and its turn is served
-  served-so : AllPass (serveTests v l s) → (x : ℕ) → ¬ (servedAs v l s none .answer .turned .ending ≡ ending.Refused x)
+  served-so : AllPass (serveTests v l s) → (x : ℕ) → ¬ (frontServed v l s (lineOf l) .answer .turned .ending ≡ ending.Refused x)
   served-so passed = by-line (lineOf l) refl passed
     where
       by-line : (es : List Entry) → lineOf l ≡ es → AllPass (frontTests v s es ++ queueTests l)
@@ -139,71 +117,34 @@ module _ (v : Survey) (l : LentLists) (s : Serving) where
           let steps = and-left (all hasSteps (lineOf l)) (all hasNone (asideOf l)) right in
           ends-so e es (front-serves e (leb-true 1 (e .allowance) (all-head hasSteps e es (rw is at steps))) own)
 
-  serve-refused : (x : ℕ) → (serveOf v l s .answer .turned .ending ≡ ending.Refused x) ↔ FirstFails x (serveTests v l s)
-  unfolding serveOf
-  serve-refused
-      x = (by-tests (firstFailing (serveTests v l s)) refl, λ h. ap (λ o. servedAs v l s o .answer .turned .ending) (fails-first x (serveTests v l s) h))
-    where
-      by-tests : (o : Option ℕ) → firstFailing (serveTests v l s) ≡ o → servedAs v l s o .answer .turned .ending ≡ ending.Refused x
-          → FirstFails x (serveTests v l s)
-      by-tests (some y) is e = first-fails x (serveTests v l s) (is ∙ ap (λ (n : ℕ). some n) (let z : y ≡ x = cc in z))
-      by-tests none is e = absurd (served-so (passes-all (serveTests v l s) is) x e)
-
-  serve-serves : Serves v l s ↔ AllPass (serveTests v l s)
-  unfolding serveOf
-  serve-serves = (
-    λ h. by-tests (firstFailing (serveTests v l s)) refl h,
-    λ p x e. served-so p x
-        (ap (λ o. servedAs v l s o .answer .turned .ending) (sym (all-passes (serveTests v l s) p)) ∙ e),
-  )
-    where
-      by-tests : (o : Option ℕ) → firstFailing (serveTests v l s) ≡ o
-          → ((x : ℕ) → ¬ (servedAs v l s o .answer .turned .ending ≡ ending.Refused x))
-          → AllPass (serveTests v l s)
-      by-tests (some y) is h = absurd (h y refl)
-      by-tests none is h = passes-all (serveTests v l s) is
-
-  serve-numbered : refusalOf (serveOf v l s .answer .turned .ending) ≡ numberOf (firstFailing (serveTests v l s))
-  unfolding serveOf
-  serve-numbered = by-tests (firstFailing (serveTests v l s)) refl
-    where
-      no-number : (y : TurnEnding) → ((x : ℕ) → ¬ (y ≡ ending.Refused x)) → refusalOf y ≡ 0
-      no-number ending.Done h = refl
-      no-number ending.Spent h = refl
-      no-number ending.Full h = refl
-      no-number (ending.Refused x) h = absurd (h x refl)
-
-      by-tests : (o : Option ℕ) → firstFailing (serveTests v l s) ≡ o → refusalOf (servedAs v l s o .answer .turned .ending) ≡ numberOf o
-      by-tests (some y) is = refl
-      by-tests none is = no-number _ (served-so (passes-all (serveTests v l s) is))
-
-  not-served : (x : ℕ) → FirstFails x (serveTests v l s) → serveOf v l s ≡ refusedService l s x
-  unfolding serveOf
-  not-served x h = ap (servedAs v l s) (fails-first x (serveTests v l s) h)
-
   -- the tests of a front entry, or of an empty line
   numbers-by : (es : List Entry) → map (λ (x : Test). x .0) (frontTests v s es ++ queueTests l) ≡ serveNumbers es
   numbers-by [] = refl
   numbers-by (e ∷ es) = refl
 
-  pub serve-refusals : ServeRefusals v l s
-  serve-refusals =
-      record {
-        order = numbers-by (lineOf l);
-        number = serve-numbered;
-        refused = serve-refused;
-        unchanged = λ x e. let r = not-served x (serve-refused x .0 e) in
-            record {
-              line = ap (λ (o : ServeResult). o .line) r;
-              aside = ap (λ (o : ServeResult). o .aside) r;
-              output = ap (λ (o : ServeResult). o .output) r;
-              steps = ap (λ (o : ServeResult). o .answer .turned .steps) r;
-              saved = ap (λ (o : ServeResult). o .answer .turned .saved) r;
-              listed = ap (λ (o : ServeResult). o .answer .turned .listed) r;
-              owner = ap (λ (o : ServeResult). o .answer .owner) r;
-              left = ap (λ (o : ServeResult). o .answer .left) r;
-              waiting = ap (λ (o : ServeResult). o .answer .waiting) r;
-              resting = ap (λ (o : ServeResult). o .answer .resting) r;
-            };
-        serves = serve-serves;
-      }
+  no-number : (y : TurnEnding) → ((x : ℕ) → ¬ (y ≡ ending.Refused x)) → refusalOf y ≡ 0
+  no-number ending.Done h = refl
+  no-number ending.Spent h = refl
+  no-number ending.Full h = refl
+  no-number (ending.Refused x) h = absurd (h x refl)
+
+serving-right : (v : Survey) (l : LentLists) → RightCall (serveSchema v l)
+serving-right v l =
+    record {
+      order = λ s. numbers-by v l s (lineOf l);
+      refused = λ x. refl;
+      told = λ x. refl;
+      empty = λ x. refl;
+      serving = served-so v l;
+      zero = λ s h. no-number v l s _ (served-so v l s h);
+      counting = λ s h. refl;
+    }
+
+module _ (v : Survey) (l : LentLists) (s : Serving) where
+  pub serve-refusals : CallRefusals (serveSchema v l) s
+  serve-refusals = call-refusals (serveSchema v l) (serving-right v l) s
+
+  -- a refusal leaves both lists and the output that were lent
+  pub serve-unchanged : (x : ℕ) → serveOf v l s .answer .turned .ending ≡ ending.Refused x
+      → serveOf v l s .buffers ≡ record { line = l .line; aside = l .aside; output = s .output }
+  serve-unchanged x e = serve-refusals .unchanged x e .buffers

@@ -13,15 +13,11 @@ use Rattle.turns.specs.declared.TurnEnding.the-variants as ending
 use Rattle.queues.specs.declared.Entry.{Entry}
 use Rattle.queues.specs.declared.Queued.{Queued}
 use Rattle.queues.specs.declared.Queued.the-variants.{Lists, Refused}
-use Rattle.queues.specs.Lists.{LentLists}
-use Rattle.queues.specs.Joining.{Joining, QueuedResult, joinQueueOf}
+use Rattle.queues.specs.Lists.{LentLists, Queue}
+use Rattle.queues.specs.Changing.{QueuedResult}
+use Rattle.queues.specs.Joining.{Joining, joinQueueOf}
 use Rattle.queues.specs.ToppingUp.{topUpOf}
 use Rattle.queues.specs.Serving.{Serving, ServeResult, serveOf}
-
--- both lists between two calls
-pub record Queue : Type 0 where
-  pub line : List Entry
-  pub aside : List Entry
 
 pub data QueueCall : Type 0 where
   join : Joining → QueueCall
@@ -51,13 +47,13 @@ pub data Deed : Type 0 where
 
 -- ---- one call
 abbrev pub afterQueued : Queue → QueuedResult → Queued → Queue
-afterQueued q r (Lists n m) = record { line = take n (r .line); aside = take m (r .aside) }
+afterQueued q r (Lists n m) = record { line = take n (r .buffers .line); aside = take m (r .buffers .aside) }
 afterQueued q r (Refused x) = q
 
 abbrev pub afterService : Queue → ServeResult → TurnEnding → Queue
-afterService q r ending.Done = record { line = take (r .answer .waiting) (r .line); aside = take (r .answer .resting) (r .aside) }
-afterService q r ending.Spent = record { line = take (r .answer .waiting) (r .line); aside = take (r .answer .resting) (r .aside) }
-afterService q r ending.Full = record { line = take (r .answer .waiting) (r .line); aside = take (r .answer .resting) (r .aside) }
+afterService q r ending.Done = record { line = take (r .answer .waiting) (r .buffers .line); aside = take (r .answer .resting) (r .buffers .aside) }
+afterService q r ending.Spent = record { line = take (r .answer .waiting) (r .buffers .line); aside = take (r .answer .resting) (r .buffers .aside) }
+afterService q r ending.Full = record { line = take (r .answer .waiting) (r .buffers .line); aside = take (r .answer .resting) (r .buffers .aside) }
 afterService q r (ending.Refused x) = q
 
 abbrev pub afterCall : Survey → Queue → LentLists → QueueCall → Queue

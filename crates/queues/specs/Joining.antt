@@ -1,20 +1,20 @@
 -- Joining: its tests in order, its answer, and both lists at exit. Assumes nothing: these are definitions.
 use Prim.Native.Nat.{ℕ}
 use mathlib.Core.Bool.{Bool, cond, _&&_, not}
-use mathlib.Core.Option.{Option, none, some}
 use mathlib.Core.List.{List, [], _∷_, _++_}
 use lib.ListN.{length}
 use lib.Dec.{eqb}
 use Rattle.sequences.specs.Sequences.{member}
-use Rattle.words.specs.Tests.{Test, firstFailing}
+use Rattle.words.specs.Tests.{Test}
+use Rattle.calls.specs.Calls.{CallSchema, resultOfCall}
 use Rattle.tables.specs.Tables.{tableTests}
 use Rattle.plans.specs.Plans.{planOf, planTests}
 use Rattle.steps.specs.Saved.{shapeRight, surveyRight, placesRight}
 use Rattle.turns.specs.Surveys.{Survey}
 use Rattle.queues.specs.declared.Entry.{Entry}
 use Rattle.queues.specs.declared.Queued.{Queued}
-use Rattle.queues.specs.declared.Queued.the-variants.{Lists, Refused}
-use Rattle.queues.specs.Lists.{LentLists, lineOf, asideOf, entryPlanRoom, entryStateRoom, filled, entriesOver, owners, entriesRight, spaceRight}
+use Rattle.queues.specs.Lists.{LentLists, lineOf, asideOf, Queue, entryPlanRoom, entryStateRoom, filled, owners, entriesRight, spaceRight}
+use Rattle.queues.specs.Changing.{QueueBuffers, QueuedResult, EntryCounts, changesLists}
 
 -- who joins, with how many steps, which plan and which state
 pub record Joining : Type 0 where
@@ -49,28 +49,17 @@ newEntry j =
       state = filled entryStateRoom (j .state);
     }
 
--- what joining and topping up leave
-pub record QueuedResult : Type 0 where
-  pub answer : Queued
-  pub line : List Entry
-  pub aside : List Entry
-
-abbrev pub listsWith : LentLists → List Entry → List Entry → QueuedResult
-listsWith l line aside =
-    record { answer = Lists (length line) (length aside); line = entriesOver line (l .line); aside = entriesOver aside (l .aside) }
-
--- a refusal changes no entry
-abbrev pub listsAsWere : LentLists → ℕ → QueuedResult
-listsAsWere l x = record { answer = Refused x; line = l .line; aside = l .aside }
-
 -- `e` goes to the end of the line, or to the end of the list set aside if it has no steps
-abbrev pub admitted : LentLists → Entry → QueuedResult
+abbrev pub admitted : LentLists → Entry → Queue
 admitted l e =
-    cond (eqb (e .allowance) 0) (listsWith l (lineOf l) (asideOf l ++ (e ∷ []))) (listsWith l (lineOf l ++ (e ∷ [])) (asideOf l))
+    cond (eqb (e .allowance) 0)
+    (record { line = lineOf l; aside = asideOf l ++ (e ∷ []) })
+    (record { line = lineOf l ++ (e ∷ []); aside = asideOf l })
 
-abbrev pub joinedAs : LentLists → Joining → Option ℕ → QueuedResult
-joinedAs l j (some x) = listsAsWere l x
-joinedAs l j none = admitted l (newEntry j)
+-- ---- the call
+abbrev pub joinSchema : Survey → LentLists → CallSchema Joining Queued Queued QueueBuffers EntryCounts
+joinSchema v l =
+    changesLists l (joinTests v l) (1 ∷ 2 ∷ 23 ∷ 3 ∷ 4 ∷ 5 ∷ 6 ∷ 23 ∷ 9 ∷ 22 ∷ 10 ∷ 17 ∷ 18 ∷ []) (λ j. admitted l (newEntry j))
 
-unfoldable pub joinQueueOf : Survey → LentLists → Joining → QueuedResult
-joinQueueOf v l j = joinedAs l j (firstFailing (joinTests v l j))
+abbrev pub joinQueueOf : Survey → LentLists → Joining → QueuedResult
+joinQueueOf v l = resultOfCall (joinSchema v l)

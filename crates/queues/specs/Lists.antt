@@ -35,6 +35,11 @@ lineOf l = take (l .waiting) (l .line)
 abbrev pub asideOf : LentLists → List Entry
 asideOf l = take (l .resting) (l .aside)
 
+-- both lists by themselves
+pub record Queue : Type 0 where
+  pub line : List Entry
+  pub aside : List Entry
+
 -- the words of an entry's plan; a count past the array's end stands for no plan, which test 5 refuses
 abbrev pub entryPlan : Entry → List ℕ
 entryPlan e = cond (leb (e .planned) (length (e .plan))) (take (e .planned) (e .plan)) []

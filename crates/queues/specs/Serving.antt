@@ -1,17 +1,17 @@
 -- Serving the front entry: its tests in order, its answer, and both lists and the output at exit. Assumes nothing: these are definitions.
 use Prim.Native.Nat.{ℕ, _-_, min}
 use mathlib.Core.Bool.{Bool, true, false, cond, _&&_, not}
-use mathlib.Core.Option.{Option, none, some}
 use mathlib.Core.List.{List, [], _∷_, _++_}
 use lib.ListN.{length}
 use lib.Dec.{leb, eqb}
-use Rattle.words.specs.Tests.{Test, firstFailing}
+use Rattle.words.specs.Tests.{Test}
+use Rattle.calls.specs.Calls.{CallSchema, CallResult, resultOfCall}
 use Rattle.tables.specs.Tables.{tableTests}
 use Rattle.steps.specs.Saved.{numberRight}
 use Rattle.turns.specs.Surveys.{Survey}
 use Rattle.turns.specs.declared.TurnEnding.{TurnEnding}
 use Rattle.turns.specs.declared.TurnEnding.the-variants as ending
-use Rattle.turns.specs.Turns.{TurnInput, TurnResult, turnTests, turnOf, mostSteps}
+use Rattle.turns.specs.Turns.{TurnInput, TurnResult, turnTests, turnOf, mostSteps, refusalOf}
 use Rattle.queues.specs.declared.Entry.{Entry}
 use Rattle.queues.specs.declared.Service.{Service}
 use Rattle.queues.specs.Lists.{LentLists, lineOf, asideOf, entryPlan, entriesOver, entriesRight, spaceRight}
@@ -60,12 +60,20 @@ queueTests l = queueTestsBy (entriesRight l) (spaceRight 0 l) (not (isEmpty (lin
 abbrev pub serveTests : Survey → LentLists → Serving → List Test
 serveTests v l s = frontTests v s (lineOf l) ++ queueTests l
 
+-- the tests of a front entry, and those of an empty line
+abbrev pub serveNumbers : List Entry → List ℕ
+serveNumbers [] = 1 ∷ 2 ∷ 23 ∷ 3 ∷ 4 ∷ 8 ∷ 22 ∷ 17 ∷ 18 ∷ 19 ∷ []
+serveNumbers (e ∷ es) = 1 ∷ 2 ∷ 23 ∷ 3 ∷ 4 ∷ 5 ∷ 6 ∷ 23 ∷ 7 ∷ 8 ∷ 9 ∷ 22 ∷ 10 ∷ 11 ∷ 17 ∷ 18 ∷ 19 ∷ []
+
 -- ---- what serving leaves
-pub record ServeResult : Type 0 where
-  pub answer : Service
+-- the buffers of both lists, and the output
+pub record ServeBuffers : Type 0 where
   pub line : List Entry
   pub aside : List Entry
   pub output : List ℕ
+
+abbrev pub ServeResult : Type 0
+ServeResult = CallResult Service ServeBuffers
 
 -- the entry after a turn: what is past its new state in its array stays
 abbrev pub entryAfter : Entry → TurnResult → Entry
@@ -90,9 +98,11 @@ serviceWith l e r line aside =
         waiting = length line;
         resting = length aside;
       };
-      line = entriesOver line (l .line);
-      aside = entriesOver aside (l .aside);
-      output = r .buffers .output;
+      buffers = record {
+        line = entriesOver line (l .line);
+        aside = entriesOver aside (l .aside);
+        output = r .buffers .output;
+      };
     }
 
 -- unfinished, it goes to the back with steps left, and to the end of the list set aside with none
@@ -103,20 +113,21 @@ requeued l e es r =
     (serviceWith l e r (es ++ (entryAfter e r ∷ [])) (asideOf l))
 
 -- a refusal answers its number alone, and changes no entry and no word
-abbrev pub refusedService : LentLists → Serving → ℕ → ServeResult
-refusedService l s x =
+abbrev pub refusedAnswer : ℕ → Service
+refusedAnswer x =
     record {
-      answer = record {
-        turned = record { steps = 0; ending = ending.Refused x; saved = 0; listed = 0 };
-        owner = 0;
-        left = 0;
-        waiting = 0;
-        resting = 0;
-      };
-      line = l .line;
-      aside = l .aside;
-      output = s .output;
+      turned = record { steps = 0; ending = ending.Refused x; saved = 0; listed = 0 };
+      owner = 0;
+      left = 0;
+      waiting = 0;
+      resting = 0;
     }
+
+abbrev pub servingLent : LentLists → Serving → ServeBuffers
+servingLent l s = record { line = l .line; aside = l .aside; output = s .output }
+
+abbrev pub refusedService : LentLists → Serving → ℕ → ServeResult
+refusedService l s x = record { answer = refusedAnswer x; buffers = servingLent l s }
 
 -- done, it leaves
 abbrev pub turnedTo : LentLists → Serving → Entry → List Entry → TurnResult → TurnEnding → ServeResult
@@ -133,9 +144,45 @@ abbrev pub frontServed : Survey → LentLists → Serving → List Entry → Ser
 frontServed v l s [] = refusedService l s 19
 frontServed v l s (e ∷ es) = turnedTo l s e es (frontTurn v s e) (frontTurn v s e .answer .ending)
 
-abbrev pub servedAs : Survey → LentLists → Serving → Option ℕ → ServeResult
-servedAs v l s (some x) = refusedService l s x
-servedAs v l s none = frontServed v l s (lineOf l)
+-- ---- the call
+-- the values of an answer beside its ending
+pub record ServiceValues : Type 0 where
+  pub steps : ℕ
+  pub saved : ℕ
+  pub listed : ℕ
+  pub owner : ℕ
+  pub left : ℕ
+  pub waiting : ℕ
+  pub resting : ℕ
 
-unfoldable pub serveOf : Survey → LentLists → Serving → ServeResult
-serveOf v l s = servedAs v l s (firstFailing (serveTests v l s))
+abbrev pub serviceValues : Service → ServiceValues
+serviceValues a =
+    record {
+      steps = a .turned .steps;
+      saved = a .turned .saved;
+      listed = a .turned .listed;
+      owner = a .owner;
+      left = a .left;
+      waiting = a .waiting;
+      resting = a .resting;
+    }
+
+abbrev pub serveSchema : Survey → LentLists → CallSchema Serving Service TurnEnding ServeBuffers ServiceValues
+serveSchema v l =
+    record {
+      tests = serveTests v l;
+      numbers = λ s. serveNumbers (lineOf l);
+      lent = servingLent l;
+      refuses = refusedAnswer;
+      serves = λ s. frontServed v l s (lineOf l) .answer;
+      leaves = λ s. frontServed v l s (lineOf l) .buffers;
+      counts = λ s. serviceValues (frontServed v l s (lineOf l) .answer);
+      says = λ a. a .turned .ending;
+      refusal = ending.Refused;
+      tells = refusalOf;
+      counted = serviceValues;
+      nothing = record { steps = 0; saved = 0; listed = 0; owner = 0; left = 0; waiting = 0; resting = 0 };
+    }
+
+abbrev pub serveOf : Survey → LentLists → Serving → ServeResult
+serveOf v l = resultOfCall (serveSchema v l)

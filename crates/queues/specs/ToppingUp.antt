@@ -1,14 +1,15 @@
 -- Topping up: its tests in order, its answer, and both lists at exit. Assumes nothing: these are definitions.
 use Prim.Native.Nat.{ℕ}
 use mathlib.Core.Bool.{Bool, _&&_, not}
-use mathlib.Core.Option.{Option, none, some}
 use mathlib.Core.List.{List, [], _∷_, _++_, map}
 use lib.Dec.{leb}
 use Rattle.sequences.specs.Sequences.{keep, member}
-use Rattle.words.specs.Tests.{Test, firstFailing}
+use Rattle.words.specs.Tests.{Test}
+use Rattle.calls.specs.Calls.{CallSchema, resultOfCall}
 use Rattle.queues.specs.declared.Entry.{Entry}
-use Rattle.queues.specs.Lists.{LentLists, lineOf, asideOf, ownersIn, hasOwner, entriesRight, spaceRight}
-use Rattle.queues.specs.Joining.{QueuedResult, listsWith, listsAsWere}
+use Rattle.queues.specs.declared.Queued.{Queued}
+use Rattle.queues.specs.Lists.{LentLists, lineOf, asideOf, Queue, ownersIn, hasOwner, entriesRight, spaceRight}
+use Rattle.queues.specs.Changing.{QueueBuffers, QueuedResult, EntryCounts, changesLists}
 
 -- 17 also refuses an amount of 0, and an owner who is not set aside
 abbrev pub topUpTestsBy : Bool → Bool → List Test
@@ -27,12 +28,16 @@ abbrev pub notOwner : ℕ → Entry → Bool
 notOwner owner e = not (hasOwner owner e)
 
 -- the owner's entry goes from the list set aside to the end of the line
-abbrev pub toppedAs : LentLists → ℕ → ℕ → Option ℕ → QueuedResult
-toppedAs l owner amount (some x) = listsAsWere l x
-toppedAs l owner amount none =
-    listsWith l
-    (lineOf l ++ map (withAllowance amount) (keep (hasOwner owner) (asideOf l)))
-    (keep (notOwner owner) (asideOf l))
+abbrev pub toppedUp : LentLists → ℕ → ℕ → Queue
+toppedUp l owner amount =
+    record {
+      line = lineOf l ++ map (withAllowance amount) (keep (hasOwner owner) (asideOf l));
+      aside = keep (notOwner owner) (asideOf l);
+    }
 
-unfoldable pub topUpOf : LentLists → ℕ → ℕ → QueuedResult
-topUpOf l owner amount = toppedAs l owner amount (firstFailing (topUpTests l owner amount))
+-- ---- the call, of an owner and an amount
+abbrev pub topUpSchema : LentLists → CallSchema (ℕ × ℕ) Queued Queued QueueBuffers EntryCounts
+topUpSchema l = changesLists l (λ i. topUpTests l (i .0) (i .1)) (17 ∷ 18 ∷ []) (λ i. toppedUp l (i .0) (i .1))
+
+abbrev pub topUpOf : LentLists → ℕ → ℕ → QueuedResult
+topUpOf l owner amount = resultOfCall (topUpSchema l) (owner, amount)

@@ -163,10 +163,10 @@ pub extern "C" fn sotjarn_join(
         (record { owner = owner; allowance = allowance; plan = now (plan .entry); state = now (state .entry) }) .answer))
         × ((now (line .exit) ≡ joinQueueOf (surveyOf (now (rows .entry)) (now (pos .entry)) (now (osp .entry)) survey)
         (lentAs (now (line .entry)) given (now (aside .entry)) kept)
-        (record { owner = owner; allowance = allowance; plan = now (plan .entry); state = now (state .entry) }) .line)
+        (record { owner = owner; allowance = allowance; plan = now (plan .entry); state = now (state .entry) }) .buffers .line)
         × (now (aside .exit) ≡ joinQueueOf (surveyOf (now (rows .entry)) (now (pos .entry)) (now (osp .entry)) survey)
         (lentAs (now (line .entry)) given (now (aside .entry)) kept)
-        (record { owner = owner; allowance = allowance; plan = now (plan .entry); state = now (state .entry) }) .aside)) ⌝ }
+        (record { owner = owner; allowance = allowance; plan = now (plan .entry); state = now (state .entry) }) .buffers .aside)) ⌝ }
 {
     queued_numbers(queue_joins::join(
         rows,
@@ -204,13 +204,13 @@ pub extern "C" fn sotjarn_serve(
         (record { quantum = quantum; threshold = now (threshold .entry); output = now (output .entry) }) .answer))
         × ((now (line .exit) ≡ serveOf (surveyOf (now (rows .entry)) (now (pos .entry)) (now (osp .entry)) survey)
         (lentAs (now (line .entry)) given (now (aside .entry)) kept)
-        (record { quantum = quantum; threshold = now (threshold .entry); output = now (output .entry) }) .line)
+        (record { quantum = quantum; threshold = now (threshold .entry); output = now (output .entry) }) .buffers .line)
         × ((now (aside .exit) ≡ serveOf (surveyOf (now (rows .entry)) (now (pos .entry)) (now (osp .entry)) survey)
         (lentAs (now (line .entry)) given (now (aside .entry)) kept)
-        (record { quantum = quantum; threshold = now (threshold .entry); output = now (output .entry) }) .aside)
+        (record { quantum = quantum; threshold = now (threshold .entry); output = now (output .entry) }) .buffers .aside)
         × (now (output .exit) ≡ serveOf (surveyOf (now (rows .entry)) (now (pos .entry)) (now (osp .entry)) survey)
         (lentAs (now (line .entry)) given (now (aside .entry)) kept)
-        (record { quantum = quantum; threshold = now (threshold .entry); output = now (output .entry) }) .output))) ⌝ }
+        (record { quantum = quantum; threshold = now (threshold .entry); output = now (output .entry) }) .buffers .output))) ⌝ }
 {
     service_numbers(queue_serves::serve(
         rows,
@@ -238,8 +238,8 @@ pub extern "C" fn sotjarn_top_up(
     amount: u64,
 ) -> QueuedNumbers
     ensures { λ r. ⌜ (r ≡ queuedNumbers (topUpOf (lentAs (now (line .entry)) given (now (aside .entry)) kept) owner amount .answer))
-        × ((now (line .exit) ≡ topUpOf (lentAs (now (line .entry)) given (now (aside .entry)) kept) owner amount .line)
-        × (now (aside .exit) ≡ topUpOf (lentAs (now (line .entry)) given (now (aside .entry)) kept) owner amount .aside)) ⌝ }
+        × ((now (line .exit) ≡ topUpOf (lentAs (now (line .entry)) given (now (aside .entry)) kept) owner amount .buffers .line)
+        × (now (aside .exit) ≡ topUpOf (lentAs (now (line .entry)) given (now (aside .entry)) kept) owner amount .buffers .aside)) ⌝ }
 {
     queued_numbers(queue_joins::top_up(line, given, aside, kept, owner, amount))
 }

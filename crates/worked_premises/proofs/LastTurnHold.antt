@@ -5,7 +5,8 @@ use mathlib.Core.Path.{_≡_, refl, _∙_, ap}
 use mathlib.Core.Option.{some}
 use mathlib.Core.List.{List}
 use Rattle.turns.specs.Surveys.{Survey}
-use Rattle.queues.specs.Calls.{Queue, MadeCall, afterCalls, deeds, turnsIn, placeInLine, Fair}
+use Rattle.queues.specs.Lists.{Queue}
+use Rattle.queues.specs.Calls.{MadeCall, afterCalls, deeds, turnsIn, placeInLine, Fair}
 use Rattle.queues.proofs.Fairness.{fair}
 use Rattle.worked_cases.specs.Calls.{surveyed}
 use Rattle.worked_cases.specs.Wood.{wood}

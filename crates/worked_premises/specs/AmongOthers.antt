@@ -6,7 +6,8 @@ use lib.ListN.{take, drop, replicate}
 use Rattle.turns.specs.declared.TurnEnding.the-variants.{Done, Spent}
 use Rattle.turns.specs.Opening.{openOf}
 use Rattle.cuts.specs.Histories.{Event, turns, joins, ServedTurn, Phone, fresh, history}
-use Rattle.queues.specs.Calls.{Queue, join, MadeCall, afterCalls}
+use Rattle.queues.specs.Lists.{Queue}
+use Rattle.queues.specs.Calls.{join, MadeCall, afterCalls}
 use Rattle.queue_cuts.specs.Owners.{Act, calls, joining, ownEvents}
 use Rattle.worked_cases.specs.Calls.{surveyed}
 use Rattle.worked_cases.specs.Wood.{wood, planA, stateAt, startOfA, stem}

@@ -6,7 +6,8 @@ use mathlib.Core.List.{List, [], _∷_}
 use lib.ListN.{take}
 use Rattle.turns.specs.declared.TurnEnding.{TurnEnding}
 use Rattle.turns.specs.declared.TurnEnding.the-variants.{Done, Spent}
-use Rattle.queues.specs.Calls.{Queue, join, topUp, MadeCall, lentTo, turns, afterCalls, deedOf, deeds, turnsIn, placeInLine, Fair}
+use Rattle.queues.specs.Lists.{Queue}
+use Rattle.queues.specs.Calls.{join, topUp, MadeCall, lentTo, turns, afterCalls, deedOf, deeds, turnsIn, placeInLine, Fair}
 use Rattle.worked_cases.specs.Calls.{surveyed}
 use Rattle.worked_cases.specs.Wood.{wood}
 use Rattle.worked_uploads.specs.Owners.{byOwner, withRoom, serveTen, noOne}

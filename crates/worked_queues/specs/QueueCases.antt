@@ -10,7 +10,8 @@ use Rattle.turns.specs.declared.TurnEnding.the-variants as ending
 use Rattle.queues.specs.declared.Entry.{Entry}
 use Rattle.queues.specs.declared.Queued.the-variants.{Lists, Refused}
 use Rattle.queues.specs.Lists.{LentLists}
-use Rattle.queues.specs.Joining.{Joining, QueuedResult, joinQueueOf}
+use Rattle.queues.specs.Changing.{QueuedResult}
+use Rattle.queues.specs.Joining.{Joining, joinQueueOf}
 use Rattle.queues.specs.ToppingUp.{topUpOf}
 use Rattle.queues.specs.Serving.{Serving, ServeResult, serveOf}
 use Rattle.worked_cases.specs.Literals.{ending0, allDiameters, atPlace}
@@ -94,14 +95,17 @@ arrived owner steps =
 
 -- both lists counted, in buffers of 32 that hold these entries first
 abbrev pub leavesLists : ℕ → List Entry → ℕ → List Entry → QueueOutcome
-leavesLists n line m aside = queued (record { answer = Lists n m; line = inBuffer 32 line; aside = inBuffer 32 aside })
+leavesLists n line m aside = queued (record { answer = Lists n m; buffers = record { line = inBuffer 32 line; aside = inBuffer 32 aside } })
 
 -- refused by a number, with both lists as they were
+abbrev pub asLent : LentLists → ℕ → QueuedResult
+asLent l x = record { answer = Refused x; buffers = record { line = l .line; aside = l .aside } }
+
 abbrev pub notJoined : Survey → LentLists → Joining → ℕ → QueueCase
-notJoined v l j x = (joining v l j, queued (record { answer = Refused x; line = l .line; aside = l .aside }))
+notJoined v l j x = (joining v l j, queued (asLent l x))
 
 abbrev pub notToppedUp : LentLists → ℕ → ℕ → ℕ → QueueCase
-notToppedUp l owner amount x = (topping l owner amount, queued (record { answer = Refused x; line = l .line; aside = l .aside }))
+notToppedUp l owner amount x = (topping l owner amount, queued (asLent l x))
 
 -- ---- serving with a quantum, and an output of `room` words that hold 9
 abbrev pub plainly : ℕ → ℕ → Serving
@@ -118,9 +122,7 @@ leavesServed owner e steps saved listed left n line m aside output =
         waiting = n;
         resting = m;
       };
-      line = inBuffer 32 line;
-      aside = inBuffer 32 aside;
-      output = output;
+      buffers = record { line = inBuffer 32 line; aside = inBuffer 32 aside; output = output };
     })
 
 abbrev pub notServing : Survey → LentLists → Serving → ℕ → QueueCase
@@ -134,8 +136,6 @@ notServing v l s x = (
       waiting = 0;
       resting = 0;
     };
-    line = l .line;
-    aside = l .aside;
-    output = s .output;
+    buffers = record { line = l .line; aside = l .aside; output = s .output };
   }),
 )

@@ -1,7 +1,7 @@
 -- Eleven calls of three owners on the three-stem wood, and joining with a plan that names a year, by computation.
 use mathlib.Core.Path.{_≡_, refl}
-use Rattle.queues.specs.declared.Queued.the-variants.{Lists}
-use Rattle.queues.specs.Joining.{joinQueueOf, listsAsWere}
+use Rattle.queues.specs.declared.Queued.the-variants.{Lists, Refused}
+use Rattle.queues.specs.Joining.{joinQueueOf}
 use Rattle.queues.specs.Calls.{afterCalls, deeds}
 use Rattle.worked_cases.specs.Wood.{wood}
 use Rattle.worked_cases.specs.Calls.{surveyed}
@@ -21,10 +21,12 @@ pub joins-of-year : joinQueueOf (surveyed wood) emptyLists (joinsOfYear 2026 202
 unfolding computing
 joins-of-year = refl
 
-pub other-year-refused : joinQueueOf (surveyed wood) emptyLists (joinsOfYear 2026 2025) ≡ listsAsWere emptyLists 9
+pub other-year-refused : joinQueueOf (surveyed wood) emptyLists (joinsOfYear 2026 2025)
+    ≡ record { answer = Refused 9; buffers = record { line = emptyLists .line; aside = emptyLists .aside } }
 unfolding computing
 other-year-refused = refl
 
-pub late-year-refused : joinQueueOf (surveyed wood) emptyLists (joinsOfYear 10000 2025) ≡ listsAsWere emptyLists 23
+pub late-year-refused : joinQueueOf (surveyed wood) emptyLists (joinsOfYear 10000 2025)
+    ≡ record { answer = Refused 23; buffers = record { line = emptyLists .line; aside = emptyLists .aside } }
 unfolding computing
 late-year-refused = refl

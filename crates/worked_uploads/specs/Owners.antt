@@ -6,9 +6,9 @@ use lib.ListN.{replicate}
 use Rattle.turns.specs.declared.TurnEnding.the-variants as ending
 use Rattle.words.specs.Words.{yearWord}
 use Rattle.queues.specs.declared.Entry.{Entry}
-use Rattle.queues.specs.Lists.{LentLists, lentAs}
+use Rattle.queues.specs.Lists.{LentLists, lentAs, Queue}
 use Rattle.queues.specs.Joining.{Joining, newEntry}
-use Rattle.queues.specs.Calls.{Queue, QueueCall, join, serve, topUp, MadeCall, Deed, grants, turns, nothing}
+use Rattle.queues.specs.Calls.{QueueCall, join, serve, topUp, MadeCall, Deed, grants, turns, nothing}
 use Rattle.worked_cases.specs.Wood.{planA, yearState, startOfA}
 
 -- a query of `owner`, plan A from its start, with `steps` steps

@@ -17,19 +17,18 @@ use prog.Wp.{Heap, Calls, Loops, WpFn, Tables}
 use ghost.Atoms.{Atoms, sem}
 use contract.Monad.{Fun, fact}
 use contract.Running.{givenOf, tables, tablesOf}
-use types.Kit.{Given, ‵, raw, _⊛_, ⋆, some, later, _$_, _∵_, !, qed, by, move, keep, drop, use0, use1, use2, use3, split, join, rewrite, pick, fsplit}
-use types.Kit.{fjoin, feqL, suffices, frame, await, done}
+use types.Kit.{Given, ‵, raw, _⊛_, ⋆, some, later, _$_, _∵_, !, qed, by, move, keep, drop, use0, use1, split, join, rewrite, pick, fsplit}
+use types.Kit.{fjoin, suffices, frame, await, done}
 use types.Run.{look, init, store, forget, stop, hop, fld, from, load, addr, of-opd, and-then, no-more, assigns, land, returns, enter, alloc1, alloc0}
 use types.Run.{params1, pass1, pass0, free1, free0}
 use types.Part.{agg, whole, sub, look-in}
-use types.Tokens.{lft-new, lft-end}
 use sound.WpLaws.{FmC, fmOf, WpFn-mono}
 use denote.RattleType.{owns}
 use denote.Laws.{Is, shows}
-use denote.Plain.{Nothing, uint-makes, uint-vals, uint-tells, nothing-lawful}
+use denote.Plain.{uint-makes}
 use denote.Builtin.{usize, u32, u64}
 use denote.Ref.{RefT}
-use denote.Slice.{sliceVal, MutSlice, ShrSlice, Room, finally, slice-vals, mut-slice-tells}
+use denote.Slice.{sliceVal, MutSlice, Room, finally}
 use denote.Steps.{only, owned, peeks, heard, nothing}
 use denote.Struct.Laws as LL
 use denote.Triple.Entry.{Vals, onEntry}
@@ -38,20 +37,18 @@ use denote.Triple.Statement.{Contract, Triple}
 use denote.Triple.Call.{calls-at}
 use denote.Triple.Clauses.{ensured, lasts}
 use denote.Triple.Table.{entered, cited}
-use denote.Triple.Walked.{says, Stays, stay-none, gave-slice, walkOf, goes-none, goes-gave-slice, Walks, ends-at, walked, walk-meets}
-use denote.Exit.{yes}
-use denote.Signature.{plain}
+use denote.Triple.Walked.{says, walkOf, Walks, ends-at, walked, walk-meets}
 use Rattle.queues.specs.declared.Entry.{Entry}
 use Rattle.queues.proofs.Entry as T
 use Rattle.queues.proofs.Entry.Laws as T′
 use denote.Enum.Laws as EL
 use Rattle.queues.specs.Lists.{lentAs}
-use Rattle.queues.specs.Joining.{QueuedResult}
+use Rattle.queues.specs.Changing.{QueuedResult}
 use Rattle.queues.specs.ToppingUp.{topUpOf}
 use Rattle.queues.proofs.Queued as Q
 use Rattle.queues.proofs.Queued.Laws as Q′
 use Rattle.queue_entries.specs.declared.Seen.{Seen}
-use Rattle.queue_entries.specs.Entries.{nobody, settled}
+use Rattle.queue_entries.specs.Entries.{nobody}
 use Rattle.queue_entries.specs.Seeing.{SeenOf}
 use Rattle.queue_entries.proofs.Seen as S
 use Rattle.queue_entries.proofs.Seen.Laws as S′
@@ -59,19 +56,15 @@ use Rattle.queue_changes.specs.declared.Queueing.{Queueing}
 use Rattle.queue_changes.specs.Changes.{Decides}
 use Rattle.queue_changes.proofs.Queueing as D
 use Rattle.queue_changes.proofs.Queueing.Laws as D′
-use Rattle.queue_joins.proofs.Shared.{LentShared, lends-shared, back-shared}
-use Rattle.queue_joins.proofs.Lending.{at-name, entry-vals, Look, to-look, look-of, goes-look, Read, to-read, read-of, goes-read, Append, to-append}
-use Rattle.queue_joins.proofs.Lending.{goes-append}
+use Rattle.queue_joins.proofs.Lending.{at-name, entry-vals, Look, Read, Append}
+use Rattle.queue_joins.proofs.Walking.{seen-val, calls-look, calls-read, calls-append}
 use Rattle.queue_joins.proofs.Decided.{decided-vals, answer-in, change-line, change-aside, entry-in, gap-fits, last-fits, found-fits}
-use Rattle.queue_entries.proofs.look as looks
 use Rattle.queue_entries.proofs.look.Symbol as looks-def
 use Rattle.queue_entries.proofs.look.Symbol.{name as #looks}
 use Rattle.queue_entries.proofs.look.Met as looks-thm
-use Rattle.queue_entries.proofs.entry_at as reads
 use Rattle.queue_entries.proofs.entry_at.Symbol as reads-def
 use Rattle.queue_entries.proofs.entry_at.Symbol.{name as #reads}
 use Rattle.queue_entries.proofs.entry_at.Met as reads-thm
-use Rattle.queue_entries.proofs.remove_then_append as puts
 use Rattle.queue_entries.proofs.remove_then_append.Symbol as puts-def
 use Rattle.queue_entries.proofs.remove_then_append.Symbol.{name as #puts}
 use Rattle.queue_entries.proofs.remove_then_append.Met as puts-thm
@@ -83,15 +76,7 @@ use Rattle.queue_joins.proofs.top_up.Key.{name as #queue_joins·top-up}
 use Rattle.queue_joins.proofs.top_up as f
 use Rattle.queue_joins.proofs.top_up.Statement as stated
 use Rattle.queue_joins.proofs.top_up.Code as code
-
-abbrev stayed : Stays (f.ended .signature .params) (f.ended .kept)
-stayed = (
-  gave-slice (0 ∷ []) tt (plain (λ _. T.the-row)),
-  (
-    stay-none (λ _. usize) yes,
-    (gave-slice (1 ∷ []) tt (plain (λ _. T.the-row)), (stay-none (λ _. usize) yes, (stay-none (λ _. u32) yes, (stay-none (λ _. u64) yes, tt)))),
-  ),
-)
+use Rattle.queue_joins.proofs.TopUpSlots.{stayed, spelt, told-by, all-go}
 
 -- ---- the decision's contract
 module _ {M : Type 1} (𝓤 : URA M) (H : Heap 𝓤) (A : Atoms 𝓤) (mem : Memory → SProp 𝓤) (run : Routine → Fun 𝓤) where
@@ -165,7 +150,7 @@ module _ {M : Type 1} (𝓤 : URA M) (H : Heap 𝓤) (A : Atoms 𝓤) (W : Given
   Post = walkOf 𝓤 H A f.ended stayed (f.clauses 𝓤 H A mem run) .post (((κ, (κ′, tt)), (q, (q′, tt)), tt, a, at), tt)
 
   exits : (d : Queueing) (us vs : List Entry) → Is D.the-row d (decided-vals d) → length us ≡ length ys → length vs ≡ length zs
-      → _≡_ {A = QueuedResult} (record { answer = d .answer; line = us; aside = vs }) (topUpOf (lentAs ys given zs kept) owner amount)
+      → _≡_ {A = QueuedResult} (record { answer = d .answer; buffers = record { line = us; aside = vs } }) (topUpOf (lentAs ys given zs kept) owner amount)
       → ent 𝓤 (⋆ 𝓤 H A (‵ (flft κ′ q′) ∷ ‵ (finally T.the-row γ′ vs) ∷ ‵ (flft κ q) ∷ ‵ (finally T.the-row γ us) ∷ []))
       (Post (EL.val Q.the-type Q′.the-laws (d .answer)))
   exits d us vs g lu lv is =
@@ -231,86 +216,27 @@ module _ {M : Type 1} (𝓤 : URA M) (H : Heap 𝓤) (A : Atoms 𝓤) (W : Given
         ! (and-then ! (load ! (from ! (stop !)) (look ! 20 refl))
         (and-then ! (load ! (from ! (fld ! refl (stop !))) (look-in ! 38 (sub ! 1 refl (whole !)))) (no-more !)))) (from ! (stop !))
         (init ! 18 refl (tt, (tt, (record { fits = room′ .0 }, tt)))) $
-        lft-new ! tt (λ ν. move ! (1 ∷ 2 ∷ []) $
-        use2 W (later
-        (some (λ (δ : GName). ‵ (ShrSlice (named 0) (ν ∷ []) T.the-row .own (at-name b o ys δ) (sliceVal (b, o) (length ys) ∷ [])) ⊛ ‵
-        (LentShared T.the-row κ (ν ∷ []) q γ b o ys))))
-        (lends-shared T.the-row κ (ν ∷ []) q γ b o ys 𝓤 H A W (named 0) (named 0)) $ await ! tt $ pick ! (λ δ. split ! $
-        lft-new ! tt (λ ν′. move ! (4 ∷ 5 ∷ []) $
-        use2 W (later
-        (some (λ (δ : GName). ‵
-        (ShrSlice (named 1) (ν′ ∷ []) T.the-row .own (at-name b′ o′ zs δ) (sliceVal (b′, o′) (length zs) ∷ [])) ⊛ ‵
-        (LentShared T.the-row κ′ (ν′ ∷ []) q′ γ′ b′ o′ zs))))
-        (lends-shared T.the-row κ′ (ν′ ∷ []) q′ γ′ b′ o′ zs 𝓤 H A W (named 1) (named 1)) $ await ! tt $ pick ! (λ δ′. split ! $
-        move ! (5 ∷ 2 ∷ 3 ∷ 0 ∷ []) $ join ! $
-        use3 W (raw
-        (Look 𝓤 H A mem run .pre (to-look 𝓤 H A mem run (ν ∷ []) (ν′ ∷ []) (at-name b o ys δ) (at-name b′ o′ zs δ′) given kept owner)))
-        (goes-look 𝓤 H A mem run W (ν ∷ []) (ν′ ∷ []) (at-name b o ys δ) (at-name b′ o′ zs δ′) given kept owner given-fits kept-fits
-        owner-fits) $
-        calls-at ! fm (Look 𝓤 H A mem run) known-looks
-        (to-look 𝓤 H A mem run (ν ∷ []) (ν′ ∷ []) (at-name b o ys δ) (at-name b′ o′ zs δ′) given kept owner)
-        (and-then ! (load ! (from ! (stop !)) (look ! 21 refl))
+        calls-look ! mem run fm known-looks κ κ′ q q′ x x′ given kept owner room room′ given-fits kept-fits owner-fits
+        (λ i j l. and-then ! (load ! (from ! (stop !)) (look ! 21 refl))
         (and-then ! (load ! (from ! (stop !)) (look ! 39 refl))
         (and-then ! (load ! (from ! (stop !)) (look ! 17 refl))
-        (and-then ! (load ! (from ! (stop !)) (look ! 35 refl)) (and-then ! (load ! (from ! (stop !)) (look ! 33 refl)) (no-more !)))))) (λ w₁.
-        use1 W (later
-        (some (λ (r : Seen).
-        ((‵ (flft (ν ∷ []) fullShare) ⊛ ‵ (flft (ν′ ∷ []) fullShare) ⊛ ‵ ftrue) ⊛ ‵ (S.the-row .own r (w₁ ∷ []))) ⊛ raw
-        (ensured 𝓤 H A looks.ended (looks.clauses 𝓤 H A mem run) (ν ∷ [], (ν′ ∷ [], tt))
-        (at-name b o ys δ, (given, (at-name b′ o′ zs δ′, (kept, (owner, tt))))) tt r)))) (id⊢ 𝓤 _) $
-        await ! tt $
-        pick ! (λ seen. split ! $ move ! (1 ∷ []) $
-        use1 W (raw (fact 𝓤 (SeenOf (lentAs ys given zs kept) owner seen)))
-        (look-of 𝓤 H A mem run (ν ∷ []) (ν′ ∷ []) (at-name b o ys δ) (at-name b′ o′ zs δ′) given kept owner seen) $
-        heard ! (SeenOf (lentAs ys given zs kept) owner seen) (λ is. split ! $ move ! (1 ∷ []) $
-        peeks ! S.the-row (Is S.the-row) (shows 𝓤 H A S.the-row) seen (w₁ ∷ []) (λ g₁.
-        land ! (from ! (stop !)) (init ! 30 refl (LL.lawful S.the-type S′.the-laws 𝓤 H A W .typed seen (w₁ ∷ []) g₁ .0)) $
-        rewrite ! 30 (λ (u : Val). ‵ (fat fullShare S′.mir l₇ 0 u)) (ap only (LL.tells S.the-type S′.the-laws seen (w₁ ∷ []) g₁)) refl $
-        drop ! $ split ! $ lft-end ! tt $ move ! (0 ∷ 3 ∷ []) $
-        use2 W (later (‵ (MutSlice (named 0) κ T.the-row .own (at-name b o ys γ) (sliceVal (b, o) (length ys) ∷ [])) ⊛ ‵ (flft κ q)))
-        (back-shared T.the-row κ (ν ∷ []) q γ b o ys 𝓤 H A W (named 0) (named 0) room) $ await ! tt $ split ! $
-        move ! (2 ∷ []) $ split ! $ lft-end ! tt $ move ! (0 ∷ 4 ∷ []) $
-        use2 W (later
-        (‵ (MutSlice (named 1) κ′ T.the-row .own (at-name b′ o′ zs γ′) (sliceVal (b′, o′) (length zs) ∷ [])) ⊛ ‵ (flft κ′ q′)))
-        (back-shared T.the-row κ′ (ν′ ∷ []) q′ γ′ b′ o′ zs 𝓤 H A W (named 1) (named 1) room′) $ await ! tt $ split ! $
-        move ! (2 ∷ []) $ drop ! $ move ! (2 ∷ 3 ∷ 0 ∷ 1 ∷ []) $
+        (and-then ! (load ! (from ! (stop !)) (look ! 35 refl)) (and-then ! (load ! (from ! (stop !)) (look ! 33 refl)) (no-more !)))))) (λ seen is g₁.
+        land ! (from ! (stop !)) (init ! 30 refl (LL.lawful S.the-type S′.the-laws 𝓤 H A W .typed seen (seen-val seen ∷ []) g₁ .0)) $
         -- the owner's entry is read
         assigns ! (addr ! (from ! (fld ! refl (hop ! (look-in ! 38 (sub ! 0 refl (whole !))) (stop !))))) (from ! (stop !)) (init ! 16 refl (tt, tt)) $
         assigns ! (agg
         ! (and-then ! (load ! (from ! (stop !)) (look ! 16 refl))
         (and-then ! (load ! (from ! (fld ! refl (stop !))) (look-in ! 38 (sub ! 1 refl (whole !)))) (no-more !)))) (from ! (stop !))
         (init ! 14 refl (tt, (tt, (record { fits = room′ .0 }, tt)))) $
-        lft-new ! tt (λ ν₂. move ! (3 ∷ 4 ∷ []) $
-        use2 W (later
-        (some (λ (δ : GName). ‵
-        (ShrSlice (named 0) (ν₂ ∷ []) T.the-row .own (at-name b′ o′ zs δ) (sliceVal (b′, o′) (length zs) ∷ [])) ⊛ ‵
-        (LentShared T.the-row κ′ (ν₂ ∷ []) q′ γ′ b′ o′ zs))))
-        (lends-shared T.the-row κ′ (ν₂ ∷ []) q′ γ′ b′ o′ zs 𝓤 H A W (named 1) (named 0)) $ await ! tt $
-        pick ! (λ δ₂. split ! $ move ! (2 ∷ 0 ∷ []) $
-        use2 W (raw (Read 𝓤 H A mem run .pre (to-read 𝓤 H A mem run (ν₂ ∷ []) (at-name b′ o′ zs δ₂) (seen .found))))
-        (goes-read 𝓤 H A mem run W (ν₂ ∷ []) (at-name b′ o′ zs δ₂) (seen .found) (found-fits seen (told-seen seen g₁))) $
-        calls-at ! fm (Read 𝓤 H A mem run) known-reads (to-read 𝓤 H A mem run (ν₂ ∷ []) (at-name b′ o′ zs δ₂) (seen .found))
-        (and-then ! (load ! (from ! (stop !)) (look ! 14 refl))
-        (and-then ! (load ! (from ! (fld ! refl (stop !))) (look-in ! 30 (sub ! 5 refl (whole !)))) (no-more !))) (λ w₂.
-        use1 W (later
-        (some (λ (r : Entry). ((‵ (flft (ν₂ ∷ []) fullShare) ⊛ ‵ ftrue) ⊛ ‵ (T.the-row .own r (w₂ ∷ []))) ⊛ raw
-        (ensured 𝓤 H A reads.ended (reads.clauses 𝓤 H A mem run) (ν₂ ∷ [], tt) (at-name b′ o′ zs δ₂, (seen .found, tt)) tt r))))
-        (id⊢ 𝓤 _) $
-        await ! tt $
-        pick ! (λ e. split ! $ move ! (1 ∷ []) $
-        use1 W (raw (fact 𝓤 (e ≡ getD zs (seen .found) nobody))) (read-of 𝓤 H A mem run (ν₂ ∷ []) (at-name b′ o′ zs δ₂) (seen .found) e) $
-        heard ! (e ≡ getD zs (seen .found) nobody) (λ its. split ! $ move ! (1 ∷ []) $
-        peeks ! T.the-row (Is T.the-row) (shows 𝓤 H A T.the-row) e (w₂ ∷ []) (λ g₂.
-        land ! (from ! (stop !)) (init ! 29 refl (LL.lawful T.the-type T′.the-laws 𝓤 H A W .typed e (w₂ ∷ []) g₂ .0)) $
-        rewrite ! 29 (λ (u : Val). ‵ (fat fullShare T′.mir l₈ 0 u)) (ap only (LL.tells T.the-type T′.the-laws e (w₂ ∷ []) g₂)) refl $
-        drop ! $ split ! $ lft-end ! tt $ move ! (0 ∷ 2 ∷ []) $
-        use2 W (later
-        (‵ (MutSlice (named 1) κ′ T.the-row .own (at-name b′ o′ zs γ′) (sliceVal (b′, o′) (length zs) ∷ [])) ⊛ ‵ (flft κ′ q′)))
-        (back-shared T.the-row κ′ (ν₂ ∷ []) q′ γ′ b′ o′ zs 𝓤 H A W (named 1) (named 0) room′) $ await ! tt $ split ! $
-        move ! (2 ∷ []) $ drop ! $ move ! (2 ∷ 3 ∷ 0 ∷ 1 ∷ []) $
+        move ! (2 ∷ 3 ∷ []) $
+        calls-read ! mem run fm known-reads κ′ q′ x′ (seen .found) room′ (found-fits seen g₁)
+        (λ i j. and-then ! (load ! (from ! (stop !)) (look ! 14 refl))
+        (and-then ! (load ! (from ! (fld ! refl (stop !))) (look-in ! 30 (sub ! 5 refl (whole !)))) (no-more !))) (λ e its g₂.
+        land ! (from ! (stop !)) (init ! 28 refl (LL.lawful T.the-type T′.the-laws 𝓤 H A W .typed e (entry-vals e) g₂ .0)) $
+        move ! (2 ∷ 3 ∷ []) $
         -- the decision
         use0 W (raw (Top 𝓤 H A mem run .pre (to-top 𝓤 H A mem run seen given kept owner amount e)))
-        (goes-top 𝓤 H A mem run W seen given kept owner amount e (told-seen seen g₁) given-fits kept-fits owner-fits amount-fits (told-entry e g₂)
+        (goes-top 𝓤 H A mem run W seen given kept owner amount e g₁ given-fits kept-fits owner-fits amount-fits g₂
         (few seen is)) $
         calls-at ! fm (Top 𝓤 H A mem run) known-top (to-top 𝓤 H A mem run seen given kept owner amount e)
         (and-then ! (load ! (from ! (stop !)) (look ! 31 refl))
@@ -336,31 +262,14 @@ module _ {M : Type 1} (𝓤 : URA M) (H : Heap 𝓤) (A : Atoms 𝓤) (W : Given
         (and-then ! (load ! (from ! (fld ! refl (stop !))) (look-in ! 42 (sub ! 1 refl (whole !)))) (no-more !)))) (from ! (stop !))
         (init ! 8 refl (tt, (tt, (record { fits = room .0 }, tt)))) $
         move ! (1 ∷ 0 ∷ []) $
-        use2 W (raw (Append 𝓤 H A mem run .pre (to-append 𝓤 H A mem run κ q (at-name b o ys γ) (d .line) (d .entry))))
-        (goes-append 𝓤 H A mem run W κ q (at-name b o ys γ) (d .line) (d .entry) (gap-fits (d .line) (change-line d (told-d d g₃)))
-        (last-fits (d .line) (change-line d (told-d d g₃))) (entry-in d (told-d d g₃)) (told ys zs is its .line)) $
-        calls-at ! fm (Append 𝓤 H A mem run) known-puts (to-append 𝓤 H A mem run κ q (at-name b o ys γ) (d .line) (d .entry))
-        (and-then ! (load ! (from ! (stop !)) (look ! 7 refl))
+        calls-append ! mem run fm known-puts κ q x (d .line) (d .entry) (gap-fits (d .line) (change-line d (told-d d g₃)))
+        (last-fits (d .line) (change-line d (told-d d g₃))) (entry-in d (told-d d g₃)) (told ys zs is its .line)
+        (λ i. and-then ! (load ! (from ! (stop !)) (look ! 7 refl))
         (and-then ! (load ! (from ! (fld ! refl (fld ! refl (stop !)))) (look-in ! 25 (sub ! 0 refl (sub ! 1 refl (whole !)))))
         (and-then ! (load ! (from ! (fld ! refl (fld ! refl (stop !)))) (look-in ! 25 (sub ! 1 refl (sub ! 1 refl (whole !)))))
         (and-then ! (load ! (from ! (fld ! refl (fld ! refl (stop !)))) (look-in ! 25 (sub ! 2 refl (sub ! 1 refl (whole !)))))
-        (and-then ! (load ! (from ! (fld ! refl (stop !))) (look-in ! 25 (sub ! 3 refl (whole !)))) (no-more !)))))) (λ w₄.
-        use1 W (later
-        (some (λ (z : Unit {0}). ((‵ (flft κ q) ⊛ ‵ ftrue) ⊛ ‵ (Nothing .own z (w₄ ∷ []))) ⊛ raw
-        (ensured 𝓤 H A puts.ended (puts.clauses 𝓤 H A mem run) (κ, tt)
-        ((at-name b o ys γ), (d .line .gap, (d .line .last, (d .line .adds, (d .entry, tt))))) tt z)))) (id⊢ 𝓤 _) $
-        await ! tt $ pick ! (λ z₄. split ! $ move ! (1 ∷ []) $
-        use1 W (some
-        (λ (vs : List Entry × (Unit {0} × (Unit {0} × (Unit {0} × (Unit {0} × Unit {0}))))). ‵
-        (lasts puts.ended (κ, tt) ((at-name b o ys γ), (d .line .gap, (d .line .last, (d .line .adds, (d .entry, tt))))) vs) ⊛ raw
-        (fact 𝓤 (vs .0 ≡ settled ys (d .line .gap) (d .line .last) (d .line .adds) (d .entry))))) (id⊢ 𝓤 _) $
-        pick ! (λ vs₄. split ! $ move ! (1 ∷ []) $
-        heard ! (vs₄ .0 ≡ settled ys (d .line .gap) (d .line .last) (d .line .adds) (d .entry)) (λ e₄. fsplit ! $ fsplit ! $ move ! (1 ∷ []) $
-        feqL ! (λ len₄.
-        -- [the last list; true; the token and the result; …]
-        move ! (2 ∷ []) $ split ! $ move ! (1 ∷ []) $ peeks ! Nothing (Is Nothing) (shows 𝓤 H A Nothing) z₄ (w₄ ∷ []) (λ nil₄.
-        land ! (from ! (stop !)) (init ! 14 refl (nothing-lawful 𝓤 H A W .typed z₄ (w₄ ∷ []) nil₄ .0)) $
-        drop ! $ split ! $ move ! (1 ∷ []) $ drop ! $ move ! (2 ∷ []) $ drop ! $
+        (and-then ! (load ! (from ! (fld ! refl (stop !))) (look-in ! 25 (sub ! 3 refl (whole !)))) (no-more !)))))) (λ w₄ typed₄ vs₄ e₄ len₄.
+        land ! (from ! (stop !)) (init ! 12 refl typed₄) $
         -- [the token; the last line; what aside owns; its token; _20; …]
         assigns ! (addr ! (from ! (fld ! refl (hop ! (look-in ! 38 (sub ! 0 refl (whole !))) (stop !))))) (from ! (stop !)) (init ! 6 refl (tt, tt)) $
         assigns ! (agg
@@ -368,31 +277,14 @@ module _ {M : Type 1} (𝓤 : URA M) (H : Heap 𝓤) (A : Atoms 𝓤) (W : Given
         (and-then ! (load ! (from ! (fld ! refl (stop !))) (look-in ! 38 (sub ! 1 refl (whole !)))) (no-more !)))) (from ! (stop !))
         (init ! 4 refl (tt, (tt, (record { fits = room′ .0 }, tt)))) $
         move ! (3 ∷ 2 ∷ []) $
-        use2 W (raw (Append 𝓤 H A mem run .pre (to-append 𝓤 H A mem run κ′ q′ (at-name b′ o′ zs γ′) (d .aside) (d .entry))))
-        (goes-append 𝓤 H A mem run W κ′ q′ (at-name b′ o′ zs γ′) (d .aside) (d .entry) (gap-fits (d .aside) (change-aside d (told-d d g₃)))
-        (last-fits (d .aside) (change-aside d (told-d d g₃))) (entry-in d (told-d d g₃)) (told ys zs is its .aside)) $
-        calls-at ! fm (Append 𝓤 H A mem run) known-puts (to-append 𝓤 H A mem run κ′ q′ (at-name b′ o′ zs γ′) (d .aside) (d .entry))
-        (and-then ! (load ! (from ! (stop !)) (look ! 3 refl))
+        calls-append ! mem run fm known-puts κ′ q′ x′ (d .aside) (d .entry) (gap-fits (d .aside) (change-aside d (told-d d g₃)))
+        (last-fits (d .aside) (change-aside d (told-d d g₃))) (entry-in d (told-d d g₃)) (told ys zs is its .aside)
+        (λ i. and-then ! (load ! (from ! (stop !)) (look ! 3 refl))
         (and-then ! (load ! (from ! (fld ! refl (fld ! refl (stop !)))) (look-in ! 25 (sub ! 0 refl (sub ! 2 refl (whole !)))))
         (and-then ! (load ! (from ! (fld ! refl (fld ! refl (stop !)))) (look-in ! 25 (sub ! 1 refl (sub ! 2 refl (whole !)))))
         (and-then ! (load ! (from ! (fld ! refl (fld ! refl (stop !)))) (look-in ! 25 (sub ! 2 refl (sub ! 2 refl (whole !)))))
-        (and-then ! (load ! (from ! (fld ! refl (stop !))) (look-in ! 25 (sub ! 3 refl (whole !)))) (no-more !)))))) (λ w₅.
-        use1 W (later
-        (some (λ (z : Unit {0}). ((‵ (flft κ′ q′) ⊛ ‵ ftrue) ⊛ ‵ (Nothing .own z (w₅ ∷ []))) ⊛ raw
-        (ensured 𝓤 H A puts.ended (puts.clauses 𝓤 H A mem run) (κ′, tt)
-        ((at-name b′ o′ zs γ′), (d .aside .gap, (d .aside .last, (d .aside .adds, (d .entry, tt))))) tt z)))) (id⊢ 𝓤 _) $
-        await ! tt $ pick ! (λ z₅. split ! $ move ! (1 ∷ []) $
-        use1 W (some
-        (λ (vs : List Entry × (Unit {0} × (Unit {0} × (Unit {0} × (Unit {0} × Unit {0}))))). ‵
-        (lasts puts.ended (κ′, tt) ((at-name b′ o′ zs γ′), (d .aside .gap, (d .aside .last, (d .aside .adds, (d .entry, tt))))) vs) ⊛ raw
-        (fact 𝓤 (vs .0 ≡ settled zs (d .aside .gap) (d .aside .last) (d .aside .adds) (d .entry))))) (id⊢ 𝓤 _) $
-        pick ! (λ vs₅. split ! $ move ! (1 ∷ []) $
-        heard ! (vs₅ .0 ≡ settled zs (d .aside .gap) (d .aside .last) (d .aside .adds) (d .entry)) (λ e₅. fsplit ! $ fsplit ! $ move ! (1 ∷ []) $
-        feqL ! (λ len₅.
-        -- [the last list; true; the token and the result; …]
-        move ! (2 ∷ []) $ split ! $ move ! (1 ∷ []) $ peeks ! Nothing (Is Nothing) (shows 𝓤 H A Nothing) z₅ (w₅ ∷ []) (λ nil₅.
-        land ! (from ! (stop !)) (store ! 14 refl (nothing-lawful 𝓤 H A W .typed z₅ (w₅ ∷ []) nil₅ .0)) $
-        drop ! $ split ! $ move ! (1 ∷ []) $ drop ! $ move ! (2 ∷ []) $ drop ! $
+        (and-then ! (load ! (from ! (fld ! refl (stop !))) (look-in ! 25 (sub ! 3 refl (whole !)))) (no-more !)))))) (λ w₅ typed₅ vs₅ e₅ len₅.
+        land ! (from ! (stop !)) (store ! 12 refl typed₅) $
         -- [the second token; the last aside; the first token; the last line; _20; …]
         assigns ! (of-opd ! (load ! (from ! (fld ! refl (stop !))) (look-in ! 26 (sub ! 0 refl (whole !))))) (from ! (stop !))
         (init ! 44 refl
@@ -408,16 +300,10 @@ module _ {M : Type 1} (𝓤 : URA M) (H : Heap 𝓤) (A : Atoms 𝓤) (W : Given
         free1 ! $ move ! (22 ∷ 23 ∷ []) $ free1 ! $ move ! (20 ∷ 21 ∷ []) $ free1 ! $ move ! (18 ∷ 19 ∷ []) $ free1 ! $
         move ! (16 ∷ 17 ∷ []) $ free1 ! $ move ! (14 ∷ 15 ∷ []) $ free1 ! $ move ! (12 ∷ 13 ∷ []) $ free1 ! $ move ! (10 ∷ 11 ∷ []) $
         free1 ! $ move ! (8 ∷ 9 ∷ []) $ free1 ! $ move ! (6 ∷ 7 ∷ []) $ free1 ! $ move ! (4 ∷ 5 ∷ []) $ free1 ! $ free0 ! $
-        by ! (exits d (vs₄ .0) (vs₅ .0) (told-d d g₃) len₄ len₅
-        ((λ i. record { answer = d .answer; line = e₄ i; aside = e₅ i })
-        ∙ told ys zs is its .result)))))))))))))))))))))))))))))))))))))))))))))))))))))
+        by ! (exits d vs₄ vs₅ (told-d d g₃) len₄ len₅
+        ((λ i. record { answer = d .answer; buffers = record { line = e₄ i; aside = e₅ i } })
+        ∙ told ys zs is its .result)))))))))))))))))))))))))))))))
       where
-        told-seen : (seen : Seen) {w : Val} → Is S.the-row seen (w ∷ []) → Is S.the-row seen (LL.vals S.the-type S′.the-laws seen)
-        told-seen seen {w} g = subst (Is S.the-row seen) (LL.tells S.the-type S′.the-laws seen (w ∷ []) g) g
-
-        told-entry : (e : Entry) {w : Val} → Is T.the-row e (w ∷ []) → Is T.the-row e (entry-vals e)
-        told-entry e {w} g = subst (Is T.the-row e) (LL.tells T.the-type T′.the-laws e (w ∷ []) g) g
-
         told-d : (d : Queueing) {w : Val} → Is D.the-row d (w ∷ []) → Is D.the-row d (decided-vals d)
         told-d d {w} g = subst (Is D.the-row d) (LL.tells D.the-type D′.the-laws d (w ∷ []) g) g
 
@@ -430,11 +316,8 @@ module _ {M : Type 1} (𝓤 : URA M) (H : Heap 𝓤) (A : Atoms 𝓤) (W : Given
       → Walks 𝓤 H A f.ended stayed (WpFn 𝓤 H C Λ code.function) (f.clauses 𝓤 H A mem run)
   top-up-walks C Λ fm known-looks known-reads known-puts known-top =
       walked 𝓤 H A f.ended stayed (f.clauses 𝓤 H A mem run) (WpFn 𝓤 H C Λ code.function)
-      (λ κs. (slice-vals, (uint-vals w64, (slice-vals, (uint-vals w64, (uint-vals w32, (uint-vals w64, tt)))))))
-      (λ κs. (
-        mut-slice-tells (named 0) (κs .0) T.the-row,
-        (uint-tells w64, (mut-slice-tells (named 1) (κs .1 .0) T.the-row, (uint-tells w64, (uint-tells w32, (uint-tells w64, tt))))),
-      ))
+      spelt
+      told-by
       (λ κs qs bounds a g are. via 𝓤 _ (fst∗ 𝓤 _ (emp 𝓤)) (
       walk 𝓤 H A W mem run (κs .0) (κs .1 .0) (qs .0) (qs .1 .0) (a .0 .ptr .0) (a .0 .ptr .1) (a .0 .name) (a .0 .now) (a .1 .1 .0 .ptr .0)
       (a .1 .1 .0 .ptr .1) (a .1 .1 .0 .name) (a .1 .1 .0 .now) (a .1 .0) (a .1 .1 .1 .0) (a .1 .1 .1 .1 .0) (a .1 .1 .1 .1 .1 .0) (are .0 .0 .1)
@@ -447,19 +330,7 @@ top-up-meets : {M : Type 1} (𝓤 : URA M) (H : Heap 𝓤) (A : Atoms 𝓤) → 
     → Triple 𝓤 (𝓣 .C #puts) (Append 𝓤 H A mem run) → Triple 𝓤 (𝓣 .C #top) (Top 𝓤 H A mem run)
     → Meets 𝓤 H A f.signature (WpFn 𝓤 H (𝓣 .C) (𝓣 .Λ) code.function) (f.spec 𝓤 H A mem run)
 top-up-meets 𝓤 H A W mem run 𝓣 known-looks known-reads known-puts known-top =
-    walk-meets 𝓤 H A f.ended stayed W (
-      goes-gave-slice 𝓤 H A W 2 0 tt (plain (λ _. T.the-row)),
-      (
-        goes-none 𝓤 H A W 2 (λ _. usize) yes (λ κs x f. refl),
-        (
-          goes-gave-slice 𝓤 H A W 2 1 tt (plain (λ _. T.the-row)),
-          (
-            goes-none 𝓤 H A W 2 (λ _. usize) yes (λ κs x f. refl),
-            (goes-none 𝓤 H A W 2 (λ _. u32) yes (λ κs x f. refl), (goes-none 𝓤 H A W 2 (λ _. u64) yes (λ κs x f. refl), tt)),
-          ),
-        ),
-      ),
-    )
+    walk-meets 𝓤 H A f.ended stayed W (all-go 𝓤 H A W)
     (f.clauses 𝓤 H A mem run) (WpFn 𝓤 H (𝓣 .C) (𝓣 .Λ) code.function) (WpFn-mono 𝓤 H (W .laws) 𝓣 code.function)
     (top-up-walks 𝓤 H A W mem run (𝓣 .C) (𝓣 .Λ) (fmOf 𝓤 H (W .laws) 𝓣) known-looks known-reads known-puts known-top)
 

@@ -23,10 +23,10 @@ use types.Part.{agg, whole, sub, look-in}
 use sound.WpLaws.{FmC, fmOf, WpFn-mono}
 use denote.RattleType.{owns}
 use denote.Laws.{Is, shows}
-use denote.Plain.{uint-makes, uint-vals, uint-tells}
+use denote.Plain.{uint-makes}
 use denote.Builtin.{usize, u32, u64}
 use denote.Ref.{RefT}
-use denote.Slice.{sliceVal, MutSlice, ShrSlice, Room, finally, slice-vals, mut-slice-tells, shr-slice-tells, shr-slice-copy}
+use denote.Slice.{sliceVal, MutSlice, ShrSlice, Room, finally, shr-slice-copy}
 use denote.Steps.{owned, peeks, heard, nothing}
 use denote.Struct.Laws as LL
 use denote.Triple.Entry.{Vals, onEntry}
@@ -35,16 +35,15 @@ use denote.Triple.Statement.{Contract, Triple}
 use denote.Triple.Call.{calls-at}
 use denote.Triple.Clauses.{ensured, lasts}
 use denote.Triple.Table.{entered, cited}
-use denote.Triple.Walked.{says, Stays, stay-none, stay-none-slice, gave-slice, walkOf, goes-none, goes-none-slice, goes-gave-slice, Walks, ends-at, walked}
+use denote.Triple.Walked.{says, walkOf, Walks, ends-at, walked}
 use denote.Triple.Walked.{walk-meets}
-use denote.Exit.{yes}
-use denote.Signature.{plain}
 use Rattle.queues.specs.declared.Entry.{Entry}
 use Rattle.queues.proofs.Entry as T
 use denote.Enum.Laws as EL
 use Rattle.queues.specs.declared.Queued.{Queued}
 use Rattle.queues.specs.Lists.{lentAs}
-use Rattle.queues.specs.Joining.{QueuedResult, joinQueueOf}
+use Rattle.queues.specs.Changing.{QueuedResult}
+use Rattle.queues.specs.Joining.{joinQueueOf}
 use Rattle.queues.proofs.Queued as Q
 use Rattle.queues.proofs.Queued.Laws as Q′
 use Rattle.turns.specs.Surveys.{surveyOf as lent-survey}
@@ -64,39 +63,7 @@ use Rattle.sotjarn.proofs.sotjarn_join.Key.{name as #sotjarn·sotjarn-j
 use Rattle.sotjarn.proofs.sotjarn_join as f
 use Rattle.sotjarn.proofs.sotjarn_join.Statement as stated
 use Rattle.sotjarn.proofs.sotjarn_join.Code as code
-
-abbrev stayed : Stays (f.ended .signature .params) (f.ended .kept)
-stayed = (
-  stay-none-slice (0 ∷ []) tt (plain (λ _. u32)) yes,
-  (
-    stay-none-slice (1 ∷ []) tt (plain (λ _. u32)) yes,
-    (
-      stay-none-slice (2 ∷ []) tt (plain (λ _. u32)) yes,
-      (
-        stay-none (λ _. u32) yes,
-        (
-          gave-slice (3 ∷ []) tt (plain (λ _. T.the-row)),
-          (
-            stay-none (λ _. usize) yes,
-            (
-              gave-slice (4 ∷ []) tt (plain (λ _. T.the-row)),
-              (
-                stay-none (λ _. usize) yes,
-                (
-                  stay-none (λ _. u32) yes,
-                  (
-                    stay-none (λ _. u64) yes,
-                    (stay-none-slice (5 ∷ []) tt (plain (λ _. u32)) yes, (stay-none-slice (6 ∷ []) tt (plain (λ _. u32)) yes, tt)),
-                  ),
-                ),
-              ),
-            ),
-          ),
-        ),
-      ),
-    ),
-  ),
-)
+use Rattle.queue_joins.proofs.JoinSlots.{stayed, spelt, told-by, all-go}
 
 -- ---- what both callees are given, and what they say
 module _ {M : Type 1} (𝓤 : URA M) (H : Heap 𝓤) (A : Atoms 𝓤) (mem : Memory → SProp 𝓤) (run : Routine → Fun 𝓤) where
@@ -267,7 +234,7 @@ module _ {M : Type 1} (𝓤 : URA M) (H : Heap 𝓤) (A : Atoms 𝓤) (W : Given
 
   exits : (r : Queued) (z : QueuedNumbers) (w : Val) (us₀ : List Entry) (us₁ : List Entry) → length us₀ ≡ length (x .now)
       → length us₁ ≡ length (x′ .now)
-      → _≡_ {A = QueuedResult} (record { answer = r; line = us₀; aside = us₁ })
+      → _≡_ {A = QueuedResult} (record { answer = r; buffers = record { line = us₀; aside = us₁ } })
       (joinQueueOf (lent-survey (rows .now) (pos .now) (osp .now) survey) (lentAs (x .now) given (x′ .now) kept)
       (record { owner = owner; allowance = allowance; plan = plan .now; state = state .now })) → z ≡ queuedNumbers r
       → ent 𝓤 (⋆ 𝓤 H A
@@ -302,7 +269,7 @@ module _ {M : Type 1} (𝓤 : URA M) (H : Heap 𝓤) (A : Atoms 𝓤) (W : Given
       says ! (
         its
             ∙ ap (λ (o : QueuedResult). queuedNumbers (o .answer)) is,
-        (ap (λ (o : QueuedResult). o .line) is, ap (λ (o : QueuedResult). o .aside) is),
+        (ap (λ (o : QueuedResult). o .buffers .line) is, ap (λ (o : QueuedResult). o .buffers .aside) is),
       ) $
       nothing ! $ move ! (7 ∷ 0 ∷ []) $ join ! $ move ! (6 ∷ 0 ∷ []) $ join ! $ move ! (5 ∷ 0 ∷ []) $ join ! $ move ! (4 ∷ 0 ∷ []) $
       join ! $ move ! (3 ∷ 0 ∷ []) $ join ! $ move ! (2 ∷ 0 ∷ []) $ join ! $ move ! (1 ∷ 0 ∷ []) $ join ! $ nothing ! $
@@ -428,11 +395,11 @@ module _ {M : Type 1} (𝓤 : URA M) (H : Heap 𝓤) (A : Atoms 𝓤) (W : Given
         {0} × (List Entry × (Unit {0} × (List Entry × (Unit {0} × (Unit {0} × (Unit {0} × (Unit {0} × (Unit {0} × Unit {0})))))))))))). ‵
         (lasts callee.ended (κ₀, (κ₁, (κ₂, (κ₃, (κ₄, (κ₅, (κ₆, tt)))))))
         (rows, (pos, (osp, (survey, (x, (given, (x′, (kept, (owner, (allowance, (plan, (state, tt)))))))))))) vs) ⊛ raw
-        (fact 𝓤 (_≡_ {A = QueuedResult} (record { answer = r; line = vs .1 .1 .1 .1 .0; aside = vs .1 .1 .1 .1 .1 .1 .0 })
+        (fact 𝓤 (_≡_ {A = QueuedResult} (record { answer = r; buffers = record { line = vs .1 .1 .1 .1 .0; aside = vs .1 .1 .1 .1 .1 .1 .0 } })
         (joinQueueOf (lent-survey (rows .now) (pos .now) (osp .now) survey) (lentAs (x .now) given (x′ .now) kept)
         (record { owner = owner; allowance = allowance; plan = plan .now; state = state .now })))))) (id⊢ 𝓤 _) $
         pick ! (λ vs. split ! $ move ! (1 ∷ []) $
-        heard ! (_≡_ {A = QueuedResult} (record { answer = r; line = vs .1 .1 .1 .1 .0; aside = vs .1 .1 .1 .1 .1 .1 .0 })
+        heard ! (_≡_ {A = QueuedResult} (record { answer = r; buffers = record { line = vs .1 .1 .1 .1 .0; aside = vs .1 .1 .1 .1 .1 .1 .0 } })
         (joinQueueOf (lent-survey (rows .now) (pos .now) (osp .now) survey) (lentAs (x .now) given (x′ .now) kept)
         (record { owner = owner; allowance = allowance; plan = plan .now; state = state .now }))) (λ is.
         fsplit ! $ move ! (1 ∷ []) $ fsplit ! $ move ! (1 ∷ []) $ fsplit ! $ move ! (1 ∷ []) $ fsplit ! $ move ! (1 ∷ []) $ fsplit ! $
@@ -471,47 +438,8 @@ module _ {M : Type 1} (𝓤 : URA M) (H : Heap 𝓤) (A : Atoms 𝓤) (W : Given
       → Triple 𝓤 (C #numbers) (Numbers 𝓤 H A mem run) → Walks 𝓤 H A f.ended stayed (WpFn 𝓤 H C Λ code.function) (f.clauses 𝓤 H A mem run)
   sotjarn-join-walks C Λ fm known-callee known-numbers =
       walked 𝓤 H A f.ended stayed (f.clauses 𝓤 H A mem run) (WpFn 𝓤 H C Λ code.function)
-      (λ κs. (
-        slice-vals,
-        (
-          slice-vals,
-          (
-            slice-vals,
-            (uint-vals w32, (slice-vals, (uint-vals w64, (slice-vals, (uint-vals w64, (uint-vals w32, (uint-vals w64, (slice-vals, (slice-vals, tt))))))))),
-          ),
-        ),
-      ))
-      (λ κs. (
-        shr-slice-tells (named 0) (κs .0) u32,
-        (
-          shr-slice-tells (named 1) (κs .1 .0) u32,
-          (
-            shr-slice-tells (named 2) (κs .1 .1 .0) u32,
-            (
-              uint-tells w32,
-              (
-                mut-slice-tells (named 3) (κs .1 .1 .1 .0) T.the-row,
-                (
-                  uint-tells w64,
-                  (
-                    mut-slice-tells (named 4) (κs .1 .1 .1 .1 .0) T.the-row,
-                    (
-                      uint-tells w64,
-                      (
-                        uint-tells w32,
-                        (
-                          uint-tells w64,
-                          (shr-slice-tells (named 5) (κs .1 .1 .1 .1 .1 .0) u32, (shr-slice-tells (named 6) (κs .1 .1 .1 .1 .1 .1 .0) u32, tt)),
-                        ),
-                      ),
-                    ),
-                  ),
-                ),
-              ),
-            ),
-          ),
-        ),
-      ))
+      spelt
+      told-by
       (λ κs qs bounds a g are. via 𝓤 _ (fst∗ 𝓤 _ (emp 𝓤)) (
       walk 𝓤 H A W mem run (κs .0) (κs .1 .0) (κs .1 .1 .0) (κs .1 .1 .1 .0) (κs .1 .1 .1 .1 .0) (κs .1 .1 .1 .1 .1 .0) (κs .1 .1 .1 .1 .1 .1 .0)
       (qs .0) (qs .1 .0) (qs .1 .1 .0) (qs .1 .1 .1 .0) (qs .1 .1 .1 .1 .0) (qs .1 .1 .1 .1 .1 .0) (qs .1 .1 .1 .1 .1 .1 .0) (a .0) (a .1 .0) (a .1 .1 .0)
@@ -527,40 +455,7 @@ sotjarn-join-meets : {M : Type 1} (𝓤 : URA M) (H : Heap 𝓤) (A : Atoms 𝓤
     → Triple 𝓤 (𝓣 .C #callee) (Call 𝓤 H A mem run) → Triple 𝓤 (𝓣 .C #numbers) (Numbers 𝓤 H A mem run)
     → Meets 𝓤 H A f.signature (WpFn 𝓤 H (𝓣 .C) (𝓣 .Λ) code.function) (f.spec 𝓤 H A mem run)
 sotjarn-join-meets 𝓤 H A W mem run 𝓣 known-callee known-numbers =
-    walk-meets 𝓤 H A f.ended stayed W (
-      goes-none-slice 𝓤 H A W 7 (0 ∷ []) tt (plain (λ _. u32)) yes,
-      (
-        goes-none-slice 𝓤 H A W 7 (1 ∷ []) tt (plain (λ _. u32)) yes,
-        (
-          goes-none-slice 𝓤 H A W 7 (2 ∷ []) tt (plain (λ _. u32)) yes,
-          (
-            goes-none 𝓤 H A W 7 (λ _. u32) yes (λ κs x f. refl),
-            (
-              goes-gave-slice 𝓤 H A W 7 3 tt (plain (λ _. T.the-row)),
-              (
-                goes-none 𝓤 H A W 7 (λ _. usize) yes (λ κs x f. refl),
-                (
-                  goes-gave-slice 𝓤 H A W 7 4 tt (plain (λ _. T.the-row)),
-                  (
-                    goes-none 𝓤 H A W 7 (λ _. usize) yes (λ κs x f. refl),
-                    (
-                      goes-none 𝓤 H A W 7 (λ _. u32) yes (λ κs x f. refl),
-                      (
-                        goes-none 𝓤 H A W 7 (λ _. u64) yes (λ κs x f. refl),
-                        (
-                          goes-none-slice 𝓤 H A W 7 (5 ∷ []) tt (plain (λ _. u32)) yes,
-                          (goes-none-slice 𝓤 H A W 7 (6 ∷ []) tt (plain (λ _. u32)) yes, tt),
-                        ),
-                      ),
-                    ),
-                  ),
-                ),
-              ),
-            ),
-          ),
-        ),
-      ),
-    )
+    walk-meets 𝓤 H A f.ended stayed W (all-go 𝓤 H A W)
     (f.clauses 𝓤 H A mem run) (WpFn 𝓤 H (𝓣 .C) (𝓣 .Λ) code.function) (WpFn-mono 𝓤 H (W .laws) 𝓣 code.function)
     (sotjarn-join-walks 𝓤 H A W mem run (𝓣 .C) (𝓣 .Λ) (fmOf 𝓤 H (W .laws) 𝓣) known-callee known-numbers)
 

@@ -23,10 +23,10 @@ use types.Part.{agg, whole, sub, look-in}
 use sound.WpLaws.{FmC, fmOf, WpFn-mono}
 use denote.RattleType.{owns}
 use denote.Laws.{Is, shows}
-use denote.Plain.{uint-makes, uint-vals, uint-tells}
+use denote.Plain.{uint-makes}
 use denote.Builtin.{usize, u32}
 use denote.Ref.{RefT}
-use denote.Slice.{sliceVal, MutSlice, ShrSlice, Room, finally, slice-vals, mut-slice-tells, shr-slice-tells, shr-slice-copy}
+use denote.Slice.{sliceVal, MutSlice, ShrSlice, Room, finally, shr-slice-copy}
 use denote.Steps.{owned, peeks, heard, nothing}
 use denote.Struct.Laws as LL
 use denote.Triple.Entry.{Vals, onEntry}
@@ -35,10 +35,8 @@ use denote.Triple.Statement.{Contract, Triple}
 use denote.Triple.Call.{calls-at}
 use denote.Triple.Clauses.{ensured, lasts}
 use denote.Triple.Table.{entered, cited}
-use denote.Triple.Walked.{says, Stays, stay-none, stay-none-slice, gave-slice, walkOf, goes-none, goes-none-slice, goes-gave-slice, Walks, ends-at, walked}
+use denote.Triple.Walked.{says, walkOf, Walks, ends-at, walked}
 use denote.Triple.Walked.{walk-meets}
-use denote.Exit.{yes}
-use denote.Signature.{plain}
 use Rattle.queues.specs.declared.Entry.{Entry}
 use Rattle.queues.proofs.Entry as T
 use Rattle.queues.specs.declared.Service.{Service}
@@ -63,33 +61,7 @@ use Rattle.sotjarn.proofs.sotjarn_serve.Key.{name as #sotjarn·sotjarn-
 use Rattle.sotjarn.proofs.sotjarn_serve as f
 use Rattle.sotjarn.proofs.sotjarn_serve.Statement as stated
 use Rattle.sotjarn.proofs.sotjarn_serve.Code as code
-
-abbrev stayed : Stays (f.ended .signature .params) (f.ended .kept)
-stayed = (
-  stay-none-slice (0 ∷ []) tt (plain (λ _. u32)) yes,
-  (
-    stay-none-slice (1 ∷ []) tt (plain (λ _. u32)) yes,
-    (
-      stay-none-slice (2 ∷ []) tt (plain (λ _. u32)) yes,
-      (
-        stay-none (λ _. u32) yes,
-        (
-          gave-slice (3 ∷ []) tt (plain (λ _. T.the-row)),
-          (
-            stay-none (λ _. usize) yes,
-            (
-              gave-slice (4 ∷ []) tt (plain (λ _. T.the-row)),
-              (
-                stay-none (λ _. usize) yes,
-                (stay-none (λ _. u32) yes, (stay-none-slice (5 ∷ []) tt (plain (λ _. u32)) yes, (gave-slice (6 ∷ []) tt (plain (λ _. u32)), tt))),
-              ),
-            ),
-          ),
-        ),
-      ),
-    ),
-  ),
-)
+use Rattle.queue_serves.proofs.ServeSlots.{stayed, spelt, told-by, all-go}
 
 -- ---- what both callees are given, and what they say
 module _ {M : Type 1} (𝓤 : URA M) (H : Heap 𝓤) (A : Atoms 𝓤) (mem : Memory → SProp 𝓤) (run : Routine → Fun 𝓤) where
@@ -252,7 +224,7 @@ module _ {M : Type 1} (𝓤 : URA M) (H : Heap 𝓤) (A : Atoms 𝓤) (W : Given
 
   exits : (r : Service) (z : ServiceNumbers) (w : Val) (us₀ : List Entry) (us₁ : List Entry) (us₂ : List ℕ) → length us₀ ≡ length (x .now)
       → length us₁ ≡ length (x′ .now) → length us₂ ≡ length (output .now)
-      → _≡_ {A = ServeResult} (record { answer = r; line = us₀; aside = us₁; output = us₂ })
+      → _≡_ {A = ServeResult} (record { answer = r; buffers = record { line = us₀; aside = us₁; output = us₂ } })
       (serveOf (lent-survey (rows .now) (pos .now) (osp .now) survey) (lentAs (x .now) given (x′ .now) kept)
       (record { quantum = quantum; threshold = threshold .now; output = output .now })) → z ≡ serviceNumbers r
       → ent 𝓤 (⋆ 𝓤 H A
@@ -289,7 +261,7 @@ module _ {M : Type 1} (𝓤 : URA M) (H : Heap 𝓤) (A : Atoms 𝓤) (W : Given
       says ! (
         its
             ∙ ap (λ (o : ServeResult). serviceNumbers (o .answer)) is,
-        (ap (λ (o : ServeResult). o .line) is, (ap (λ (o : ServeResult). o .aside) is, ap (λ (o : ServeResult). o .output) is)),
+        (ap (λ (o : ServeResult). o .buffers .line) is, (ap (λ (o : ServeResult). o .buffers .aside) is, ap (λ (o : ServeResult). o .buffers .output) is)),
       ) $
       nothing ! $ move ! (7 ∷ 0 ∷ []) $ join ! $ move ! (6 ∷ 0 ∷ []) $ join ! $ move ! (5 ∷ 0 ∷ []) $ join ! $ move ! (4 ∷ 0 ∷ []) $
       join ! $ move ! (3 ∷ 0 ∷ []) $ join ! $ move ! (2 ∷ 0 ∷ []) $ join ! $ move ! (1 ∷ 0 ∷ []) $ join ! $ nothing ! $
@@ -411,12 +383,12 @@ module _ {M : Type 1} (𝓤 : URA M) (H : Heap 𝓤) (A : Atoms 𝓤) (W : Given
         (lasts callee.ended (κ₀, (κ₁, (κ₂, (κ₃, (κ₄, (κ₅, (κ₆, tt)))))))
         (rows, (pos, (osp, (survey, (x, (given, (x′, (kept, (quantum, (threshold, (output, tt))))))))))) vs) ⊛ raw
         (fact 𝓤 (_≡_ {A = ServeResult}
-        (record { answer = r; line = vs .1 .1 .1 .1 .0; aside = vs .1 .1 .1 .1 .1 .1 .0; output = vs .1 .1 .1 .1 .1 .1 .1 .1 .1 .1 .0 })
+        (record { answer = r; buffers = record { line = vs .1 .1 .1 .1 .0; aside = vs .1 .1 .1 .1 .1 .1 .0; output = vs .1 .1 .1 .1 .1 .1 .1 .1 .1 .1 .0 } })
         (serveOf (lent-survey (rows .now) (pos .now) (osp .now) survey) (lentAs (x .now) given (x′ .now) kept)
         (record { quantum = quantum; threshold = threshold .now; output = output .now })))))) (id⊢ 𝓤 _) $
         pick ! (λ vs. split ! $ move ! (1 ∷ []) $
         heard ! (_≡_ {A = ServeResult}
-        (record { answer = r; line = vs .1 .1 .1 .1 .0; aside = vs .1 .1 .1 .1 .1 .1 .0; output = vs .1 .1 .1 .1 .1 .1 .1 .1 .1 .1 .0 })
+        (record { answer = r; buffers = record { line = vs .1 .1 .1 .1 .0; aside = vs .1 .1 .1 .1 .1 .1 .0; output = vs .1 .1 .1 .1 .1 .1 .1 .1 .1 .1 .0 } })
         (serveOf (lent-survey (rows .now) (pos .now) (osp .now) survey) (lentAs (x .now) given (x′ .now) kept)
         (record { quantum = quantum; threshold = threshold .now; output = output .now }))) (λ is.
         fsplit ! $ move ! (1 ∷ []) $ fsplit ! $ move ! (1 ∷ []) $ fsplit ! $ move ! (1 ∷ []) $ fsplit ! $ move ! (1 ∷ []) $ fsplit ! $
@@ -459,38 +431,8 @@ module _ {M : Type 1} (𝓤 : URA M) (H : Heap 𝓤) (A : Atoms 𝓤) (W : Given
       → Triple 𝓤 (C #numbers) (Numbers 𝓤 H A mem run) → Walks 𝓤 H A f.ended stayed (WpFn 𝓤 H C Λ code.function) (f.clauses 𝓤 H A mem run)
   sotjarn-serve-walks C Λ fm known-callee known-numbers =
       walked 𝓤 H A f.ended stayed (f.clauses 𝓤 H A mem run) (WpFn 𝓤 H C Λ code.function)
-      (λ κs. (
-        slice-vals,
-        (
-          slice-vals,
-          (slice-vals, (uint-vals w32, (slice-vals, (uint-vals w64, (slice-vals, (uint-vals w64, (uint-vals w32, (slice-vals, (slice-vals, tt))))))))),
-        ),
-      ))
-      (λ κs. (
-        shr-slice-tells (named 0) (κs .0) u32,
-        (
-          shr-slice-tells (named 1) (κs .1 .0) u32,
-          (
-            shr-slice-tells (named 2) (κs .1 .1 .0) u32,
-            (
-              uint-tells w32,
-              (
-                mut-slice-tells (named 3) (κs .1 .1 .1 .0) T.the-row,
-                (
-                  uint-tells w64,
-                  (
-                    mut-slice-tells (named 4) (κs .1 .1 .1 .1 .0) T.the-row,
-                    (
-                      uint-tells w64,
-                      (uint-tells w32, (shr-slice-tells (named 5) (κs .1 .1 .1 .1 .1 .0) u32, (mut-slice-tells (named 6) (κs .1 .1 .1 .1 .1 .1 .0) u32, tt))),
-                    ),
-                  ),
-                ),
-              ),
-            ),
-          ),
-        ),
-      ))
+      spelt
+      told-by
       (λ κs qs bounds a g are. via 𝓤 _ (fst∗ 𝓤 _ (emp 𝓤)) (
       walk 𝓤 H A W mem run (κs .0) (κs .1 .0) (κs .1 .1 .0) (κs .1 .1 .1 .0) (κs .1 .1 .1 .1 .0) (κs .1 .1 .1 .1 .1 .0) (κs .1 .1 .1 .1 .1 .1 .0)
       (qs .0) (qs .1 .0) (qs .1 .1 .0) (qs .1 .1 .1 .0) (qs .1 .1 .1 .1 .0) (qs .1 .1 .1 .1 .1 .0) (qs .1 .1 .1 .1 .1 .1 .0) (a .0) (a .1 .0) (a .1 .1 .0)
@@ -505,34 +447,7 @@ sotjarn-serve-meets : {M : Type 1} (𝓤 : URA M) (H : Heap 𝓤) (A : Atoms �
     → Triple 𝓤 (𝓣 .C #callee) (Call 𝓤 H A mem run) → Triple 𝓤 (𝓣 .C #numbers) (Numbers 𝓤 H A mem run)
     → Meets 𝓤 H A f.signature (WpFn 𝓤 H (𝓣 .C) (𝓣 .Λ) code.function) (f.spec 𝓤 H A mem run)
 sotjarn-serve-meets 𝓤 H A W mem run 𝓣 known-callee known-numbers =
-    walk-meets 𝓤 H A f.ended stayed W (
-      goes-none-slice 𝓤 H A W 7 (0 ∷ []) tt (plain (λ _. u32)) yes,
-      (
-        goes-none-slice 𝓤 H A W 7 (1 ∷ []) tt (plain (λ _. u32)) yes,
-        (
-          goes-none-slice 𝓤 H A W 7 (2 ∷ []) tt (plain (λ _. u32)) yes,
-          (
-            goes-none 𝓤 H A W 7 (λ _. u32) yes (λ κs x f. refl),
-            (
-              goes-gave-slice 𝓤 H A W 7 3 tt (plain (λ _. T.the-row)),
-              (
-                goes-none 𝓤 H A W 7 (λ _. usize) yes (λ κs x f. refl),
-                (
-                  goes-gave-slice 𝓤 H A W 7 4 tt (plain (λ _. T.the-row)),
-                  (
-                    goes-none 𝓤 H A W 7 (λ _. usize) yes (λ κs x f. refl),
-                    (
-                      goes-none 𝓤 H A W 7 (λ _. u32) yes (λ κs x f. refl),
-                      (goes-none-slice 𝓤 H A W 7 (5 ∷ []) tt (plain (λ _. u32)) yes, (goes-gave-slice 𝓤 H A W 7 6 tt (plain (λ _. u32)), tt)),
-                    ),
-                  ),
-                ),
-              ),
-            ),
-          ),
-        ),
-      ),
-    )
+    walk-meets 𝓤 H A f.ended stayed W (all-go 𝓤 H A W)
     (f.clauses 𝓤 H A mem run) (WpFn 𝓤 H (𝓣 .C) (𝓣 .Λ) code.function) (WpFn-mono 𝓤 H (W .laws) 𝓣 code.function)
     (sotjarn-serve-walks 𝓤 H A W mem run (𝓣 .C) (𝓣 .Λ) (fmOf 𝓤 H (W .laws) 𝓣) known-callee known-numbers)
 

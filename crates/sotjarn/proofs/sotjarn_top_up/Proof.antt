@@ -23,10 +23,10 @@ use types.Part.{agg, whole, sub, look-in}
 use sound.WpLaws.{FmC, fmOf, WpFn-mono}
 use denote.RattleType.{owns}
 use denote.Laws.{Is, shows}
-use denote.Plain.{uint-makes, uint-vals, uint-tells}
+use denote.Plain.{uint-makes}
 use denote.Builtin.{usize, u32, u64}
 use denote.Ref.{RefT}
-use denote.Slice.{sliceVal, MutSlice, Room, finally, slice-vals, mut-slice-tells}
+use denote.Slice.{sliceVal, MutSlice, Room, finally}
 use denote.Steps.{owned, peeks, heard, nothing}
 use denote.Struct.Laws as LL
 use denote.Triple.Entry.{Vals, onEntry}
@@ -35,15 +35,13 @@ use denote.Triple.Statement.{Contract, Triple}
 use denote.Triple.Call.{calls-at}
 use denote.Triple.Clauses.{ensured, lasts}
 use denote.Triple.Table.{entered, cited}
-use denote.Triple.Walked.{says, Stays, stay-none, gave-slice, walkOf, goes-none, goes-gave-slice, Walks, ends-at, walked, walk-meets}
-use denote.Exit.{yes}
-use denote.Signature.{plain}
+use denote.Triple.Walked.{says, walkOf, Walks, ends-at, walked, walk-meets}
 use Rattle.queues.specs.declared.Entry.{Entry}
 use Rattle.queues.proofs.Entry as T
 use denote.Enum.Laws as EL
 use Rattle.queues.specs.declared.Queued.{Queued}
 use Rattle.queues.specs.Lists.{lentAs}
-use Rattle.queues.specs.Joining.{QueuedResult}
+use Rattle.queues.specs.Changing.{QueuedResult}
 use Rattle.queues.specs.ToppingUp.{topUpOf}
 use Rattle.queues.proofs.Queued as Q
 use Rattle.queues.proofs.Queued.Laws as Q′
@@ -63,15 +61,7 @@ use Rattle.sotjarn.proofs.sotjarn_top_up.Key.{name as #sotjarn·sotjarn
 use Rattle.sotjarn.proofs.sotjarn_top_up as f
 use Rattle.sotjarn.proofs.sotjarn_top_up.Statement as stated
 use Rattle.sotjarn.proofs.sotjarn_top_up.Code as code
-
-abbrev stayed : Stays (f.ended .signature .params) (f.ended .kept)
-stayed = (
-  gave-slice (0 ∷ []) tt (plain (λ _. T.the-row)),
-  (
-    stay-none (λ _. usize) yes,
-    (gave-slice (1 ∷ []) tt (plain (λ _. T.the-row)), (stay-none (λ _. usize) yes, (stay-none (λ _. u32) yes, (stay-none (λ _. u64) yes, tt)))),
-  ),
-)
+use Rattle.queue_joins.proofs.TopUpSlots.{stayed, spelt, told-by, all-go}
 
 -- ---- what both callees are given, and what they say
 module _ {M : Type 1} (𝓤 : URA M) (H : Heap 𝓤) (A : Atoms 𝓤) (mem : Memory → SProp 𝓤) (run : Routine → Fun 𝓤) where
@@ -152,7 +142,8 @@ module _ {M : Type 1} (𝓤 : URA M) (H : Heap 𝓤) (A : Atoms 𝓤) (W : Given
 
   exits : (r : Queued) (z : QueuedNumbers) (w : Val) (us₀ : List Entry) (us₁ : List Entry) → length us₀ ≡ length (x .now)
       → length us₁ ≡ length (x′ .now)
-      → _≡_ {A = QueuedResult} (record { answer = r; line = us₀; aside = us₁ }) (topUpOf (lentAs (x .now) given (x′ .now) kept) owner amount)
+      → _≡_ {A = QueuedResult} (record { answer = r; buffers = record { line = us₀; aside = us₁ } })
+      (topUpOf (lentAs (x .now) given (x′ .now) kept) owner amount)
       → z ≡ queuedNumbers r
       → ent 𝓤 (⋆ 𝓤 H A
       (‵ (flft κ₀ q₀) ∷ ‵ (flft κ₁ q₁) ∷ ‵ (finally T.the-row (x .name) us₀) ∷ ‵ (finally T.the-row (x′ .name) us₁) ∷ ‵
@@ -166,7 +157,7 @@ module _ {M : Type 1} (𝓤 : URA M) (H : Heap 𝓤) (A : Atoms 𝓤) (W : Given
       (us₀, (tt, (us₁, (tt, (tt, (tt, tt)))))) (lu₀, (tt, (lu₁, (tt, (tt, (tt, tt))))))) $ says ! (
         its
             ∙ ap (λ (o : QueuedResult). queuedNumbers (o .answer)) is,
-        (ap (λ (o : QueuedResult). o .line) is, ap (λ (o : QueuedResult). o .aside) is),
+        (ap (λ (o : QueuedResult). o .buffers .line) is, ap (λ (o : QueuedResult). o .buffers .aside) is),
       ) $
       nothing ! $ move ! (2 ∷ 0 ∷ []) $ join ! $ move ! (1 ∷ 0 ∷ []) $ join ! $ nothing ! $
       owned ! u64 (Is u64) (uint-makes 𝓤 H A W w64) amount _ (refl, amount-fits) $ fjoin ! $
@@ -227,10 +218,10 @@ module _ {M : Type 1} (𝓤 : URA M) (H : Heap 𝓤) (A : Atoms 𝓤) (W : Given
         await ! tt $ pick ! (λ r. split ! $ move ! (1 ∷ []) $ use1 W (some
         (λ (vs : List Entry × (Unit {0} × (List Entry × (Unit {0} × (Unit {0} × (Unit {0} × Unit {0})))))). ‵
         (lasts callee.ended (κ₀, (κ₁, tt)) (x, (given, (x′, (kept, (owner, (amount, tt)))))) vs) ⊛ raw
-        (fact 𝓤 (_≡_ {A = QueuedResult} (record { answer = r; line = vs .0; aside = vs .1 .1 .0 })
+        (fact 𝓤 (_≡_ {A = QueuedResult} (record { answer = r; buffers = record { line = vs .0; aside = vs .1 .1 .0 } })
         (topUpOf (lentAs (x .now) given (x′ .now) kept) owner amount))))) (id⊢ 𝓤 _) $
         pick ! (λ vs. split ! $ move ! (1 ∷ []) $
-        heard ! (_≡_ {A = QueuedResult} (record { answer = r; line = vs .0; aside = vs .1 .1 .0 })
+        heard ! (_≡_ {A = QueuedResult} (record { answer = r; buffers = record { line = vs .0; aside = vs .1 .1 .0 } })
         (topUpOf (lentAs (x .now) given (x′ .now) kept) owner amount)) (λ is.
         fsplit ! $ fsplit ! $ move ! (1 ∷ []) $ feqL ! (λ len₀.
         move ! (1 ∷ []) $ fsplit ! $ move ! (1 ∷ []) $ fsplit ! $ fsplit ! $ move ! (1 ∷ []) $ feqL ! (λ len₂.
@@ -260,11 +251,8 @@ module _ {M : Type 1} (𝓤 : URA M) (H : Heap 𝓤) (A : Atoms 𝓤) (W : Given
       → Triple 𝓤 (C #numbers) (Numbers 𝓤 H A mem run) → Walks 𝓤 H A f.ended stayed (WpFn 𝓤 H C Λ code.function) (f.clauses 𝓤 H A mem run)
   sotjarn-top-up-walks C Λ fm known-callee known-numbers =
       walked 𝓤 H A f.ended stayed (f.clauses 𝓤 H A mem run) (WpFn 𝓤 H C Λ code.function)
-      (λ κs. (slice-vals, (uint-vals w64, (slice-vals, (uint-vals w64, (uint-vals w32, (uint-vals w64, tt)))))))
-      (λ κs. (
-        mut-slice-tells (named 0) (κs .0) T.the-row,
-        (uint-tells w64, (mut-slice-tells (named 1) (κs .1 .0) T.the-row, (uint-tells w64, (uint-tells w32, (uint-tells w64, tt))))),
-      ))
+      spelt
+      told-by
       (λ κs qs bounds a g are. via 𝓤 _ (fst∗ 𝓤 _ (emp 𝓤)) (
       walk 𝓤 H A W mem run (κs .0) (κs .1 .0) (qs .0) (qs .1 .0) (a .0) (a .1 .0) (a .1 .1 .0) (a .1 .1 .1 .0) (a .1 .1 .1 .1 .0) (a .1 .1 .1 .1 .1 .0)
       (are .0 .0 .1) (are .1 .1 .0 .0 .1) (are .1 .0 .1) (are .1 .1 .1 .0 .1) (are .1 .1 .1 .1 .0 .1) (are .1 .1 .1 .1 .1 .0 .1) C Λ fm known-callee
@@ -275,19 +263,7 @@ sotjarn-top-up-meets : {M : Type 1} (𝓤 : URA M) (H : Heap 𝓤) (A : Atoms �
     → Triple 𝓤 (𝓣 .C #callee) (Call 𝓤 H A mem run) → Triple 𝓤 (𝓣 .C #numbers) (Numbers 𝓤 H A mem run)
     → Meets 𝓤 H A f.signature (WpFn 𝓤 H (𝓣 .C) (𝓣 .Λ) code.function) (f.spec 𝓤 H A mem run)
 sotjarn-top-up-meets 𝓤 H A W mem run 𝓣 known-callee known-numbers =
-    walk-meets 𝓤 H A f.ended stayed W (
-      goes-gave-slice 𝓤 H A W 2 0 tt (plain (λ _. T.the-row)),
-      (
-        goes-none 𝓤 H A W 2 (λ _. usize) yes (λ κs x f. refl),
-        (
-          goes-gave-slice 𝓤 H A W 2 1 tt (plain (λ _. T.the-row)),
-          (
-            goes-none 𝓤 H A W 2 (λ _. usize) yes (λ κs x f. refl),
-            (goes-none 𝓤 H A W 2 (λ _. u32) yes (λ κs x f. refl), (goes-none 𝓤 H A W 2 (λ _. u64) yes (λ κs x f. refl), tt)),
-          ),
-        ),
-      ),
-    )
+    walk-meets 𝓤 H A f.ended stayed W (all-go 𝓤 H A W)
     (f.clauses 𝓤 H A mem run) (WpFn 𝓤 H (𝓣 .C) (𝓣 .Λ) code.function) (WpFn-mono 𝓤 H (W .laws) 𝓣 code.function)
     (sotjarn-top-up-walks 𝓤 H A W mem run (𝓣 .C) (𝓣 .Λ) (fmOf 𝓤 H (W .laws) 𝓣) known-callee known-numbers)
 
