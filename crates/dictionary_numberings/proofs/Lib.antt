@@ -4,3 +4,4 @@ pub mod Repeats
 pub mod Numbered
 pub mod Places
 pub mod NumberCall
+pub mod Worked
