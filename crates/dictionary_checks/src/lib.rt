@@ -1,5 +1,8 @@
-// Whether bytes are well-formed UTF-8, in one pass; one byte's step of it, which character_passes takes too.
+// Whether bytes are well-formed UTF-8: in one pass, and where all are ASCII in a quicker one; one byte's step of it, which character_passes takes too.
 ghost use mathlib.Core.Path.{_≡_};
+ghost use mathlib.Core.Bool.{cond};
+ghost use lib.Dec.{ltb};
+ghost use Rattle.sequences.specs.Sequences.{all};
 ghost use Rattle.dictionaries.specs.Utf8.{span, isIn, wellFormed};
 ghost use Rattle.dictionary_checks.specs.Steps.{firstStep, laterStep, nextStep, nothingLeft};
 
@@ -102,7 +105,8 @@ pub fn nothing_left(rest: Rest) -> bool
     }
 }
 
-pub fn well_formed(bytes: &[u8]) -> bool
+// Whether `bytes` are well-formed, by a step for each.
+fn steps_formed(bytes: &[u8]) -> bool
     ensures { λ r. ⌜ r ≡ wellFormed (now (bytes .entry)) ⌝ }
 {
     let mut rest = Rest::Nothing;
@@ -118,4 +122,36 @@ pub fn well_formed(bytes: &[u8]) -> bool
         }
     }
     nothing_left(rest)
+}
+
+fn greater(a: u8, b: u8) -> u8
+    ensures { λ r. ⌜ r ≡ cond (ltb a b) b a ⌝ }
+{
+    if a < b {
+        return b;
+    }
+    a
+}
+
+// Whether all `bytes` are ASCII. The greatest tells, and no byte ends the loop, so that compilers take many bytes at once.
+fn is_ascii(bytes: &[u8]) -> bool
+    ensures { λ r. ⌜ r ≡ all (isIn (span 0x00 0x7F)) (now (bytes .entry)) ⌝ }
+{
+    let mut greatest: u8 = 0;
+    let mut i: usize = 0;
+    while i < bytes.len() {
+        greatest = greater(greatest, bytes[i]);
+        i += 1;
+    }
+    greatest <= 0x7F
+}
+
+// Whether `bytes` are well-formed: ASCII always is, and most strings are ASCII.
+pub fn well_formed(bytes: &[u8]) -> bool
+    ensures { λ r. ⌜ r ≡ wellFormed (now (bytes .entry)) ⌝ }
+{
+    if is_ascii(bytes) {
+        return true;
+    }
+    steps_formed(bytes)
 }

@@ -1,5 +1,7 @@
 pub mod Once
 pub mod Cutting
 pub mod Repeats
-pub mod Places
 pub mod Numbered
+pub mod Places
+pub mod NumberCall
+pub mod Worked

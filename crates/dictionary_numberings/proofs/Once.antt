@@ -1,10 +1,10 @@
 -- Each string once: the strings ascend, and are exactly those that were given.
-use Prim.Native.Nat.{ℕ, suc, _≤_}
+use Prim.Native.Nat.{ℕ, suc, _+_, _≤_}
 use native.Mathlib.Omega.{arith}
 use mathlib.Core.Path.{_≡_, refl, sym, _∙_, ap}
 use mathlib.Core.Bool.{Bool, true, false, _||_}
-use mathlib.Core.List.{List, [], _∷_}
-use lib.ListN.{length}
+use mathlib.Core.List.{List, [], _∷_, _++_, flatten}
+use lib.ListN.{length, length-append}
 use Rattle.sequences.proofs.Booleans.{Decided, yes, no, decided}
 use Rattle.sequences.proofs.Each.{Each}
 use Rattle.sequences.proofs.Ascending.{Ascending, ahead-less}
@@ -78,6 +78,21 @@ pub once-length : (ss : List (List ℕ)) → length (stringsOnce ss) ≤ length 
 unfolding stringsOnce
 once-length [] = omega arith
 once-length (s ∷ ss) = let i = once-length ss in let j = insert-length s (stringsOnce ss) in omega arith
+
+insert-size : (s : List ℕ) (xs : List (List ℕ)) → length (flatten (insertOnce s xs)) ≤ length s + length (flatten xs)
+unfolding flatten
+insert-size s [] = rw (put-none s) (omega (arith, length-append s []))
+insert-size s (x ∷ xs) =
+    let i = insert-size s xs in
+    let l = length-append x (flatten xs) in
+    by-cases (λ l. length (flatten l) ≤ length s + length (x ++ flatten xs)) s x xs
+    (λ e. omega (arith, length-append s (x ++ flatten xs))) (λ e. omega (arith, length-append x (flatten (insertOnce s xs)))) (λ e. omega arith)
+
+-- nor longer together
+pub once-size : (ss : List (List ℕ)) → length (flatten (stringsOnce ss)) ≤ length (flatten ss)
+unfolding stringsOnce flatten
+once-size [] = omega arith
+once-size (s ∷ ss) = let i = once-size ss in let j = insert-size s (stringsOnce ss) in omega (arith, length-append s (flatten ss))
 
 -- ---- exactly these
 pub or-swap : (a b c : Bool) → a || (b || c) ≡ b || (a || c)

@@ -39,7 +39,7 @@ last-each Q (x ∷ y ∷ ys) a =
     ]
 
 -- ---- they ascend
-last-ascends : (xs : List (List ℕ)) → Sorted stringBefore xs → Ascending stringBefore (lastOfEach xs)
+pub last-ascends : (xs : List (List ℕ)) → Sorted stringBefore xs → Ascending stringBefore (lastOfEach xs)
 unfolding lastOfEach
 last-ascends [] s = tt
 last-ascends (x ∷ []) s = (tt, tt)
@@ -51,6 +51,18 @@ last-ascends (x ∷ y ∷ ys) s =
             (y ∷ ys) (s .1),
       )
       | no e ↦ rw e (last-ascends (y ∷ ys) (s .1))
+    ]
+
+-- ---- the first of them is the list's first
+pub last-first : (x : List ℕ) (xs : List (List ℕ)) → Sorted stringBefore (x ∷ xs) → (rest : List (List ℕ)) × (lastOfEach (x ∷ xs) ≡ x ∷ rest)
+unfolding lastOfEach
+last-first x [] s = ([], refl)
+last-first x (y ∷ ys) s =
+    elim (decided (stringBefore x y)) [
+      | yes e ↦ (lastOfEach (y ∷ ys), last-kept x y ys e)
+      | no e ↦
+          let r = last-first y ys (s .1) in
+          (r .0, last-left x y ys e ∙ (r .1 ∙ ap (λ z. z ∷ r .0) (sym (before-equal x y e (s .0 .0)))))
     ]
 
 -- ---- and are the same strings

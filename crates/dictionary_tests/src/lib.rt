@@ -17,7 +17,7 @@ ghost use Rattle.dictionaries.specs.Dictionaries.{stringsOf, endsRight, placeBe
 ghost use Rattle.dictionaries.specs.Checking.{stringRight, dictionaryRight};
 
 // The most strings of a dictionary, so that the number after the last is a value too.
-const MOST_STRINGS: usize = 0x3FFF_FFFF;
+pub const MOST_STRINGS: usize = 0x3FFF_FFFF;
 
 // Whether `s` is a string as `kind` wants it.
 pub fn string_right(kind: StringKind, s: &[u8]) -> bool

@@ -15,10 +15,13 @@ use Rattle.sequences.proofs.Booleans.{or-left, or-right, Decided, yes, no, deci
 use Rattle.dictionaries.specs.Strings.{stringBefore}
 use Rattle.dictionaries.proofs.Checking.{or-rest}
 use Rattle.dictionary_numberings.specs.Numbering.{endsAfter}
-use Rattle.dictionaries.specs.Dictionaries.{stringsOf, placeBefore}
-use Rattle.dictionary_numberings.specs.Sorted.{lastOfEach, stringsAt}
-use Rattle.dictionary_numberings.proofs.Cutting.{ends-length}
+use Rattle.dictionaries.specs.Dictionaries.{stringsOf, endsRight, placeBefore}
+use Rattle.dictionaries.proofs.Searching.{strings-length}
+use Rattle.dictionary_numberings.specs.Sorted.{lastOfEach, sortedPlaces, stringsAt}
+use Rattle.dictionary_numberings.proofs.Once.{once-length, once-size}
+use Rattle.dictionary_numberings.proofs.Cutting.{ends-length, strings-joined}
 use Rattle.dictionary_numberings.proofs.Repeats.{last-kept, last-left}
+use Rattle.dictionary_numberings.proofs.Places.{sorted-strings}
 
 -- ---- one string of a sorted list
 last-one : (x : List ℕ) → lastOfEach (x ∷ []) ≡ x ∷ []
@@ -137,6 +140,18 @@ module _ (whole rest : List (List ℕ)) (out₀ out ends₀ ends : List ℕ) (fi
             ∙ (sym (drop-drop 1 count ends) ∙ (ap (drop 1) (w .ends-behind) ∙ drop-drop 1 count ends₀));
       }
 
+-- no more are written than there are
+pub count-most : (whole rest : List (List ℕ)) (out₀ out ends₀ ends : List ℕ) (filled count : ℕ)
+    → StringsWritten whole rest out₀ out ends₀ ends filled count → count ≤ length whole
+count-most whole rest out₀ out ends₀ ends filled count w =
+    omega (
+      arith,
+      ap length (w .ends-so),
+      length-append (take count ends) (endsAfter filled rest),
+      length-take-le count ends (w .count-in),
+      ends-length 0 whole,
+    )
+
 -- nothing is left to be written
 module _ (whole : List (List ℕ)) (out₀ out ends₀ ends : List ℕ) (filled count : ℕ)
     (w : StringsWritten whole [] out₀ out ends₀ ends filled count) where
@@ -148,10 +163,11 @@ module _ (whole : List (List ℕ)) (out₀ out ends₀ ends : List ℕ) (filled 
   unfolding endsAfter
   ends-are = w .ends-so ∙ append-nil (take count ends)
 
+  pub filled-end : filled ≡ length (flatten whole)
+  filled-end = sym (ap length bytes-are ∙ length-take-le filled out (w .filled-in))
+
   pub bytes-end : out ≡ over (flatten whole) out₀
-  bytes-end =
-      let n : length (flatten whole) ≡ filled = ap length bytes-are ∙ length-take-le filled out (w .filled-in) in
-      sym (take-append-drop filled out) ∙ ap₂ _++_ (sym bytes-are) (w .bytes-behind ∙ ap (λ k. drop k out₀) (sym n))
+  bytes-end = sym (take-append-drop filled out) ∙ ap₂ _++_ (sym bytes-are) (w .bytes-behind ∙ ap (λ k. drop k out₀) filled-end)
 
   count-is : length (endsAfter 0 whole) ≡ count
   count-is = ap length ends-are ∙ length-take-le count ends (w .count-in)
@@ -183,3 +199,16 @@ module _ (bytes ends places : List ℕ) (k : ℕ) (h : k < length places) where
       ap (λ n. eqb (k + 1) n || stringBefore (getD (stringsAt bytes ends places) k []) (getD (stringsAt bytes ends places) (k + 1) []))
       (length-map places (λ p. getD (stringsOf bytes ends) p []))
       ∙ told-by (decided (eqb (k + 1) (length places)))
+
+-- ---- the strings at their sorted places, each once
+abbrev pub sortedStrings : List ℕ → List ℕ → List (List ℕ)
+sortedStrings bytes ends = stringsAt bytes ends (sortedPlaces bytes ends)
+
+-- no longer together than the bytes, and no more than the ends
+module _ (bytes ends : List ℕ) (h : endsRight (length bytes) 0 ends ≡ true) where
+  pub once-bytes : length (flatten (lastOfEach (sortedStrings bytes ends))) ≤ length bytes
+  once-bytes =
+      rw (sorted-strings bytes ends) (omega (arith, once-size (stringsOf bytes ends), ap length (strings-joined bytes 0 ends h)))
+
+  pub once-strings : length (lastOfEach (sortedStrings bytes ends)) ≤ length ends
+  once-strings = rw (sorted-strings bytes ends) (omega (arith, once-length (stringsOf bytes ends), strings-length bytes 0 ends))

@@ -1,19 +1,24 @@
-// Strings written to a dictionary: those at a list of places, without each that is the same as the next.
+// The dictionary of strings by their sorted places: each string once, behind the one before it, and the number of each place's string.
 use dictionary_searches::is_before;
 use dictionary_searches::string;
 ghost use mathlib.Core.Path.{_≡_};
 ghost use mathlib.Core.Bool.{true, _||_};
-ghost use mathlib.Core.List.{flatten};
 ghost use Prim.Native.Nat.{_+_, _≤_, _<_};
 ghost use lib.Dec.{eqb};
 ghost use lib.ListN.{length, getD};
 ghost use lib.Seq.{paste};
 ghost use Rattle.sequences.specs.Sequences.{all, over};
-ghost use Rattle.dictionaries.specs.Dictionaries.{endsRight, hasString, placeBefore};
-ghost use Rattle.dictionary_numberings.specs.Numbering.{endsAfter};
-ghost use Rattle.dictionary_numberings.specs.Sorted.{lastOfEach, stringsAt};
+ghost use Rattle.dictionaries.specs.Dictionaries.{stringsOf, endsRight, mostStrings, hasString, placeBefore};
+ghost use Rattle.dictionary_numberings.specs.Numbering.{stringsOnce, bytesOnce, endsOnce, stringNumbers};
+ghost use Rattle.dictionary_numberings.specs.Sorted.{sortedPlaces};
 
-// Copies `bytes` to `buf`, from `a` on.
+// How much was written.
+pub struct Extent {
+    pub bytes: usize,
+    pub strings: usize,
+}
+
+// Copies `bytes` to `buf` from place `a` on.
 fn copy_bytes(buf: &mut [u8], a: usize, bytes: &[u8])
     requires { ⌜ a + length (now bytes) ≤ length (now buf) ⌝ }
     ensures { λ _. ⌜ now (buf .exit) ≡ paste (now (buf .entry)) a (now (bytes .entry)) (length (now (bytes .entry))) ⌝ }
@@ -26,7 +31,7 @@ fn copy_bytes(buf: &mut [u8], a: usize, bytes: &[u8])
     }
 }
 
-// Whether the string at `places[k]` is the last, or comes before the next.
+// Whether the string of entry `k` of `places` is the last, or comes before the next.
 fn is_last(bytes: &[u8], ends: &[u32], places: &[u32], k: usize) -> bool
     requires { ⌜ endsRight (length (now bytes)) 0 (now ends) ≡ true ⌝ }
     requires { ⌜ all (hasString (now ends)) (now places) ≡ true ⌝ }
@@ -45,31 +50,34 @@ fn is_last(bytes: &[u8], ends: &[u32], places: &[u32], k: usize) -> bool
     )
 }
 
-// Writes the strings at `places` one behind the other to `out`, and their ends to `cuts`; answers how many they are.
+// Writes the strings that are cut off `bytes` at `ends`, by their sorted `places`: each once to `out` and its end to `cuts`, and to `numbers` the number
+// of each.
 pub fn write_strings(
     bytes: &[u8],
     ends: &[u32],
     places: &[u32],
     out: &mut [u8],
     cuts: &mut [u32],
-) -> usize
+    numbers: &mut [u32],
+) -> Extent
     requires { ⌜ endsRight (length (now bytes)) 0 (now ends) ≡ true ⌝ }
-    requires { ⌜ all (hasString (now ends)) (now places) ≡ true ⌝ }
-    requires { ⌜ (length (flatten (lastOfEach (stringsAt (now bytes) (now ends) (now places)))) ≤ length (now out))
-        × (length (flatten (lastOfEach (stringsAt (now bytes) (now ends) (now places)))) < 4294967296) ⌝ }
-    requires { ⌜ length (lastOfEach (stringsAt (now bytes) (now ends) (now places))) ≤ length (now cuts) ⌝ }
-    ensures { λ r. ⌜ r ≡ length (lastOfEach (stringsAt (now (bytes .entry)) (now (ends .entry)) (now (places .entry)))) ⌝ }
-    ensures bytes { λ _. ⌜ now (out .exit)
-        ≡ over (flatten (lastOfEach (stringsAt (now (bytes .entry)) (now (ends .entry)) (now (places .entry))))) (now (out .entry)) ⌝ }
-    ensures ends { λ _. ⌜ now (cuts .exit)
-        ≡ over (endsAfter 0 (lastOfEach (stringsAt (now (bytes .entry)) (now (ends .entry)) (now (places .entry))))) (now (cuts .entry)) ⌝ }
+    requires { ⌜ now places ≡ sortedPlaces (now bytes) (now ends) ⌝ }
+    requires { ⌜ (length (now ends) ≤ mostStrings) × (length (now numbers) ≡ length (now ends)) ⌝ }
+    requires { ⌜ (length (now bytes) ≤ length (now out)) × (length (now ends) ≤ length (now cuts)) ⌝ }
+    ensures { λ r. ⌜ (r .bytes ≡ length (bytesOnce (stringsOf (now (bytes .entry)) (now (ends .entry)))))
+        × (r .strings ≡ length (stringsOnce (stringsOf (now (bytes .entry)) (now (ends .entry))))) ⌝ }
+    ensures bytes { λ _. ⌜ now (out .exit) ≡ over (bytesOnce (stringsOf (now (bytes .entry)) (now (ends .entry)))) (now (out .entry)) ⌝ }
+    ensures ends { λ _. ⌜ now (cuts .exit) ≡ over (endsOnce (stringsOf (now (bytes .entry)) (now (ends .entry)))) (now (cuts .entry)) ⌝ }
+    ensures numbers { λ _. ⌜ now (numbers .exit) ≡ stringNumbers (stringsOf (now (bytes .entry)) (now (ends .entry))) ⌝ }
 {
     let mut filled: usize = 0;
     let mut count: usize = 0;
     let mut k: usize = 0;
     while k < places.len() {
+        let place = words::wide(places[k]);
+        numbers[place] = count as u32;
         if is_last(bytes, ends, places, k) {
-            let s = string(bytes, ends, words::wide(places[k]));
+            let s = string(bytes, ends, place);
             copy_bytes(out, filled, s);
             filled += s.len();
             cuts[count] = filled as u32;
@@ -79,5 +87,8 @@ pub fn write_strings(
             k += 1;
         }
     }
-    count
+    Extent {
+        bytes: filled,
+        strings: count,
+    }
 }
