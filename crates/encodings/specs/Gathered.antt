@@ -1,30 +1,16 @@
 -- The dictionaries of just the strings of some terms: each string once, in order, one behind the other. Assumes nothing: these are definitions.
-use Prim.Native.Nat.{ℕ, _+_, _≤_}
+use Prim.Native.Nat.{ℕ, _≤_}
 use mathlib.Core.Path.{_≡_}
-use mathlib.Core.Bool.{true, cond}
-use mathlib.Core.List.{List, [], _∷_, flatten}
+use mathlib.Core.Bool.{true}
+use mathlib.Core.List.{List, [], _∷_}
 use lib.ListN.{length}
 use Rattle.sequences.specs.Sequences.{all}
-use Rattle.dictionaries.specs.Strings.{stringBefore}
 use Rattle.dictionaries.specs.Utf8.{wellFormed}
 use Rattle.dictionaries.specs.Dictionaries.{mostStrings}
+use Rattle.dictionary_numberings.specs.Numbering.{bytesOnce, endsOnce}
 use Rattle.sparql.specs.Terms.{iri, integer, text}
 use Rattle.sparql_strings.specs.Strings.{Dictionaries}
 use Rattle.encodings.specs.Encodings.{StringTerm}
-
--- a string put where it belongs, once
-unfoldable pub putString : List ℕ → List (List ℕ) → List (List ℕ)
-putString s [] = s ∷ []
-putString s (x ∷ xs) = cond (stringBefore s x) (s ∷ x ∷ xs) (cond (stringBefore x s) (x ∷ putString s xs) (x ∷ xs))
-
-unfoldable pub ascendingStrings : List (List ℕ) → List (List ℕ)
-ascendingStrings [] = []
-ascendingStrings (s ∷ ss) = putString s (ascendingStrings ss)
-
--- where each of some strings ends, laid one behind the other from a place on
-unfoldable pub endsFrom : ℕ → List (List ℕ) → List ℕ
-endsFrom a [] = []
-endsFrom a (s ∷ ss) = (a + length s) ∷ endsFrom (a + length s) ss
 
 -- the names and the texts of some terms
 abbrev pub ifName : StringTerm → List (List ℕ) → List (List ℕ)
@@ -48,10 +34,10 @@ textsIn (x ∷ xs) = ifText x (textsIn xs)
 abbrev pub dictionariesOf : List StringTerm → Dictionaries
 dictionariesOf xs =
     record {
-      nameBytes = flatten (ascendingStrings (namesIn xs));
-      nameEnds = endsFrom 0 (ascendingStrings (namesIn xs));
-      textBytes = flatten (ascendingStrings (textsIn xs));
-      textEnds = endsFrom 0 (ascendingStrings (textsIn xs));
+      nameBytes = bytesOnce (namesIn xs);
+      nameEnds = endsOnce (namesIn xs);
+      textBytes = bytesOnce (textsIn xs);
+      textEnds = endsOnce (textsIn xs);
     }
 
 -- strings that a dictionary may have: well-formed UTF-8, and not too many
