@@ -38,11 +38,11 @@ at-rank ss a s e =
     let z : w .0 ≡ stringRank ss s = cc in
     subst (StandsAt s ss) z (w .1)
 
-module _ (k : StringKind) (ss : List (List ℕ)) (h : stringsRight k ss ≡ true) where
-  -- the dictionary's strings are these
-  pub cut-again : stringsOf (bytesOnce ss) (endsOnce ss) ≡ stringsOnce ss
-  cut-again = strings-cut (bytesOnce ss) 0 (stringsOnce ss) refl
+-- the dictionary's strings are these
+pub cut-again : (ss : List (List ℕ)) → stringsOf (bytesOnce ss) (endsOnce ss) ≡ stringsOnce ss
+cut-again ss = strings-cut (bytesOnce ss) 0 (stringsOnce ss) refl
 
+module _ (k : StringKind) (ss : List (List ℕ)) (h : stringsRight k ss ≡ true) where
   right-test : dictionaryRight k (bytesOnce ss) (endsOnce ss) ≡ true
   unfolding dictionaryRight
   right-test =
@@ -51,8 +51,8 @@ module _ (k : StringKind) (ss : List (List ℕ)) (h : stringsRight k ss ≡ true
       let l = ends-length 0 (stringsOnce ss) in
       let each = each-all (stringRight k) (stringsOnce ss)
       (once-each (λ s. stringRight k s ≡ true) ss (all-each (stringRight k) ss (and-right (leb (length ss) mostStrings) (all (stringRight k) ss) h))) in
-      let kinds : all (stringRight k) (stringsOf (bytesOnce ss) (endsOnce ss)) ≡ true = rw cut-again each in
-      let ascends : neighbours stringBefore (stringsOf (bytesOnce ss) (endsOnce ss)) ≡ true = rw cut-again
+      let kinds : all (stringRight k) (stringsOf (bytesOnce ss) (endsOnce ss)) ≡ true = rw (cut-again ss) each in
+      let ascends : neighbours stringBefore (stringsOf (bytesOnce ss) (endsOnce ss)) ≡ true = rw (cut-again ss)
       (ascending-neighbours stringBefore (stringsOnce ss) (once-ascends ss)) in
       and-both _ _ (le-leb (length (endsOnce ss)) mostStrings (omega arith))
       (and-both _ _ (ends-cut (length (bytesOnce ss)) 0 (stringsOnce ss) (omega arith)) (and-both _ _ kinds ascends))
@@ -79,10 +79,10 @@ module _ (k : StringKind) (ss : List (List ℕ)) (h : stringsRight k ss ≡ true
   numbered =
       record {
         right = tested k (bytesOnce ss) (endsOnce ss) .0 right-test;
-        exactly = λ s. rw cut-again (once-among ss s);
+        exactly = λ s. rw (cut-again ss) (once-among ss s);
         each = length-map ss (stringRank (stringsOnce ss));
         within = λ i l. rw (number-at i l, ends-length 0 (stringsOnce ss)) (stands-at i l .within);
-        stands = λ i l. rw (number-at i l, cut-again) (stands-at i l .is);
+        stands = λ i l. rw (number-at i l, cut-again ss) (stands-at i l .is);
         same = λ i j l m. (
           λ e. sym (stands-at i l .is) ∙ (ap (λ n. getD (stringsOnce ss) n []) (sym (number-at i l) ∙ (e ∙ number-at j m)) ∙ stands-at j m .is),
           λ e. number-at i l ∙ (ap (stringRank (stringsOnce ss)) e ∙ sym (number-at j m)),

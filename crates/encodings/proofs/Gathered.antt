@@ -19,7 +19,8 @@ use Rattle.dictionaries.specs.Lookups.{lookupIn}
 use Rattle.dictionaries.proofs.Strings.{same-self}
 use Rattle.dictionary_numberings.specs.Numbering.{stringsOnce, bytesOnce, endsOnce}
 use Rattle.dictionary_numberings.proofs.Once.{once-each, once-ascends, once-length, once-among}
-use Rattle.dictionary_numberings.proofs.Cutting.{ends-length, ends-cut, strings-cut}
+use Rattle.dictionary_numberings.proofs.Cutting.{ends-length, ends-cut}
+use Rattle.dictionary_numberings.proofs.Numbered.{cut-again}
 use Rattle.sparql.specs.Terms.{iri, integer, text}
 use Rattle.sparql_strings.specs.Decoding.{termDecoded}
 use Rattle.sparql_strings.specs.Strings.{Dictionaries, RightDictionaries, decoding}
@@ -28,9 +29,6 @@ use Rattle.encodings.specs.Gathered.{namesIn, textsIn, dictionariesOf, S
 use Rattle.encodings.proofs.Encoded.{encoded}
 
 -- ---- a right dictionary
-strings-again : (ss : List (List ℕ)) → stringsOf (bytesOnce ss) (endsOnce ss) ≡ stringsOnce ss
-strings-again ss = strings-cut (bytesOnce ss) 0 (stringsOnce ss) refl
-
 pub dictionary-right : (ss : List (List ℕ)) → StringsRight ss → RightDictionary (bytesOnce ss) (endsOnce ss)
 dictionary-right ss r =
     let us = stringsOnce ss in
@@ -41,9 +39,9 @@ dictionary-right ss r =
       cut = ends-cut (length (bytesOnce ss)) 0 us (omega arith);
       few = le-leb (length (endsOnce ss)) mostStrings (omega arith);
       formed =
-          ap (all wellFormed) (strings-again ss)
+          ap (all wellFormed) (cut-again ss)
           ∙ each-all wellFormed us (once-each (λ s. wellFormed s ≡ true) ss (all-each wellFormed ss (r .formed)));
-      ascend = ap (neighbours stringBefore) (strings-again ss) ∙ ascending-neighbours stringBefore us (once-ascends ss);
+      ascend = ap (neighbours stringBefore) (cut-again ss) ∙ ascending-neighbours stringBefore us (once-ascends ss);
     }
 
 pub dictionaries-right : (xs : List StringTerm) → TermsRight xs → RightDictionaries (dictionariesOf xs)
@@ -51,7 +49,7 @@ dictionaries-right xs r = record { names = dictionary-right (namesIn xs) (r .nam
 
 -- no string is in it that is not among the given ones, and none is missing
 pub dictionary-exact : (ss : List (List ℕ)) (z : List ℕ) → isAmong (stringsOf (bytesOnce ss) (endsOnce ss)) z ≡ isAmong ss z
-dictionary-exact ss z = ap (λ l. isAmong l z) (strings-again ss) ∙ once-among ss z
+dictionary-exact ss z = ap (λ l. isAmong l z) (cut-again ss) ∙ once-among ss z
 
 -- ---- terms have words, but for whole numbers that are out of their 30 bits
 found-word : (ss : List (List ℕ)) (s : List ℕ) (kind : ℕ → ℕ) → isAmong ss s ≡ true
