@@ -1,10 +1,10 @@
 -- Comparisons by cases. Of two numbers, or of two texts, the places in the order of keys are in the order of the values.
-use Prim.Native.Nat.{ℕ, _+_, _*_, _<_}
+use Prim.Native.Nat.{ℕ, suc, _+_, _*_, _<_}
 use native.Mathlib.Omega.{arith}
-use mathlib.Core.Path.{_≡_, refl, sym, ap, _∙_}
+use mathlib.Core.Path.{_≡_, refl, sym, ap, ap₂, _∙_}
 use mathlib.Core.Bool.{Bool, true, false, _||_}
 use lib.Dec.{eqb, ltb, leb}
-use borrow.Author.Tests.{eqb-true, eq-eqb, ne-eqb, lt-ltb, le-ltb, le-leb, lt-leb, ltb-true, ltb-false, leb-true, leb-false}
+use borrow.Author.Tests.{eqb-true, eq-eqb, ne-eqb, le-leb, lt-leb, leb-true, leb-false}
 use Rattle.words.specs.Words.{termKind, termValues, valueRank, keyRank, numberKind, textKind, variableKind}
 use Rattle.sequences.proofs.Booleans.{and-left, and-right}
 use Rattle.words.proofs.Ranks.{rank-bound}
@@ -43,29 +43,26 @@ module _ (a b : ℕ) (e : termKind a ≡ termKind b) (k : termKind b < variableK
     rank-bound b (omega arith),
   )
 
-  pub less-ranks : ltb (valueRank a) (valueRank b) ≡ ltb (keyRank a) (keyRank b)
-  less-ranks = go (ltb (keyRank a) (keyRank b)) refl
-    where
-      go : (t : Bool) → ltb (keyRank a) (keyRank b) ≡ t → ltb (valueRank a) (valueRank b) ≡ t
-      go true p = lt-ltb (valueRank a) (valueRank b) (omega (arith, ltb-true (keyRank a) (keyRank b) p, apart .0, apart .1))
-      go false p = le-ltb (valueRank a) (valueRank b) (omega (arith, ltb-false (keyRank a) (keyRank b) p, apart .0, apart .1))
+  ranks-as-values : (test : ℕ → ℕ → Bool) → ((n x y : ℕ) → test (n + x) (n + y) ≡ test x y)
+      → test (valueRank a) (valueRank b) ≡ test (keyRank a) (keyRank b)
+  ranks-as-values test moved = sym (ap₂ test (apart .0) (apart .1) ∙ moved (1 + termKind b * termValues) (valueRank a) (valueRank b))
 
-  pub at-most-ranks : leb (valueRank a) (valueRank b) ≡ leb (keyRank a) (keyRank b)
-  at-most-ranks = go (leb (keyRank a) (keyRank b)) refl
-    where
-      go : (t : Bool) → leb (keyRank a) (keyRank b) ≡ t → leb (valueRank a) (valueRank b) ≡ t
-      go true p = le-leb (valueRank a) (valueRank b) (omega (arith, leb-true (keyRank a) (keyRank b) p, apart .0, apart .1))
-      go false p = lt-leb (valueRank a) (valueRank b) (omega (arith, leb-false (keyRank a) (keyRank b) p, apart .0, apart .1))
+-- ---- inequalities: numbers are in the order in which they are with the same added to both
+pub at-most-moved : (n x y : ℕ) → leb (n + x) (n + y) ≡ leb x y
+at-most-moved n x y = go (leb x y) refl
+  where
+    go : (t : Bool) → leb x y ≡ t → leb (n + x) (n + y) ≡ t
+    go true p = le-leb (n + x) (n + y) (omega (arith, leb-true x y p))
+    go false p = lt-leb (n + x) (n + y) (omega (arith, leb-false x y p))
 
--- ---- inequalities
+pub less-moved : (n x y : ℕ) → ltb (n + x) (n + y) ≡ ltb x y
+less-moved n x y = let e : suc (n + x) ≡ n + suc x = omega arith in ap (λ z. leb z (n + y)) e ∙ at-most-moved n (suc x) y
+
 module _ (a b : ℕ) where
-  pub less-ordered : haveOrder a b ≡ true → inequality ltb a b ≡ ofTest (ltb (keyRank a) (keyRank b))
+  pub ordered-test : (test : ℕ → ℕ → Bool) → ((n x y : ℕ) → test (n + x) (n + y) ≡ test x y) → haveOrder a b ≡ true
+      → inequality test a b ≡ ofTest (test (keyRank a) (keyRank b))
   unfolding inequality
-  less-ordered e = rw (e, less-ranks a b (one-kind a b e .0) (one-kind a b e .1))
-
-  pub at-most-ordered : haveOrder a b ≡ true → inequality leb a b ≡ ofTest (leb (keyRank a) (keyRank b))
-  unfolding inequality
-  at-most-ordered e = rw (e, at-most-ranks a b (one-kind a b e .0) (one-kind a b e .1))
+  ordered-test test moved e = rw (e, ranks-as-values a b (one-kind a b e .0) (one-kind a b e .1) test moved)
 
   pub no-order : (test : ℕ → ℕ → Bool) → haveOrder a b ≡ false → inequality test a b ≡ Error
   unfolding inequality

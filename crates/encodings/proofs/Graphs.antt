@@ -14,9 +14,10 @@ use Rattle.sequences.proofs.Booleans.{Decided, yes, no, decided}
 use Rattle.tables.specs.Tables.{Tables}
 use Rattle.plans.specs.Plans.{Plan}
 use Rattle.sparql.specs.Terms.{iri, integer, TripleOver, sameTriple}
-use Rattle.sparql.specs.Reading.{tripleIn}
+use Rattle.sparql.specs.Algebra.{unions}
+use Rattle.sparql.specs.Reading.{tripleIn, hasTriple}
 use Rattle.sparql_strings.specs.Carrying.{carryTriple}
-use Rattle.sparql_strings.specs.Decoding.{hasDecoded, unionDecoded, decodedIn}
+use Rattle.sparql_strings.specs.Decoding.{tripleDecoded, branchDecoded, decodedIn}
 use Rattle.sparql_strings.specs.Strings.{byString, Dictionaries, RightDictionaries, decoding}
 use Rattle.encodings.specs.Encodings.{isSigned30, wordOf, wordsOf}
 use Rattle.encodings.specs.StringRows.{StringRow, rowTerms}
@@ -43,9 +44,9 @@ module _ (d : Dictionaries) (r : RightDictionaries d) where
   row-encoded : (q : StringRow) (rows : List StringRow) (year : ℕ) (x : TripleOver byString) (ws : List ℕ) (y s p o : ℕ) (us vs zs rest : List ℕ)
       → ws ≡ y ∷ us → us ≡ s ∷ vs → vs ≡ p ∷ zs → zs ≡ o ∷ rest
       → wordOf d (integer (pos (q .year))) ≡ some y → wordOf d (iri (q .subject)) ≡ some s → wordOf d (iri (q .predicate)) ≡ some p
-      → wordOf d (q .object) ≡ some o → hasDecoded (decoding d) (words.number year) rest x ≡ graphGiven year rows x
-      → hasDecoded (decoding d) (words.number year) ws x ≡ graphGiven year (q ∷ rows) x
-  unfolding hasDecoded graphGiven
+      → wordOf d (q .object) ≡ some o → hasTriple (tripleDecoded (decoding d)) (words.number year) rest x ≡ graphGiven year rows x
+      → hasTriple (tripleDecoded (decoding d)) (words.number year) ws x ≡ graphGiven year (q ∷ rows) x
+  unfolding hasTriple graphGiven
   row-encoded q rows year x ws y s p o us vs zs rest e f g h a b c k l =
       let subject = term-encoded d r (iri (q .subject)) s b in
       let predicate = term-encoded d r (iri (q .predicate)) p c in
@@ -55,14 +56,14 @@ module _ (d : Dictionaries) (r : RightDictionaries d) where
       ap (λ w. eqb w (words.number year)) (year-word d (q .year) y a) ∙ same-years (q .year) year in
       let given : carryTriple (decoding d) (tripleIn s p o) ≡ tripleGiven q =
       λ i. record { subject = subject i; predicate = predicate i; object = object i } in
-      ap (λ us. hasDecoded (decoding d) (words.number year) us x) whole
-      ∙ ap₂ (λ same z. (same && sameTriple x z) || hasDecoded (decoding d) (words.number year) rest x) years given
+      ap (λ us. hasTriple (tripleDecoded (decoding d)) (words.number year) us x) whole
+      ∙ ap₂ (λ same z. (same && sameTriple x z) || hasTriple (tripleDecoded (decoding d)) (words.number year) rest x) years given
       ∙ ap (λ others. (eqb (q .year) year && sameTriple x (tripleGiven q)) || others) l
 
   pub graph-encoded : (rows : List StringRow) (ws : List ℕ) → wordsOf d (rowTerms rows) ≡ some ws → (year : ℕ) (x : TripleOver byString)
-      → hasDecoded (decoding d) (words.number year) ws x ≡ graphGiven year rows x
-  unfolding flatten wordsOf hasDecoded graphGiven
-  graph-encoded [] ws e year x = let f : ws ≡ [] = cc in ap (λ vs. hasDecoded (decoding d) (words.number year) vs x) f
+      → hasTriple (tripleDecoded (decoding d)) (words.number year) ws x ≡ graphGiven year rows x
+  unfolding flatten wordsOf hasTriple graphGiven
+  graph-encoded [] ws e year x = let f : ws ≡ [] = cc in ap (λ vs. hasTriple (tripleDecoded (decoding d)) (words.number year) vs x) f
   graph-encoded (q ∷ rows) ws e year x =
       let a = split d (integer (pos (q .year))) (iri (q .subject) ∷ iri (q .predicate) ∷ q .object ∷ rowTerms rows) ws e in
       let b = split d (iri (q .subject)) (iri (q .predicate) ∷ q .object ∷ rowTerms rows) (a .rest) (a .others) in
@@ -73,6 +74,6 @@ module _ (d : Dictionaries) (r : RightDictionaries d) where
 
   -- the solutions of a plan in a year, over tables of these words
   pub solutions-encoded : (rows : List StringRow) (t : Tables) → wordsOf d (rowTerms rows) ≡ some (t .rows) → (q : Plan) (year : ℕ)
-      → decodedIn (decoding d) t q year ≡ unionDecoded (decoding d) (graphGiven year rows) (q .branches)
+      → decodedIn (decoding d) t q year ≡ unions (branchDecoded (decoding d) (graphGiven year rows)) (q .branches)
   solutions-encoded rows t e q year =
-      ap (λ g. unionDecoded (decoding d) g (q .branches)) (λ i x. graph-encoded rows (t .rows) e year x i)
+      ap (λ g. unions (branchDecoded (decoding d) g) (q .branches)) (λ i x. graph-encoded rows (t .rows) e year x i)

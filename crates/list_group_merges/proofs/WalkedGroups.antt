@@ -24,7 +24,7 @@ use Rattle.lists.specs.Sides.{sideBy}
 use Rattle.list_group_merges.specs.MergingBackwards.{walked, recordAt, sides, wordWalk, mergedRecords, moreBy, countWalk, unionOf}
 use Rattle.lists.proofs.Keys.{ranks}
 use Rattle.sequences.proofs.Ascending.{Ascending}
-use Rattle.list_group_totals.proofs.RecordAt as at-words
+use Rattle.sequences.proofs.Parts as at-words
 use Rattle.lists.proofs.GroupWords.{Words, have-keys-in}
 use Rattle.lists.proofs.GroupValid.{right-ascending}
 use Rattle.list_groups.proofs.KeySides.{before-keys}
@@ -116,10 +116,10 @@ module _ (vs : List ℕ) (m : ℕ) (kept : List ℕ) (used : ℕ) (list : List �
   groups = walked (sides g kept list) (listWalk together (groupAt g kept) (groupAt g list)) n k
 
   old-in : (p : ℕ) → p < n → p * w + w ≤ length kept
-  old-in p h = let f = at-words.record-fits p used w h in omega arith
+  old-in p h = let f = at-words.part-fits p used w h in omega arith
 
   new-in : (q : ℕ) → q < k → q * w + w ≤ length list
-  new-in q h = at-words.record-fits q (length list) w h
+  new-in q h = at-words.part-fits q (length list) w h
 
   -- the words of the walk
   ends-words : (i : ℕ) → i ≤ n → flat (first (groupAt g kept) i) ≡ take (i * w) kept

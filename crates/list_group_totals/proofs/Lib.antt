@@ -1,3 +1,2 @@
 pub mod TotalsWords
 pub mod FlatGroups
-pub mod RecordAt

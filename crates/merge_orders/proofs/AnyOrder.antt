@@ -11,6 +11,7 @@ use Rattle.sequences.proofs.Booleans.{absurd-true}
 use Rattle.sequences.proofs.Sorting.{best-none}
 use Rattle.plans.specs.Endings.{top}
 use Rattle.plans.specs.Plans.{planOf}
+use Rattle.plans.proofs.Bounds.{next-some}
 use Rattle.lists.specs.Rows.{rowBefore}
 use Rattle.lists.specs.Gathering.{recordsIn, merged}
 use Rattle.lists.proofs.Records.{records-zero}
@@ -18,7 +19,7 @@ use Rattle.lists.proofs.TopLists.{merged-top}
 use Rattle.merge_orders.specs.Apart.{Apart}
 use Rattle.merge_orders.specs.Ways.{Way, empty, turn, into, turnsAlong, isMerge, given, rowsMerged}
 use Rattle.merge_orders.specs.AnyOrder.{Reordered, SameEnd, AnyOrder}
-use Rattle.merge_orders.proofs.Served.{merged-given, next-some}
+use Rattle.merge_orders.proofs.Served.{merged-given}
 use Rattle.merge_orders.proofs.TopWays as tops
 use Rattle.merge_orders.proofs.GroupWays as groups
 use Rattle.merge_orders.proofs.RegisterWays as registers

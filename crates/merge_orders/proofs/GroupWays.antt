@@ -11,6 +11,7 @@ use Rattle.sequences.proofs.Booleans.{absurd-true}
 use Rattle.words.proofs.Testing.{some-injective}
 use Rattle.plans.specs.Endings.{group}
 use Rattle.plans.specs.Plans.{planOf}
+use Rattle.plans.proofs.Bounds.{next-some}
 use Rattle.lists.specs.Groups.{Group, keysBefore, addAllBy, addGroups, groupWords}
 use Rattle.lists.specs.Gathering.{groupsIn, merged, listRight, keptRight, totalsFit}
 use Rattle.sequences.proofs.Each.{Each, each-append}
@@ -27,7 +28,7 @@ use Rattle.lists.proofs.GroupRows.{RightKeyed}
 use Rattle.lists.proofs.GroupValid.{AllRight, right-records, right-ascending}
 use Rattle.merge_orders.specs.Ways.{Way, empty, turn, into, turnsAlong, isMerge, mergedBy, given}
 use Rattle.merge_orders.proofs.Permuted.{joined-permuted}
-use Rattle.merge_orders.proofs.Served.{merged-given, next-some, served-passes}
+use Rattle.merge_orders.proofs.Served.{merged-given, served-passes}
 
 keyed-right : (n : ℕ) (gs : List Group) (h : HaveKeys n gs) → AllRight gs → Each (RightKeyed n) (keyed n gs h)
 keyed-right n [] h r = tt

@@ -20,6 +20,7 @@ use Rattle.words.proofs.Testing.{none-some, some-injective, all-passes, fails-f
 use Rattle.plans.specs.Endings.{Ending, top, group, registers}
 use Rattle.plans.specs.Conditions.{next}
 use Rattle.plans.specs.Plans.{planOf, planTests}
+use Rattle.plans.proofs.Bounds.{next-some}
 use Rattle.lists.specs.Gathering.{isRows, merged, listRight, keptRight, totalsFit}
 use Rattle.lists.proofs.TopLists.{top-none}
 use Rattle.lists.proofs.TopValid.{right-gathered, right-merged}
@@ -31,7 +32,7 @@ use Rattle.merges.specs.Merging.{mergedWords, mergeOf, mergeTests, listTests}
 use Rattle.merges.proofs.Refusals.{merge-refusals}
 use Rattle.merge_orders.specs.Ways.{Way, empty, turn, into, inputOf, writtenIn, mergedBy, given}
 use Rattle.merge_orders.specs.Refused.{WayRefusedBy, among-kept, among-lists, merging, isEmptyWay, fromTurns, WaysRefused}
-use Rattle.merge_orders.proofs.Served.{merged-given, next-some}
+use Rattle.merge_orders.proofs.Served.{merged-given}
 
 -- ---- one merge
 -- of the last two tests one fails

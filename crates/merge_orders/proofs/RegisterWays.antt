@@ -11,6 +11,7 @@ use Rattle.sequences.proofs.Booleans.{absurd-true}
 use Rattle.words.proofs.Testing.{some-injective}
 use Rattle.plans.specs.Endings.{registers}
 use Rattle.plans.specs.Plans.{planOf}
+use Rattle.plans.proofs.Bounds.{next-some}
 use Rattle.registers.specs.Registers.{registerCount, registersIn, greaterOf, areRegisters, keptRegisters}
 use Rattle.registers.proofs.Merging.{greater-comm, greater-assoc}
 use Rattle.registers.proofs.Bounds.{greater-length, none-greater}
@@ -19,7 +20,7 @@ use Rattle.lists.specs.Gathering.{merged, listRight, keptRight}
 use Rattle.lists.specs.Thresholds.{chosenFrom}
 use Rattle.lists.proofs.RegisterLists.{registers-in, right-length, right-kept}
 use Rattle.merge_orders.specs.Ways.{Way, empty, turn, into, turnsAlong, isMerge, mergedBy, given}
-use Rattle.merge_orders.proofs.Served.{merged-given, next-some, served-passes}
+use Rattle.merge_orders.proofs.Served.{merged-given, served-passes}
 
 -- ---- the greatest of some lists, each of which may be empty
 abbrev pub greatestOf : List (List ℕ) → List ℕ

@@ -3,7 +3,7 @@ use Prim.Native.Nat.{ℕ}
 use native.Mathlib.Omega.{arith}
 use mathlib.Core.Path.{_≡_, refl, sym, _∙_, ap}
 use mathlib.Core.Bool.{true}
-use mathlib.Core.Option.{Option, none, some}
+use mathlib.Core.Option.{some}
 use mathlib.Core.List.{List}
 use lib.Dec.{leb}
 use lib.ListN.{length, take}
@@ -13,7 +13,6 @@ use Rattle.words.specs.declared.Written.the-variants.{Words, Refused}
 use Rattle.words.specs.Answers.{wordsIn}
 use Rattle.sequences.proofs.Booleans.{and-left, and-right}
 use Rattle.words.proofs.Testing.{none-some, some-injective}
-use Rattle.plans.specs.Conditions.{next}
 use Rattle.plans.specs.Plans.{planOf}
 use Rattle.lists.specs.Gathering.{merged, listRight, keptRight, totalsFit}
 use Rattle.calls.specs.Calls.{NotRefused}
@@ -39,10 +38,6 @@ merged-given plan kept behind list a e = go (mergeOf i .answer) refl e
         ∙ ap (λ w. take (wordsIn w) (mergeOf j .buffers)) (sym f)
         ∙ merge-writes j serve .buffer .front
         ∙ ap (λ l. merged (planOf plan .ending) l list) (take-append-seam kept behind)
-
-pub next-some : {A B : Type 0} (o : Option A) (f : A → Option B) (b : B) → next o f ≡ some b → (a : A) × (o ≡ some a) × (f a ≡ some b)
-next-some none f b e = absurd (none-some e)
-next-some (some a) f b e = (a, refl, e)
 
 -- both lists of a served merge pass test 12, and the totals test 13
 pub served-passes : (plan kept behind list a : List ℕ) → mergedBy plan kept behind list ≡ some a

@@ -9,6 +9,7 @@ use Rattle.sequences.proofs.Booleans.{absurd-true}
 use Rattle.words.proofs.Testing.{some-injective}
 use Rattle.plans.specs.Endings.{top}
 use Rattle.plans.specs.Plans.{planOf}
+use Rattle.plans.proofs.Bounds.{next-some}
 use Rattle.sequences.specs.Sorting.{bestBy}
 use Rattle.lists.specs.Rows.{rowBefore}
 use Rattle.lists.specs.Gathering.{recordsIn, merged}
@@ -20,7 +21,7 @@ use Rattle.merge_orders.proofs.Reordering.{best-permuted}
 use Rattle.merge_orders.specs.Apart.{Apart}
 use Rattle.merge_orders.specs.Ways.{Way, empty, turn, into, turnsAlong, isMerge, mergedBy, given}
 use Rattle.merge_orders.proofs.Permuted.{joined-permuted}
-use Rattle.merge_orders.proofs.Served.{merged-given, next-some}
+use Rattle.merge_orders.proofs.Served.{merged-given}
 
 module _ (plan : List ℕ) (lists : List (List ℕ)) (k : ℕ) (vs keys : List ℕ)
     (ending : planOf plan .ending ≡ top k vs keys) (some-vs : 0 < length vs) where

@@ -11,7 +11,7 @@ use Rattle.sequences.specs.Sequences.{over}
 use Rattle.sequences.proofs.Buffers.{over-next}
 use Rattle.lists.specs.Gathering.{recordsIn}
 use Rattle.lists.proofs.Records.{length-records}
-use Rattle.list_group_totals.proofs.RecordAt.{part-at}
+use Rattle.sequences.proofs.Parts.{part-at}
 use Rattle.print_reading.specs.declared.Layout.{Layout}
 use Rattle.print_reading.specs.declared.Layout.the-variants.{Parts, Refused}
 use Rattle.print_reading.specs.Files.{wordBytes, littleEndian, fileWords, mostFileBytes, posAt, ospAt, planAt, rowsAt}

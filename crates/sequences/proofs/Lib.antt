@@ -3,6 +3,8 @@ pub mod Orders
 pub mod Iterating
 pub mod Counting
 pub mod Buffers
+pub mod Growing
+pub mod Parts
 pub mod Elements
 pub mod Members
 pub mod Downward

@@ -9,12 +9,11 @@ use Rattle.tables.specs.Tables.{Tables, Section, section}
 use Rattle.plans.specs.Branches.{Branch}
 use Rattle.plans.specs.Plans.{Plan}
 use Rattle.sparql.specs.Terms.{Vocabulary, byNumber, TripleOver, sameTerm, sameTriple}
-use Rattle.sparql.specs.Algebra.{basicGraphPattern}
+use Rattle.sparql.specs.Algebra.{MultisetOver, basicGraphPattern, unions}
 use Rattle.sparql.specs.Years.{yearsRead}
-use Rattle.sparql.specs.Reading.{tripleIn, hasTriple, graphOf, patternsOf, expressionOf}
-use Rattle.sparql.specs.Reading.{branchSolutions, unionSolutions, solutionsIn, solutionsOver, solutionsOf}
+use Rattle.sparql.specs.Reading.{tripleIn, hasTriple, graphOf, patternsOf, expressionOf, branchSolutions, solutionsIn, solutionsOf}
 use Rattle.sparql_strings.specs.Carrying.{Carrier, Keeps, Equality, carryTriple, carryPattern, CarriedGraph, CarriedMultiset}
-use Rattle.sparql_strings.specs.Decoding.{hasDecoded, graphDecoded, branchDecoded, unionDecoded, decodedIn, decodedOver, decodedOf}
+use Rattle.sparql_strings.specs.Decoding.{tripleDecoded, graphDecoded, branchDecoded, decodedIn, decodedOf}
 use Rattle.sparql_strings.proofs.Terms.{term-equal, carry-triple}
 use Rattle.sparql_strings.proofs.Multisets.{carried-pattern, carried-none, carried-filter, carried-union}
 
@@ -28,16 +27,17 @@ triple-equal q x y e =
     λ i. record { subject = s i; predicate = p i; object = o i }
 
 module _ {M : Vocabulary} (c : Carrier byNumber M) (k : Keeps c) (q : Equality M) where
-  has : (year : ℕ) (ws : List ℕ) (x : TripleOver byNumber) → hasDecoded c year ws (carryTriple c x) ≡ hasTriple year ws x
-  unfolding hasDecoded hasTriple
+  has : (year : ℕ) (ws : List ℕ) (x : TripleOver byNumber) → hasTriple (tripleDecoded c) year ws (carryTriple c x) ≡ hasTriple tripleIn year ws x
+  unfolding hasTriple
   has year [] x = refl
   has year (y ∷ []) x = refl
   has year (y ∷ s ∷ []) x = refl
   has year (y ∷ s ∷ p ∷ []) x = refl
   has year (y ∷ s ∷ p ∷ o ∷ ws) x = ap₂ (λ a b. (eqb y year && a) || b) (carry-triple c k x (tripleIn s p o)) (has year ws x)
 
-  only : (year : ℕ) (ws : List ℕ) (x : TripleOver M) → hasDecoded c year ws x ≡ true → (z : TripleOver byNumber) × (x ≡ carryTriple c z)
-  unfolding hasDecoded
+  only : (year : ℕ) (ws : List ℕ) (x : TripleOver M) → hasTriple (tripleDecoded c) year ws x ≡ true
+      → (z : TripleOver byNumber) × (x ≡ carryTriple c z)
+  unfolding hasTriple
   only year [] x e = absurd (true≢false (sym e))
   only year (y ∷ []) x e = absurd (true≢false (sym e))
   only year (y ∷ s ∷ []) x e = absurd (true≢false (sym e))
@@ -61,22 +61,16 @@ module _ {M : Vocabulary} (c : Carrier byNumber M) (k : Keeps c) (q : Equality M
       (carried-pattern c k (graphOf t) (graphDecoded c t) (carried-graph t) (patternsOf (b .terms)))
       (expressionOf (b .condition))
 
-  carried-branches : (t : Section) (bs : List Branch) → CarriedMultiset c (unionSolutions (graphOf t) bs) (unionDecoded c (graphDecoded c t) bs)
-  unfolding unionSolutions unionDecoded
-  carried-branches t [] = carried-none c k
-  carried-branches t (b ∷ bs) =
-      carried-union c k (branchSolutions (graphOf t) b) (branchDecoded c (graphDecoded c t) b) (carried-branch t b)
-      (unionSolutions (graphOf t) bs) (unionDecoded c (graphDecoded c t) bs) (carried-branches t bs)
+  carried-unions : {A : Type 0} (ω : A → MultisetOver byNumber) (ψ : A → MultisetOver M) → ((a : A) → CarriedMultiset c (ω a) (ψ a))
+      → (xs : List A) → CarriedMultiset c (unions ω xs) (unions ψ xs)
+  unfolding unions
+  carried-unions ω ψ h [] = carried-none c k
+  carried-unions ω ψ h (x ∷ xs) = carried-union c k (ω x) (ψ x) (h x) (unions ω xs) (unions ψ xs) (carried-unions ω ψ h xs)
 
   pub carried-in : (t : Tables) (p : Plan) (year : ℕ) → CarriedMultiset c (solutionsIn t p year) (decodedIn c t p year)
-  carried-in t p year = carried-branches (section t year) (p .branches)
-
-  carried-years : (t : Tables) (p : Plan) (years : List ℕ) → CarriedMultiset c (solutionsOver t p years) (decodedOver c t p years)
-  unfolding solutionsOver decodedOver
-  carried-years t p [] = carried-none c k
-  carried-years t p (year ∷ years) =
-      carried-union c k (solutionsIn t p year) (decodedIn c t p year) (carried-in t p year)
-      (solutionsOver t p years) (decodedOver c t p years) (carried-years t p years)
+  carried-in t p year =
+      let s = section t year in
+      carried-unions (branchSolutions (graphOf s)) (branchDecoded c (graphDecoded c s)) (carried-branch s) (p .branches)
 
   pub carried-solutions : (t : Tables) (p : Plan) → CarriedMultiset c (solutionsOf t p) (decodedOf c t p)
-  carried-solutions t p = carried-years t p (yearsRead (t .rows) (p .years))
+  carried-solutions t p = carried-unions (solutionsIn t p) (decodedIn c t p) (carried-in t p) (yearsRead (t .rows) (p .years))

@@ -1,20 +1,18 @@
 -- What words stand for where names and texts stand for others: terms, mappings, graphs, the solutions of a plan, aggregates.
 -- Assumes nothing: these are definitions.
 use Prim.Native.Nat.{ℕ}
-use mathlib.Core.Bool.{Bool, false, _&&_, _||_}
-use mathlib.Core.List.{List, [], _∷_, map}
-use lib.Dec.{eqb}
+use mathlib.Core.List.{List, map}
 use Rattle.words.specs.Bindings.{Bindings}
 use Rattle.tables.specs.Tables.{Tables, Section, section}
 use Rattle.plans.specs.Branches.{Branch}
 use Rattle.plans.specs.Endings.{Ending}
 use Rattle.plans.specs.Plans.{Plan}
-use Rattle.sparql.specs.Terms.{Vocabulary, byNumber, RdfTermOver, TripleOver, sameTriple, GraphOver, MappingOver}
-use Rattle.sparql.specs.Algebra.{MultisetOver, noSolutions, basicGraphPattern, filter, union}
+use Rattle.sparql.specs.Terms.{Vocabulary, byNumber, RdfTermOver, TripleOver, GraphOver, MappingOver}
+use Rattle.sparql.specs.Algebra.{MultisetOver, basicGraphPattern, filter, unions}
 use Rattle.sparql.specs.Aggregates.{AggregatesOver}
 use Rattle.sparql.specs.Years.{yearsRead}
 use Rattle.sparql.specs.Answers.{Readings, AnswerOver}
-use Rattle.sparql.specs.Reading.{termOf, mappingOf, tripleIn, patternsOf, expressionOf, aggregatesIn}
+use Rattle.sparql.specs.Reading.{termOf, mappingOf, tripleIn, hasTriple, patternsOf, expressionOf, aggregatesIn}
 use Rattle.sparql_strings.specs.Carrying.{Carrier, carryTerm, carryMapping, carryTriple, carryPattern, carryExpression, carryAggregates}
 
 module _ {M : Vocabulary} (c : Carrier byNumber M) where
@@ -27,35 +25,23 @@ module _ {M : Vocabulary} (c : Carrier byNumber M) where
   abbrev pub aggregatesDecoded : ℕ → List ℕ → AggregatesOver M
   aggregatesDecoded n ws = carryAggregates c (aggregatesIn n ws)
 
-  -- a triple is among what the rows of a year stand for
-  unfoldable pub hasDecoded : ℕ → List ℕ → TripleOver M → Bool
-  hasDecoded year [] x = false
-  hasDecoded year (y ∷ []) x = false
-  hasDecoded year (y ∷ s ∷ []) x = false
-  hasDecoded year (y ∷ s ∷ p ∷ []) x = false
-  hasDecoded year (y ∷ s ∷ p ∷ o ∷ ws) x = (eqb y year && sameTriple x (carryTriple c (tripleIn s p o))) || hasDecoded year ws x
+  -- the triple that words of a row stand for, and the graph of what the rows of a year stand for
+  abbrev pub tripleDecoded : ℕ → ℕ → ℕ → TripleOver M
+  tripleDecoded s p o = carryTriple c (tripleIn s p o)
 
   abbrev pub graphDecoded : Section → GraphOver M
-  graphDecoded t = hasDecoded (t .year) (t .tables .rows)
+  graphDecoded t = hasTriple tripleDecoded (t .year) (t .tables .rows)
 
   -- the solutions of a plan
   abbrev pub branchDecoded : GraphOver M → Branch → MultisetOver M
   branchDecoded g b =
       filter (carryExpression c (expressionOf (b .condition))) (basicGraphPattern g (map (carryPattern c) (patternsOf (b .terms))))
 
-  unfoldable pub unionDecoded : GraphOver M → List Branch → MultisetOver M
-  unionDecoded g [] = noSolutions
-  unionDecoded g (b ∷ bs) = union (branchDecoded g b) (unionDecoded g bs)
-
   abbrev pub decodedIn : Tables → Plan → ℕ → MultisetOver M
-  decodedIn t q year = unionDecoded (graphDecoded (section t year)) (q .branches)
-
-  unfoldable pub decodedOver : Tables → Plan → List ℕ → MultisetOver M
-  decodedOver t q [] = noSolutions
-  decodedOver t q (year ∷ years) = union (decodedIn t q year) (decodedOver t q years)
+  decodedIn t q year = unions (branchDecoded (graphDecoded (section t year))) (q .branches)
 
   abbrev pub decodedOf : Tables → Plan → MultisetOver M
-  decodedOf t q = decodedOver t q (yearsRead (t .rows) (q .years))
+  decodedOf t q = unions (decodedIn t q) (yearsRead (t .rows) (q .years))
 
   -- SPARQL's answer to a plan over what tables stand for, by what the words of a list stand for
   abbrev pub readDecoded : Tables → Plan → Readings M

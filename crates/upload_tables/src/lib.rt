@@ -1,6 +1,5 @@
 // The tables of an upload's kept rows.
-use table_sorts::write_list;
-use tables::Order;
+use table_lists::write_lists;
 use upload_writes::write_rows;
 ghost use mathlib.Core.Path.{_≡_};
 ghost use Prim.Native.Nat.{_+_, _*_, _≤_};
@@ -30,7 +29,6 @@ pub fn write_tables(
     ensures { λ _. ⌜ now (osp .exit) ≡ over (madeTables (now (upload .entry)) .osp) (now (osp .entry)) ⌝ }
 {
     let end = write_rows(upload, list, fates, rows);
-    write_list(&rows[..end], Order::Pos, &mut pos[..kept], spare);
-    write_list(&rows[..end], Order::Osp, &mut osp[..kept], spare);
+    write_lists(rows, kept, pos, osp, spare);
     end
 }

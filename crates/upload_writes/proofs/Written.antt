@@ -1,23 +1,15 @@
--- Words written number by number: one more number, and the room that is left.
+-- Words written number by number: those of one more number, and of a part.
 use Prim.Native.Nat.{ℕ, zero, suc, _+_, _≤_}
 use native.Mathlib.Omega.{arith}
 use mathlib.Core.Path.{_≡_, refl, sym, _∙_, ap}
 use mathlib.Core.Bool.{Bool, true, false}
 use mathlib.Core.List.{List, [], _∷_, _++_, map, flatten, append-nil}
 use lib.ListN.{length, take, drop, length-append, take-append-drop}
-use lib.Seq.{take-length, drop-drop, take-append-seam, drop-append-add, paste}
-use Rattle.sequences.specs.Sequences.{keep, numbers, over}
-use Rattle.sequences.proofs.Buffers.{length-over}
+use Rattle.sequences.specs.Sequences.{keep, numbers}
 use Rattle.sequences.proofs.Flattening.{flatten-append}
 use Rattle.sequences.proofs.Keeping.{keep-append}
 use Rattle.sequences.proofs.Orders.{Three, less, same, more, three}
 use Rattle.upload_writes.specs.Writing.{writtenFor}
-
--- some words more behind those over the front of a buffer
-pub over-more : (ws x buffer : List ℕ) → length ws + length x ≤ length buffer
-    → paste (over ws buffer) (length ws) x (length x) ≡ over (ws ++ x) buffer
-over-more ws x buffer h =
-    rw (take-append-seam, take-length, length-append ws x, drop-append-add, drop-drop)
 
 module _ (f : ℕ → Bool) (g : ℕ → List ℕ) where
   map-append : (xs ys : List ℕ) → map g (xs ++ ys) ≡ map g xs ++ map g ys
@@ -70,19 +62,3 @@ module _ (f : ℕ → Bool) (g : ℕ → List ℕ) where
       go (less k) ih e l = let i = ih (omega arith) in omega arith
       go (same k) ih e l = rw k (omega arith)
       go (more k) ih e l = absurd (omega arith)
-
--- some words more are written
-module _ (ws x before after next : List ℕ) (used : ℕ) (counted : used ≡ length ws) (whole : after ≡ over ws before)
-    (fits : used + length x ≤ length before) (put : next ≡ paste after used x (length x)) where
-  pub grow-whole : next ≡ over (ws ++ x) before
-  grow-whole =
-      put
-      ∙ ap (λ l. paste l used x (length x)) whole
-      ∙ ap (λ n. paste (over ws before) n x (length x)) counted
-      ∙ over-more ws x before (omega arith)
-
-  pub grow-count : used + length x ≡ length (ws ++ x)
-  grow-count = omega (arith, length-append ws x)
-
-  pub grow-length : length next ≡ length before
-  grow-length = ap length grow-whole ∙ length-over (ws ++ x) before (let c = grow-count in omega arith)

@@ -1,6 +1,5 @@
 // The tables of a wood.
-use table_sorts::write_list;
-use tables::Order;
+use table_lists::write_lists;
 use wood_rows::write_rows;
 ghost use mathlib.Core.Path.{_≡_};
 ghost use Prim.Native.Nat.{_+_, _*_, _≤_};
@@ -32,7 +31,6 @@ pub fn write_tables(
     ensures { λ _. ⌜ now (osp .exit) ≡ over (woodOf seed stems year .osp) (now (osp .entry)) ⌝ }
 {
     let end = write_rows(seed, stems, year, rows);
-    write_list(&rows[..end], Order::Pos, &mut pos[..count], spare);
-    write_list(&rows[..end], Order::Osp, &mut osp[..count], spare);
+    write_lists(rows, count, pos, osp, spare);
     end
 }

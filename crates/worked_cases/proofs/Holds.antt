@@ -15,10 +15,11 @@ use Rattle.calls.specs.Calls.{resultOfCall}
 use Rattle.uploads.specs.Computing as uploads
 use Rattle.queues.specs.Computing as queues
 use Rattle.views.specs.Computing as views
+use Rattle.dictionaries.specs.Strings.{sameString}
 use Rattle.worked_cases.specs.Calls.{Hold, all, _&_}
 use Rattle.worked_cases.specs.Starred.{starred}
 use Rattle.worked_cases.specs.Refusals.{ofTables, ofPlans, ofTurns, ofMerges}
-use Rattle.worked_cases.specs.Misreadings.{Told, readings, same}
+use Rattle.worked_cases.specs.Misreadings.{Told, readings}
 
 -- one name for all that the calls' definitions are made of
 unfoldable pub computing : Unit {0}
@@ -56,5 +57,5 @@ merges-hold =
 
 -- the misreadings are told from the right reading
 pub readings-told : Told readings
-unfolding computing same
+unfolding computing sameString
 readings-told = (refl, (refl, (refl, (refl, (refl, (refl, (refl, (refl, (refl, (refl, (refl, (refl, tt))))))))))))

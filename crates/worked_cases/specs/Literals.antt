@@ -55,10 +55,7 @@ ofYear year words = 0xD0000007 ∷ year ∷ words
 abbrev pub in2026 : List ℕ → List ℕ
 in2026 words = ofYear 0x000007EA words
 
--- a wood without rows, and its only state, of year 0
-abbrev pub bare : Tables
-bare = record { rows = []; pos = []; osp = [] }
-
+-- the only state of a wood without rows, of year 0
 abbrev pub inBare : List ℕ
 inBare = ofYear 0x00000000 (0xE0000001 ∷ 0xF0000000 ∷ [])
 

@@ -2,11 +2,11 @@
 use Prim.Native.Nat.{ℕ}
 use mathlib.Core.Path.{_≡_}
 use mathlib.Core.List.{List, [], _∷_, _++_}
-use mathlib.Core.Bool.{Bool, true, false, _&&_}
-use lib.Dec.{eqb}
+use mathlib.Core.Bool.{false}
 use lib.ListN.{take}
 use Rattle.words.specs.Words.{name, unbound}
 use Rattle.words.specs.Answers.{wordsIn}
+use Rattle.dictionaries.specs.Strings.{sameString}
 use Rattle.turns.specs.Turns.{TurnInput, TurnResult, turnOf}
 use Rattle.calls.specs.Words.{WordsResult}
 use Rattle.merges.specs.Merging.{mergeOf}
@@ -27,16 +27,10 @@ pub record Misreading : Type 0 where
   pub right : List ℕ
   pub wrong : List ℕ
 
-unfoldable pub same : List ℕ → List ℕ → Bool
-same [] [] = true
-same [] (y ∷ ys) = false
-same (x ∷ xs) [] = false
-same (x ∷ xs) (y ∷ ys) = eqb x y && same xs ys
-
 -- what is given is right, and the wrong reading differs
 abbrev pub Told : List Misreading → Type 0
 Told [] = Unit {0}
-Told (r ∷ rs) = (r .given ≡ r .right) × ((same (r .right) (r .wrong) ≡ false) × Told rs)
+Told (r ∷ rs) = (r .given ≡ r .right) × ((sameString (r .right) (r .wrong) ≡ false) × Told rs)
 
 -- a turn with all the steps that it needs, and one whose output holds one row
 abbrev pub wholeTurn : List ℕ → TurnInput

@@ -10,7 +10,8 @@ use Rattle.turns.specs.declared.TurnEnding.the-variants.{Done, Spent}
 use Rattle.turns.specs.Opening.{openOf}
 use Rattle.cuts.specs.Histories.{Event, turns, merges, Phone, fresh, history}
 use Rattle.worked_cases.specs.Calls.{merging, merged, running, ran, Case, surveyed, turnCall, turnCase, mergeCall, keptBuffer}
-use Rattle.worked_cases.specs.Literals.{stems, bare, inBare, atPlace, opensTo, wholeFrom}
+use Rattle.worked_cases.specs.Wood.{noRows}
+use Rattle.worked_cases.specs.Literals.{stems, inBare, atPlace, opensTo, wholeFrom}
 use Rattle.worked_limits.specs.Faults.{recordOfNone}
 
 -- ---- plans
@@ -49,14 +50,14 @@ adds kept list result = (
 abbrev pub closings : List Case
 closings =
     -- a wood without rows: done after 1 step, with the record, in an output of just its words; the uncut run has it at its end and not before
-    opensTo bare (stemsWith anyStem oneGroup) inBare
-    ∷ turnCase (turnCall bare (stemsWith anyStem oneGroup) inBare 1 [] 8) Done 1 [] recordOfNone
-    ∷ (running bare (stemsWith anyStem oneGroup) 0, ran (some (inYear 0 (record { branch = 0; upper = []; place = 0 }))) [])
-    ∷ (running bare (stemsWith anyStem oneGroup) 1, ran none recordOfNone)
+    opensTo noRows (stemsWith anyStem oneGroup) inBare
+    ∷ turnCase (turnCall noRows (stemsWith anyStem oneGroup) inBare 1 [] 8) Done 1 [] recordOfNone
+    ∷ (running noRows (stemsWith anyStem oneGroup) 0, ran (some (inYear 0 (record { branch = 0; upper = []; place = 0 }))) [])
+    ∷ (running noRows (stemsWith anyStem oneGroup) 1, ran none recordOfNone)
     -- by one variable there is no group; nor is there a row or a best row
-    ∷ wholeFrom bare (stemsWith anyStem groupsByStem) inBare 1 []
-    ∷ wholeFrom bare (stemsWith anyStem (0x80000001 ∷ 0xC0000001 ∷ [])) inBare 1 []
-    ∷ wholeFrom bare (stemsWith anyStem (0x90000001 ∷ 0x80000001 ∷ 0xC0000001 ∷ 0xA0000001 ∷ [])) inBare 1 []
+    ∷ wholeFrom noRows (stemsWith anyStem groupsByStem) inBare 1 []
+    ∷ wholeFrom noRows (stemsWith anyStem (0x80000001 ∷ 0xC0000001 ∷ [])) inBare 1 []
+    ∷ wholeFrom noRows (stemsWith anyStem (0x90000001 ∷ 0x80000001 ∷ 0xC0000001 ∷ 0xA0000001 ∷ [])) inBare 1 []
     -- no stem passes: whole in 10 steps; cut at 9 the first turn has no list, and the last one the record
     ∷ wholeFrom stems (stemsWith noStem oneGroup) (atPlace 0xF0000000) 10 recordOfNone
     ∷ turnCase (turnCall stems (stemsWith noStem oneGroup) (atPlace 0xF0000000) 9 [] 8) Spent 9 (atPlace 0xF0000003) []

@@ -24,7 +24,7 @@ use Rattle.dictionaries.specs.Lookups.{lookupIn}
 use Rattle.sparql.specs.Terms.{iri, integer, text}
 use Rattle.sparql.specs.Computing as sparql
 use Rattle.sparql_strings.specs.Carrying.{carryExpression}
-use Rattle.sparql_strings.specs.Decoding.{readDecoded, mappingDecoded, hasDecoded, unionDecoded, decodedOver, decodedOf}
+use Rattle.sparql_strings.specs.Decoding.{readDecoded, mappingDecoded, decodedOf}
 use Rattle.sparql_strings.specs.Strings.{decoding}
 use Rattle.sparql_finished.specs.Finished.{FinishedOver}
 use Rattle.sparql_decoded.proofs.Decoded.{finished-unsent-decoded}
@@ -42,7 +42,7 @@ use Rattle.worked_strings.specs.NamedStems.{othersHidden, stoodBefore, i
 
 unfoldable byStrings : Unit {0}
 unfolding computing sparql.computing stringBefore sameString afterFirst formedFrom codePointsFrom stringsFrom endsRight stringRank isAmong lookupIn
-    carryExpression hasDecoded unionDecoded decodedOver wordsOf insertOnce stringsOnce endsAfter namesIn textsIn someRow
+    carryExpression wordsOf insertOnce stringsOnce endsAfter namesIn textsIn someRow
 byStrings = tt
 
 -- ---- encoded

@@ -5,6 +5,7 @@ use lib.ListN.{replicate}
 use Rattle.tables.specs.Tables.{Tables, tablesOf}
 use Rattle.uploads.specs.Making.{MakeInput, makeInput, madeWith}
 use Rattle.worked_cases.specs.Calls.{making, made, Case, notMade}
+use Rattle.worked_cases.specs.Wood.{noRows}
 use Rattle.worked_cases.specs.Literals.{stems}
 
 -- ---- short forms. Before the call the buffers hold 9 in rows, 8 in POS, 7 in OSP and 6 in the report, as many words as their numbers say
@@ -14,9 +15,6 @@ makeCall upload rows pos osp report = makeInput upload (replicate rows 9) (repli
 -- a served call: the tables and the report over what the buffers held
 abbrev pub makeCase : MakeInput → Tables → List ℕ → Case
 makeCase i t report = (making i, made (madeWith t report (i .buffers)))
-
-abbrev pub noTables : Tables
-noTables = tablesOf [] [] []
 
 -- ---- the three-stem wood of 2026 backwards, its fourth row twice, and between them (t1,n10,n100), whose subject is a text
 abbrev pub textStem : List ℕ
@@ -56,15 +54,15 @@ ofLengths =
     ∷ notMade (makeCall (0x00000001 ∷ 0x0000000A ∷ 0x00000064 ∷ 0x00000001 ∷ 0x0000000C ∷ 0x4000002D ∷ []) 24 6 6 6) 15
     ∷ notMade (makeCall (0x400007EA ∷ 0x00000001 ∷ 0x0000000A ∷ 0x00000064 ∷ []) 0 0 0 0) 16
     -- nothing uploaded is served, with no rows
-    ∷ makeCase (makeCall [] 0 0 0 0) noTables []
-    ∷ makeCase (makeCall [] 3 1 1 2) noTables []
+    ∷ makeCase (makeCall [] 0 0 0 0) noRows []
+    ∷ makeCase (makeCall [] 3 1 1 2) noRows []
     ∷ []
 
 -- ---- fates: all dropped; equal rows of wrong kinds; a row three times; the kinds of each field
 abbrev pub ofFates : List Case
 ofFates =
-    makeCase (makeCall textStem 0 0 0 2) noTables (0 ∷ 1 ∷ [])
-    ∷ makeCase (makeCall (textStem ++ textStem) 4 1 1 5) noTables (0 ∷ 1 ∷ 1 ∷ 1 ∷ [])
+    makeCase (makeCall textStem 0 0 0 2) noRows (0 ∷ 1 ∷ [])
+    ∷ makeCase (makeCall (textStem ++ textStem) 4 1 1 5) noRows (0 ∷ 1 ∷ 1 ∷ 1 ∷ [])
     ∷ makeCase (makeCall (fourth ++ (fourth ++ fourth)) 4 1 1 4) (tablesOf fourth (0 ∷ []) (0 ∷ [])) (1 ∷ 2 ∷ 2 ∷ 2 ∷ [])
     -- a number as subject, a text as predicate, unbound as object; a text as object is right
     ∷ makeCase (makeCall
@@ -83,9 +81,9 @@ uploadsOfYears =
     makeCase (makeCall (inYears (0x400007EA ∷ 0x40000000 ∷ 0x400007E9 ∷ 0x40002710 ∷ 0x400007EA ∷ [])) 8 2 2 6)
     (tablesOf (inYears (0x400007E9 ∷ 0x400007EA ∷ [])) (0 ∷ 1 ∷ []) (0 ∷ 1 ∷ [])) (1 ∷ 1 ∷ 3 ∷ 1 ∷ 4 ∷ 2 ∷ [])
     -- a name, a text, unbound and -1 as year; a wrong year twice is no repeat
-    ∷ makeCase (makeCall (inYears (0x000007EA ∷ 0x800007EA ∷ 0xC0000000 ∷ 0x7FFFFFFF ∷ [])) 0 0 0 8) noTables
+    ∷ makeCase (makeCall (inYears (0x000007EA ∷ 0x800007EA ∷ 0xC0000000 ∷ 0x7FFFFFFF ∷ [])) 0 0 0 8) noRows
     (0 ∷ 1 ∷ 1 ∷ 1 ∷ 2 ∷ 1 ∷ 3 ∷ 1 ∷ [])
-    ∷ makeCase (makeCall (inYears (0x40002710 ∷ 0x40002710 ∷ [])) 0 0 0 4) noTables (0 ∷ 1 ∷ 1 ∷ 1 ∷ [])
+    ∷ makeCase (makeCall (inYears (0x40002710 ∷ 0x40002710 ∷ [])) 0 0 0 4) noRows (0 ∷ 1 ∷ 1 ∷ 1 ∷ [])
     -- 1 and 9,999 are years
     ∷ makeCase (makeCall (inYears (0x4000270F ∷ 0x40000001 ∷ [])) 8 2 2 0)
     (tablesOf (inYears (0x40000001 ∷ 0x4000270F ∷ [])) (0 ∷ 1 ∷ []) (0 ∷ 1 ∷ [])) []

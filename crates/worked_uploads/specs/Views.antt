@@ -6,6 +6,7 @@ use Rattle.tables.specs.Tables.{Tables, tablesOf}
 use Rattle.table_answers.specs.Writing.{tableBuffers, writtenWith}
 use Rattle.views.specs.Viewing.{ViewInput}
 use Rattle.worked_cases.specs.Calls.{viewing, viewed, Case, notViewed}
+use Rattle.worked_cases.specs.Wood.{noRows}
 use Rattle.worked_cases.specs.Literals.{stems}
 
 -- ---- short forms. Before the call the buffers hold 9 in rows, 8 in POS and 7 in OSP, as many words as `rows`, `pos` and `osp` say
@@ -16,9 +17,6 @@ viewCall t grant membership rows pos osp =
 -- a served call: the view's tables over what the buffers held
 abbrev pub viewCase : ViewInput → Tables → Case
 viewCase i t = (viewing i, viewed (writtenWith t (i .buffers)))
-
-abbrev pub hidden : Tables
-hidden = tablesOf [] [] []
 
 -- the stem n2 alone: (n2,n10,n100) (n2,n12,i310)
 abbrev pub secondStem : Tables
@@ -44,11 +42,11 @@ ofVisible =
     ∷ viewCase (viewCall stems (2 ∷ []) 0xC0000001 8 2 2) secondStem
     -- the stand n100 is granted, and the stems belong to it by n10: all six rows, those that admit them too; by n12 none does
     ∷ viewCase (viewCall stems (0x64 ∷ []) 10 24 6 6) stems
-    ∷ viewCase (viewCall stems (0x64 ∷ []) 12 24 6 6) hidden
+    ∷ viewCase (viewCall stems (0x64 ∷ []) 12 24 6 6) noRows
     -- nothing is granted
-    ∷ viewCase (viewCall stems [] 10 0 0 0) hidden
+    ∷ viewCase (viewCall stems [] 10 0 0 0) noRows
     -- no rows
-    ∷ viewCase (viewCall hidden (2 ∷ []) 10 0 0 0) hidden
+    ∷ viewCase (viewCall noRows (2 ∷ []) 10 0 0 0) noRows
     ∷ []
 
 -- ---- years: the stem n1 stands in n100 in 2025, and in n101 in 2026
@@ -71,7 +69,7 @@ viewsOfYears =
     -- a grant has no year: both stands, and the stem itself, show all
     ∷ viewCase (viewCall moved (0x64 ∷ 0x65 ∷ []) 10 16 4 4) moved
     ∷ viewCase (viewCall moved (1 ∷ []) 10 16 4 4) moved
-    ∷ viewCase (viewCall moved (0x64 ∷ []) 12 0 0 0) hidden
+    ∷ viewCase (viewCall moved (0x64 ∷ []) 12 0 0 0) noRows
     ∷ []
 
 -- ---- hidden rows: another diameter of n1 does not show, nor do its rows where n1 is gone; one of n2 does

@@ -9,7 +9,8 @@ use Rattle.turns.specs.declared.TurnEnding.the-variants.{Done, Spent}
 use Rattle.turns.specs.Opening.{openOf}
 use Rattle.cuts.specs.Histories.{Event, turns, merges, Phone, fresh, history}
 use Rattle.worked_cases.specs.Calls.{merging, merged, testing, tested, Case, surveyed, turnCall, turnCase, mergeCall, keptBuffer, notTurned, notMerged}
-use Rattle.worked_cases.specs.Literals.{stems, bare, inBare, allDiameters, diameters, atPlace, opensTo, refuses, wholeFrom}
+use Rattle.worked_cases.specs.Wood.{noRows}
+use Rattle.worked_cases.specs.Literals.{stems, inBare, allDiameters, diameters, atPlace, opensTo, refuses, wholeFrom}
 
 -- ---- plans
 -- the registers of ?1 and of ?0, in the branch ?0 n12 ?1; its run begins at place 3
@@ -88,8 +89,8 @@ registerLists =
     -- of no rows all 16 are there: at done, and before; also over tables without rows
     ∷ wholeFrom stems noStems (atPlace 0xF0000003) 4 untouched
     ∷ turnCase (turnCall stems noStems (atPlace 0xF0000003) 2 [] 16) Spent 2 (atPlace 0xF0000005) untouched
-    ∷ opensTo bare species inBare
-    ∷ turnCase (turnCall bare species inBare 1 [] 16) Done 1 [] untouched
+    ∷ opensTo noRows species inBare
+    ∷ turnCase (turnCall noRows species inBare 1 [] 16) Done 1 [] untouched
     -- never full; 7 asks for 16 words
     ∷ turnCase (turnCall stems species (atPlace 0xF0000003) 100 [] 16) Done 4 [] ofDiameters
     ∷ notTurned (turnCall stems species (atPlace 0xF0000003) 100 [] 15) 7

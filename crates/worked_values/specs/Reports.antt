@@ -16,13 +16,13 @@ farOut = 0 ∷ 0 ∷ 0 ∷ 0 ∷ 0 ∷ 17 ∷ 0 ∷ 0 ∷ 0 ∷ 0 ∷ 0 ∷ 0 �
 abbrev pub farNumber : List ℕ
 farNumber = 0 ∷ 0 ∷ 0 ∷ 0 ∷ 1 ∷ 0 ∷ 0 ∷ 0 ∷ 0 ∷ 0 ∷ 0 ∷ 0 ∷ 0 ∷ 0 ∷ 0 ∷ 0 ∷ []
 
--- n5, i5 and t5, which differ in their highest bits alone, share register and rank
-abbrev pub ofFive : List ℕ
-ofFive = 0 ∷ 0 ∷ 1 ∷ 0 ∷ 0 ∷ 0 ∷ 0 ∷ 0 ∷ 0 ∷ 0 ∷ 0 ∷ 0 ∷ 0 ∷ 0 ∷ 0 ∷ 0 ∷ []
-
 -- one register touched, and what it has
 abbrev pub touched : ℕ → ℕ → List ℕ
 touched i n = replicate i 0 ++ (n ∷ replicate (15 - i) 0)
+
+-- n5, i5 and t5, which differ in their highest bits alone, share register and rank
+abbrev pub ofFive : List ℕ
+ofFive = touched 2 1
 
 -- single words: n65535, n65536, n8388607, n16777216 and t65231; i495942401 and t634260780, whose hashes are 20003678192C9529 and A00017961556E6A3. A byte
 -- left out, in another's place or read by another power of two gives one of them another register or another rank

@@ -5,7 +5,7 @@ use mathlib.Core.List.{[], _∷_, append-nil}
 use lib.ListN.{set, length-set}
 use Rattle.characters.specs.Characters.{placesOf}
 use Rattle.characters.proofs.Laws.{character-within, characters-end, characters-next}
-use Rattle.character_passes.proofs.Written.{written-next, behind-next, written-all}
+use Rattle.sequences.proofs.Growing.{written-next, behind-next, written-all}
 use borrow.Author.Needs.{needs}
 use Prim.Native.Nat.{_+_, _-_, _≤_}
 use mathlib.Core.Path.{_≡_, refl, sym, ap, _∙_}

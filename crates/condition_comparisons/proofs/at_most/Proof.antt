@@ -3,7 +3,7 @@ use borrow.Author.Needs.{needs}
 use mathlib.Core.Path.{sym, _∙_, ap₂}
 use lib.Dec.{leb}
 use Rattle.conditions.specs.Truth.{ofTest}
-use Rattle.conditions.proofs.ComparisonCases.{at-most-ordered, no-order}
+use Rattle.conditions.proofs.ComparisonCases.{at-most-moved, ordered-test, no-order}
 use Rattle.condition_comparisons.proofs.at_most.Statement.{statement}
 use Rattle.condition_comparisons.proofs.at_most.Tie as tie
 
@@ -23,7 +23,7 @@ returns : tie.Need-returns
 returns c =
     c .of-test .ensures
     ∙ ap₂ (λ x y. ofTest (leb x y)) (c .before .before .key-rank .ensures .0) (c .before .key-rank2 .ensures .0)
-    ∙ sym (at-most-ordered _ _ (sym (c .before .before .before .before .have-order .ensures) ∙ c .before .before .before .if1 .taken))
+    ∙ sym (ordered-test _ _ leb at-most-moved (sym (c .before .before .before .before .have-order .ensures) ∙ c .before .before .before .if1 .taken))
 
 returns-2 : tie.Need-returns-2
 returns-2 c = sym (no-order _ _ _ (sym (c .before .have-order .ensures) ∙ c .if1 .left))

@@ -3,7 +3,7 @@ use borrow.Author.Needs.{needs}
 use mathlib.Core.Path.{sym, _∙_, ap₂}
 use lib.Dec.{ltb}
 use Rattle.conditions.specs.Truth.{ofTest}
-use Rattle.conditions.proofs.ComparisonCases.{less-ordered, no-order}
+use Rattle.conditions.proofs.ComparisonCases.{less-moved, ordered-test, no-order}
 use Rattle.condition_comparisons.proofs.less.Statement.{statement}
 use Rattle.condition_comparisons.proofs.less.Tie as tie
 
@@ -23,7 +23,7 @@ returns : tie.Need-returns
 returns c =
     c .of-test .ensures
     ∙ ap₂ (λ x y. ofTest (ltb x y)) (c .before .before .key-rank .ensures .0) (c .before .key-rank2 .ensures .0)
-    ∙ sym (less-ordered _ _ (sym (c .before .before .before .before .have-order .ensures) ∙ c .before .before .before .if1 .taken))
+    ∙ sym (ordered-test _ _ ltb less-moved (sym (c .before .before .before .before .have-order .ensures) ∙ c .before .before .before .if1 .taken))
 
 returns-2 : tie.Need-returns-2
 returns-2 c = sym (no-order _ _ _ (sym (c .before .have-order .ensures) ∙ c .if1 .left))

@@ -11,7 +11,7 @@ use Rattle.tables.specs.Tables.{columnCount}
 use Rattle.woods.specs.Woods.{nextDraw, woodRows}
 use Rattle.woods.specs.Refusals.{rowsFor}
 use Rattle.woods.proofs.Lengths.{rows-length}
-use Rattle.upload_writes.proofs.Written.{grow-whole, grow-length}
+use Rattle.sequences.proofs.Growing.{grow-whole, grow-length}
 use Rattle.wood_rows.specs.Drawn.{stemWords}
 use Rattle.wood_rows.proofs.Stems.{no-draw, next-first, next-second, no-stem, next-stem}
 use Rattle.wood_rows.proofs.write_rows.Statement.{statement}

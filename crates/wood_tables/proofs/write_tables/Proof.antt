@@ -1,133 +1,28 @@
--- `write_tables` meets its contract.
-use Prim.Native.Nat.{ℕ, _*_, _≤_}
+-- `write_tables` meets its contract: the lists are those of the rows that stand at the front of their buffer.
+use borrow.Author.Needs.{needs}
+use Prim.Native.Nat.{_*_}
 use native.Mathlib.Omega.{arith}
-use mathlib.Core.Path.{_≡_, sym, _∙_, ap}
-use mathlib.Core.List.{List, _++_, flatten}
-use lib.ListN.{length, take, drop}
-use lib.Seq.{length-take-le}
+use mathlib.Core.Path.{_≡_, sym, _∙_, ap, ap₂}
+use mathlib.Core.List.{flatten}
+use lib.ListN.{length, take}
 use Rattle.sequences.specs.Sequences.{over}
-use Rattle.sequences.proofs.Buffers.{take-over, length-over}
-use Rattle.tables.specs.declared.Order.{Order}
+use Rattle.sequences.proofs.Buffers.{take-over}
 use Rattle.tables.specs.declared.Order.the-variants.{Pos, Osp}
-use Rattle.tables.specs.Tables.{columnCount, mostRows}
+use Rattle.tables.specs.Tables.{columnCount}
 use Rattle.tables.specs.RowLists.{rowNumbers}
 use Rattle.woods.specs.Woods.{woodRows}
-use Rattle.woods.proofs.Lengths.{rows-length, list-counts}
-use borrow.Author.Needs.{needs}
+use Rattle.woods.proofs.Lengths.{rows-length}
 use Rattle.wood_tables.proofs.write_tables.Statement.{statement}
 use Rattle.wood_tables.proofs.write_tables.Tie as tie
 
--- ---- the rows
-abbrev drawn : tie.Start → List ℕ
-drawn s = flatten (woodRows (s .args .seed) (s .args .year) (s .args .stems))
-
-made-size : (s : tie.Start) → length (drawn s) ≡ s .args .count * columnCount
+made-size : (s : tie.Start) → length (flatten (woodRows (s .args .seed) (s .args .year) (s .args .stems))) ≡ s .args .count * columnCount
 made-size s = omega (arith, rows-length (s .args .seed) (s .args .stems) (s .args .year), s .pre .0 .2)
 
-not-many : (s : tie.Start) → s .args .count ≤ mostRows
-not-many s = omega (arith, s .pre .0 .0, s .pre .0 .2)
-
-abbrev Written : Type 0
-Written = tie.After-write-rows
-
-abbrev start : Written → tie.Start
-start w = w .before .before .before .before .before .before
-
-abbrev made : Written → List ℕ
-made w = drawn (start w)
-
-abbrev rows : Written → List ℕ
-rows w = w .write-rows .last .1 .1 .1 .0
-
-end-is : (w : Written) → w .write-rows .result ≡ start w .args .count * columnCount
-end-is w = w .write-rows .ensures .0 ∙ sym (ap (λ n. n * columnCount) (start w .pre .0 .2))
-
-rows-are : (w : Written) → rows w ≡ over (made w) (start w .args .rows .now)
-rows-are w = w .write-rows .ensures .1
-
-end-fits : (w : Written) → w .write-rows .result ≤ length (rows w)
-end-fits w =
-    omega (
-      arith,
-      end-is w,
-      ap length (rows-are w),
-      made-size (start w),
-      start w .pre .1 .0 .0,
-      length-over (made w) (start w .args .rows .now) (omega (arith, made-size (start w), start w .pre .1 .0 .0)),
-    )
-
-front : (w : Written) → take (w .write-rows .result) (rows w) ≡ made w
-front w =
-    let n : w .write-rows .result ≡ length (made w) = omega (arith, end-is w, made-size (start w)) in
-    ap (λ k. take k (rows w)) n ∙ ap (take (length (made w))) (rows-are w) ∙ take-over (made w) (start w .args .rows .now)
-
--- ---- a list over the front of its buffer
-over-list : (w : Written) (o : Order) (part buffer : List ℕ) → part ≡ rowNumbers o (take (w .write-rows .result) (rows w))
-    → part ++ drop (start w .args .count) buffer ≡ over (rowNumbers o (made w)) buffer
-over-list w o part buffer e =
-    let q : part ≡ rowNumbers o (made w) = e ∙ ap (rowNumbers o) (front w) in
-    let n : start w .args .count ≡ length (rowNumbers o (made w)) =
-    omega (arith, list-counts (start w .args .seed) (start w .args .stems) (start w .args .year) o, start w .pre .0 .2) in
-    ap (λ l. l ++ drop (start w .args .count) buffer) q ∙ ap (λ k. rowNumbers o (made w) ++ drop k buffer) n
-
 write-rows-requires : tie.Need-write-rows-requires
-write-rows-requires c κs =
-    let s = c .before .before .before .before .before in
-    ((s .pre .0 .0, s .pre .0 .1), omega (arith, s .pre .0 .2, s .pre .1 .0 .0))
+write-rows-requires c κs = search needs
 
-slice-reshare-prefix-write-list : tie.Need-slice-reshare-prefix-write-list
-slice-reshare-prefix-write-list c = end-fits (c .before .before)
-
-slice-aggregate-write-list : tie.Need-slice-aggregate-write-list
-slice-aggregate-write-list c = let w = c .before .before .before in sym (length-take-le (w .write-rows .result) (rows w) (end-fits w))
-
-slice-relend-prefix-write-list : tie.Need-slice-relend-prefix-write-list
-slice-relend-prefix-write-list c = search needs
-
-slice-aggregate-write-list-2 : tie.Need-slice-aggregate-write-list-2
-slice-aggregate-write-list-2 c =
-    let s = start (c .before .before .before .before) in
-    sym (length-take-le (s .args .count) (s .args .pos .now) (s .pre .1 .0 .1))
-
-write-list-requires : tie.Need-write-list-requires
-write-list-requires c κs =
-    let w = c .before .before .before .before .before in
-    let s = start w in
-    let n = length-take-le (s .args .count) (s .args .pos .now) (s .pre .1 .0 .1) in
-    let m = ap length (front w) in
-    record {
-      whole = omega (arith, n, m, made-size s);
-      few = omega (arith, n, not-many s);
-      spared = omega (arith, n, not-many s, s .pre .1 .1);
-    }
-
-slice-reshare-prefix-write-list-2 : tie.Need-slice-reshare-prefix-write-list-2
-slice-reshare-prefix-write-list-2 c = end-fits (c .before .before .before .before .before .before .before .before .before .before)
-
-slice-aggregate-write-list-3 : tie.Need-slice-aggregate-write-list-3
-slice-aggregate-write-list-3 c =
-    let w = c .before .before .before .before .before .before .before .before .before .before .before in
-    sym (length-take-le (w .write-rows .result) (rows w) (end-fits w))
-
-slice-relend-prefix-write-list-2 : tie.Need-slice-relend-prefix-write-list-2
-slice-relend-prefix-write-list-2 c = search needs
-
-slice-aggregate-write-list-4 : tie.Need-slice-aggregate-write-list-4
-slice-aggregate-write-list-4 c =
-    let s = start (c .before .before .before .before .before .before .before .before .before .before .before .before) in
-    sym (length-take-le (s .args .count) (s .args .osp .now) (s .pre .1 .0 .2))
-
-write-list-requires-2 : tie.Need-write-list-requires-2
-write-list-requires-2 c κs =
-    let w = c .before .before .before .before .before .before .before .before .before .before .before .before .before in
-    let s = start w in
-    let n = length-take-le (s .args .count) (s .args .osp .now) (s .pre .1 .0 .2) in
-    let m = ap length (front w) in
-    record {
-      whole = omega (arith, n, m, made-size s);
-      few = omega (arith, n, not-many s);
-      spared = omega (arith, n, not-many s, s .pre .1 .1, c .before .before .before .before .before .before .before .write-list .kept .1);
-    }
+write-lists-requires : tie.Need-write-lists-requires
+write-lists-requires c κs = search needs
 
 same-length : tie.Need-same-length
 same-length c = search needs
@@ -143,28 +38,28 @@ same-length-4 c = search needs
 
 returns : tie.Need-returns
 returns c =
-    let q = c .before .before .before .before .before .before .before .before .before .before .before .before in
-    let w = q .before .before .before .before .before .before in
-    let a = start w .args in
-    let p = q .write-list in
-    let o = c .before .before .before .before .write-list2 in
-    (end-is w, (rows-are w, (over-list w Pos (p .last .1 .1 .0) (a .pos .now) (p .ensures), over-list w Osp (o .last .1 .1 .0) (a .osp .now) (o .ensures))))
+    let l = c .before .before .before .before .before .before .write-lists in
+    let w = c .before .before .before .before .before .before .before .before .before .before .before .before .before in
+    let s = w .before .before .before .before .before .before in
+    let a = s .args in
+    let rows : w .write-rows .last .1 .1 .1 .0 ≡ over (flatten (woodRows (a .seed) (a .year) (a .stems))) (a .rows .now) = w .write-rows .ensures .1 in
+    let first = ap₂ take (sym (made-size s)) rows ∙ take-over (flatten (woodRows (a .seed) (a .year) (a .stems))) (a .rows .now) in (
+      omega (arith, w .write-rows .ensures .0, s .pre .0 .2),
+      (
+        rows,
+        (
+          l .ensures .0 ∙ ap (λ rs. over (rowNumbers Pos rs) (a .pos .now)) first,
+          l .ensures .1 ∙ ap (λ rs. over (rowNumbers Osp rs) (a .osp .now)) first,
+        ),
+      ),
+    )
 
 pub write-tables-spec : {M : Type 1} → statement M
 write-tables-spec =
     tie.close
     (tie.spec
     write-rows-requires
-    slice-reshare-prefix-write-list
-    slice-aggregate-write-list
-    slice-relend-prefix-write-list
-    slice-aggregate-write-list-2
-    write-list-requires
-    slice-reshare-prefix-write-list-2
-    slice-aggregate-write-list-3
-    slice-relend-prefix-write-list-2
-    slice-aggregate-write-list-4
-    write-list-requires-2
+    write-lists-requires
     same-length
     same-length-2
     same-length-3

@@ -7,10 +7,11 @@ use mathlib.Core.Bool.{true, false, not}
 use mathlib.Core.List.{List, [], _∷_, _++_}
 use lib.ListN.{length, getD, length-append}
 use borrow.Author.Tests.{eq-eqb, ne-eqb}
+use Rattle.sequences.proofs.Growing.{grow-whole, grow-count, grow-length}
 use Rattle.sequences.specs.Sequences.{numbers, over}
 use Rattle.sequences.proofs.Numbers.{numbers-none, numbers-next}
 use Rattle.upload_writes.specs.Writing.{writtenFor, isKeptIn, droppedWords}
-use Rattle.upload_writes.proofs.Written.{written-none, written-yes, written-no, numbers-part, grow-whole, grow-count, grow-length}
+use Rattle.upload_writes.proofs.Written.{written-none, written-yes, written-no, numbers-part}
 use Rattle.upload_writes.proofs.reports.write_report.Statement.{statement}
 use Rattle.upload_writes.proofs.reports.write_report.Tie as tie
 

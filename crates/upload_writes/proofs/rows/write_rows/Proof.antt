@@ -8,6 +8,7 @@ use mathlib.Core.List.{List, [], _∷_, _++_}
 use lib.ListN.{length, take, getD, length-append}
 use lib.Seq.{take-suc, take-length, paste}
 use borrow.Author.Tests.{leb-true, eq-eqb, ne-eqb}
+use Rattle.sequences.proofs.Growing.{grow-whole, grow-count, grow-length}
 use Rattle.sequences.specs.Sequences.{over}
 use Rattle.sequences.proofs.Elements.{all-at}
 use Rattle.tables.specs.declared.Order.the-variants.{Spo}
@@ -15,7 +16,7 @@ use Rattle.tables.specs.Tables.{columnCount, fieldsOf}
 use Rattle.tables.proofs.Columns.{fields-length}
 use Rattle.tables.specs.RowLists.{inRows}
 use Rattle.upload_writes.specs.Writing.{isKeptIn, keptWords}
-use Rattle.upload_writes.proofs.Written.{written-none, written-yes, written-no, written-part, grow-whole, grow-count, grow-length}
+use Rattle.upload_writes.proofs.Written.{written-none, written-yes, written-no, written-part}
 use Rattle.upload_writes.proofs.rows.write_rows.Statement.{statement}
 use Rattle.upload_writes.proofs.rows.write_rows.Tie as tie
 

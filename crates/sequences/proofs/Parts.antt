@@ -1,4 +1,4 @@
--- The record with a number: where it stands among the words of a list.
+-- The part with a number, of parts that have so many elements each: where it stands in its list.
 use Prim.Native.Nat.{ℕ, zero, suc, _+_, _*_, _/_, _≤_, _<_}
 use native.Mathlib.Omega.{arith}
 use native.Mathlib.Nat.{suc-mul, mul-le-mul-right, div-mul-le-self}
@@ -6,11 +6,11 @@ use mathlib.Core.Path.{_≡_, _∙_, ap}
 use mathlib.Core.List.{List, []}
 use lib.ListN.{length, getD, take, drop}
 use lib.Seq.{drop-drop}
 use Rattle.sequences.specs.Sequences.{parts}
 
--- the words before it and its own are words of the list
-pub record-fits : (i length w : ℕ) → i < length / w → i * w + w ≤ length
-record-fits i length w h =
+-- the elements before it and its own are in the list
+pub part-fits : (i length w : ℕ) → i < length / w → i * w + w ≤ length
+part-fits i length w h =
     let s = suc-mul i w in
     let m = mul-le-mul-right {m = suc i} {n = length / w} w (omega arith) in
     let d = div-mul-le-self length w in
