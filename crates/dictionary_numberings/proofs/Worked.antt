@@ -66,14 +66,19 @@ unfolding computing
 short-places = refl
 
 -- ---- U+1D11E, U+FF5E, U+00E9 and "z" as names come out the other way round: not as UTF-16 has the first two, and no byte is below zero
-four-names : resultOfCall numberCall
-    (numberInput Names (0xF0 ∷ 0x9D ∷ 0x84 ∷ 0x9E ∷ 0xEF ∷ 0xBD ∷ 0x9E ∷ 0xC3 ∷ 0xA9 ∷ 0x7A ∷ []) (4 ∷ 7 ∷ 9 ∷ 10 ∷ [])
-    (sevens 10 4 4 4))
+abbrev fourNames : NumberBuffers → NumberInput
+fourNames b = numberInput Names (0xF0 ∷ 0x9D ∷ 0x84 ∷ 0x9E ∷ 0xEF ∷ 0xBD ∷ 0x9E ∷ 0xC3 ∷ 0xA9 ∷ 0x7A ∷ []) (4 ∷ 7 ∷ 9 ∷ 10 ∷ []) b
+
+four-names : resultOfCall numberCall (fourNames (sevens 10 4 4 4))
     ≡ result (Sizes 10 4)
     (numberBuffers (0x7A ∷ 0xC3 ∷ 0xA9 ∷ 0xEF ∷ 0xBD ∷ 0x9E ∷ 0xF0 ∷ 0x9D ∷ 0x84 ∷ 0x9E ∷ []) (1 ∷ 3 ∷ 6 ∷ 10 ∷ [])
     (3 ∷ 2 ∷ 1 ∷ 0 ∷ []) (3 ∷ 2 ∷ 1 ∷ 0 ∷ []))
 unfolding computing
 four-names = refl
+
+nine-bytes : resultOfCall numberCall (fourNames (sevens 9 4 4 4)) ≡ result (Refused 27) (sevens 9 4 4 4)
+unfolding computing
+nine-bytes = refl
 
 no-strings : resultOfCall numberCall (numberInput Names [] [] (sevens 1 0 0 0)) ≡ result (Sizes 0 0) (sevens 1 0 0 0)
 unfolding computing

@@ -192,7 +192,7 @@ string-requires : tie.Need-string-requires Inv-loop μ-loop
 string-requires c κs = let w = c .before .before in (start (turn w) .pre .0, within w)
 
 copy-bytes-requires : tie.Need-copy-bytes-requires Inv-loop μ-loop
-copy-bytes-requires c κs = fits (c .before)
+copy-bytes-requires c κs = omega (arith, fits (c .before))
 
 add-filled : tie.Need-add-filled Inv-loop μ-loop
 add-filled c = omega (arith, small (held c))
