@@ -26,7 +26,7 @@ use Rattle.cuts.proofs.Turning.{served-keeps}
 use Rattle.cuts.proofs.Taking.{merging-keeps, joining-keeps}
 
 -- no row, no total
-nothing-fits : (e : Ending) (r : Run) → r .delivered ≡ [] → runFits e r ≡ true
+pub nothing-fits : (e : Ending) (r : Run) → r .delivered ≡ [] → runFits e r ≡ true
 unfolding all addAllBy
 nothing-fits (rows vs) r d = refl
 nothing-fits (top k vs keys) r d = refl

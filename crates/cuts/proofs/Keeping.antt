@@ -48,7 +48,7 @@ unfolding positionWords
 no-words number none e = refl
 no-words number (some s) e = cc
 
-is-none : (o : Option State) → isOver o ≡ true → o ≡ none
+pub is-none : (o : Option State) → isOver o ≡ true → o ≡ none
 is-none none e = refl
 is-none (some s) e = absurd-true refl (sym e)
 

@@ -76,7 +76,7 @@ some-kept ws n h = go (eqb (length ws) 0) refl h
     go true p e = absurd (n (eqb-true (length ws) 0 p))
     go false p e = eqb-true (length ws) registerCount (and-left (eqb (length ws) registerCount) (all isRank ws) e)
 
-some-in : (ws : List ℕ) → (length ws ≡ 0 → ⊥) → registersIn ws ≡ ws
+pub some-in : (ws : List ℕ) → (length ws ≡ 0 → ⊥) → registersIn ws ≡ ws
 some-in [] n = absurd (n refl)
 some-in (w ∷ ws) n = refl
 

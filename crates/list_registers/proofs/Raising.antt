@@ -42,7 +42,7 @@ unfolding registersOf registerOf numbers
 registers-none = refl
 
 -- ---- of one value
-map-last : (f : ℕ → ℕ) (vs : List ℕ) (n : ℕ) → map f (vs ++ (n ∷ [])) ≡ map f vs ++ (f n ∷ [])
+pub map-last : (f : ℕ → ℕ) (vs : List ℕ) (n : ℕ) → map f (vs ++ (n ∷ [])) ≡ map f vs ++ (f n ∷ [])
 map-last f [] n = refl
 map-last f (v ∷ vs) n = ap (λ l. f v ∷ l) (map-last f vs n)
 

@@ -12,6 +12,16 @@ use Rattle.sequences.specs.Sequences.{member, distinct}
 use Rattle.sequences.proofs.Booleans.{and-left, and-right, or-left, or-right}
 use Rattle.lists.proofs.Counts.{count, count-nil, count-append}
 
+module _ {A : Type 0} where
+  -- with one list emptied, those at other places are as they were
+  pub others : (xss : List (List A)) (i : ℕ) (js : List ℕ) → member i js ≡ false
+      → map (λ j. getD (set xss i []) j []) js ≡ map (λ j. getD xss j []) js
+  unfolding member
+  others xss i [] e = refl
+  others xss i (j ∷ js) e =
+      ap₂ _∷_ (getD-set-other xss i j [] [] (λ q. eqb-false i j (or-left (eqb i j) (member i js) e) (sym q)))
+      (others xss i js (or-right (eqb i j) (member i js) e))
+
 module _ {A : Type 0} (f : A → Bool) where
   -- one list emptied
   count-set : (xss : List (List A)) (i : ℕ)
@@ -22,15 +32,6 @@ module _ {A : Type 0} (f : A → Bool) where
   count-set (xs ∷ xss) (suc i) =
       let h = count-set xss i in
       omega (arith, count-append f xs (flatten xss), count-append f xs (flatten (set xss i [])))
-
-  -- it is none of the others
-  others : (xss : List (List A)) (i : ℕ) (js : List ℕ) → member i js ≡ false
-      → map (λ j. getD (set xss i []) j []) js ≡ map (λ j. getD xss j []) js
-  unfolding member
-  others xss i [] e = refl
-  others xss i (j ∷ js) e =
-      ap₂ _∷_ (getD-set-other xss i j [] [] (λ q. eqb-false i j (or-left (eqb i j) (member i js) e) (sym q)))
-      (others xss i js (or-right (eqb i j) (member i js) e))
 
   pub count-chosen : (chosen : List ℕ) (xss : List (List A)) → distinct chosen ≡ true
       → count f (flatten (map (λ i. getD xss i []) chosen)) ≤ count f (flatten xss)

@@ -55,9 +55,9 @@ wrapped-twice g =
     let s = ap sumIn (same-bits (g .sum)) in
     λ i. record { keys = g .keys; rows = g .rows; numbers = g .numbers; sum = s i; least = g .least; greatest = g .greatest }
 
-map-twice : (gs : List Group) → map wrapped (map wrapped gs) ≡ map wrapped gs
-map-twice [] = refl
-map-twice (g ∷ gs) = ap₂ _∷_ (wrapped-twice g) (map-twice gs)
+pub all-wrapped-twice : (gs : List Group) → map wrapped (map wrapped gs) ≡ map wrapped gs
+all-wrapped-twice [] = refl
+all-wrapped-twice (g ∷ gs) = ap₂ _∷_ (wrapped-twice g) (all-wrapped-twice gs)
 
 wrapped-joins : (g h : Group) → wrapped (together g h) ≡ wrappedTogether (wrapped g) (wrapped h)
 unfolding wrappedTogether
@@ -78,7 +78,7 @@ words-added gs hs =
     sym (map-words (addGroups (map wrapped gs) (map wrapped hs)))
     ∙ ap (map groupWords)
     (all-joins (map wrapped gs) (map wrapped hs)
-    ∙ ap₂ (addAllBy keysBefore wrappedTogether) (map-twice gs) (map-twice hs)
+    ∙ ap₂ (addAllBy keysBefore wrappedTogether) (all-wrapped-twice gs) (all-wrapped-twice hs)
     ∙ sym (all-joins gs hs))
     ∙ map-words (addGroups gs hs)
 
@@ -88,7 +88,7 @@ pub words-added-one : (x : Group) (gs : List Group)
 words-added-one x gs =
     sym (map-words (addBy keysBefore together x (map wrapped gs)))
     ∙ ap (map groupWords)
-    (one-joins x (map wrapped gs) ∙ ap (addBy keysBefore wrappedTogether (wrapped x)) (map-twice gs) ∙ sym (one-joins x gs))
+    (one-joins x (map wrapped gs) ∙ ap (addBy keysBefore wrappedTogether (wrapped x)) (all-wrapped-twice gs) ∙ sym (one-joins x gs))
     ∙ map-words (addBy keysBefore together x gs)
   where
     one-joins : (y : Group) (hs : List Group) → map wrapped (addBy keysBefore together y hs) ≡ addBy keysBefore wrappedTogether (wrapped y) (map wrapped hs)

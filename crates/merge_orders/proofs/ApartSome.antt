@@ -1,14 +1,12 @@
 -- Some of the lists, none of them taken twice: where no two elements of all lists are equal, no two of theirs are.
 use Prim.Native.Nat.{ℕ, zero, suc}
 use mathlib.Core.Path.{_≡_, refl, sym, _∙_, ap, ap₂, subst}
-use mathlib.Core.Bool.{Bool, true, false, not}
+use mathlib.Core.Bool.{Bool, true, not}
 use mathlib.Core.List.{List, [], _∷_, _++_, map, flatten, List·Permᴰ, List·Permᴰ·nil, List·Permᴰ·trans, Permᴰ·refl}
-use lib.Dec.{eqb}
 use lib.ListN.{length, getD, set, List·getD-map}
-use lib.Seq.{getD-set-other}
-use borrow.Author.Tests.{eqb-false, not-true}
+use borrow.Author.Tests.{not-true}
 use Rattle.sequences.specs.Sequences.{member, distinct}
-use Rattle.sequences.proofs.Booleans.{and-left, and-right, or-left, or-right}
+use Rattle.sequences.proofs.Booleans.{and-left, and-right}
 use Rattle.sequences.proofs.Orders.{Ordered}
 use Rattle.sequences.proofs.Each.{Each, each-append}
 use Rattle.sequences.proofs.EachMore.{each-weaken, each-left, each-permuted}
@@ -16,6 +14,7 @@ use Rattle.lists.specs.Rows.{rowBefore}
 use Rattle.lists.specs.Gathering.{recordsIn}
 use Rattle.lists.proofs.Records.{records-nil}
 use Rattle.lists.proofs.RowOrder.{rows-ordered}
+use Rattle.lists.proofs.Chosen.{others}
 use Rattle.merge_orders.specs.Apart.{Differs, Apart}
 use Rattle.merge_orders.specs.Ways.{rowsMerged}
 use Rattle.merge_orders.proofs.Permuted.{behind-permuted, swapped}
@@ -30,15 +29,6 @@ module _ {A : Type 0} where
   taken-out (xs ∷ xss) zero = Permᴰ·refl (xs ++ flatten xss)
   taken-out (xs ∷ xss) (suc i) =
       List·Permᴰ·trans (behind-permuted xs (taken-out xss i)) (swapped xs (getD xss i []) (flatten (set xss i [])))
-
-  -- with one list emptied, those at other places are as they were
-  elsewhere : (xss : List (List A)) (i : ℕ) (js : List ℕ) → member i js ≡ false
-      → map (λ j. getD (set xss i []) j []) js ≡ map (λ j. getD xss j []) js
-  unfolding member
-  elsewhere xss i [] e = refl
-  elsewhere xss i (j ∷ js) e =
-      ap₂ _∷_ (getD-set-other xss i j [] [] (λ q. eqb-false i j (or-left (eqb i j) (member i js) e) (sym q)))
-      (elsewhere xss i js (or-right (eqb i j) (member i js) e))
 
   each-some : (P : A → Type 0) (is : List ℕ) (xss : List (List A)) → Each P (flatten xss) → Each P (flatten (map (λ i. getD xss i []) is))
   unfolding flatten
@@ -57,7 +47,7 @@ module _ {A : Type 0} where
       let q = apart-permuted before o (taken-out xss i) p in
       let rest = apart-some before o is R (and-right (not (member i is)) (distinct is) d) (apart-right before X (flatten R) q) in
       let across = each-weaken (λ x. each-some (Differs before x) is R) X (apart-across before X (flatten R) q) in
-      subst (λ l. Apart before (X ++ flatten l)) (elsewhere xss i is (not-true (member i is) (and-left (not (member i is)) (distinct is) d)))
+      subst (λ l. Apart before (X ++ flatten l)) (others xss i is (not-true (member i is) (and-left (not (member i is)) (distinct is) d)))
       (apart-append before X (flatten (map (λ j. getD R j []) is)) (apart-left before X (flatten R) q) rest across)
 
 -- of rows

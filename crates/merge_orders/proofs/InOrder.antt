@@ -1,11 +1,10 @@
 -- Lists merged in the order of turns, one after the other, and the numbers of these turns.
 use Prim.Native.Nat.{ℕ, zero, suc, _≤_}
 use native.Mathlib.Omega.{arith}
-use mathlib.Core.Path.{_≡_, refl, sym, _∙_, ap, ap₂}
+use mathlib.Core.Path.{_≡_, refl, sym, _∙_, ap}
 use mathlib.Core.List.{List, [], _∷_, _++_, map, map-append, flatten, foldl}
 use lib.ListN.{length, take, getD}
 use lib.Seq.{take-suc, take-length}
-use lib.IntN.{ℤ}
 use Rattle.sequences.specs.Sequences.{numbers}
 use Rattle.sequences.proofs.Each.{Each}
 use Rattle.sequences.proofs.Numbers.{numbers-none, numbers-next}
@@ -13,10 +12,9 @@ use Rattle.plans.specs.Endings.{group, registers}
 use Rattle.registers.specs.Registers.{registerCount, registersIn, greaterOf}
 use Rattle.registers.proofs.Merging.{greater-comm, greater-assoc}
 use Rattle.registers.proofs.Bounds.{greater-length, none-greater}
-use Rattle.lists.specs.Sums.{sumBits, sumIn}
 use Rattle.lists.specs.Groups.{Group, keysBefore, together, addAllBy, addGroups, groupWords}
 use Rattle.lists.specs.Gathering.{groupsIn, merged}
-use Rattle.lists.proofs.Sums.{bits-in, bits-below}
+use Rattle.lists.proofs.Wrapping.{all-wrapped-twice}
 use Rattle.lists.proofs.Adding.{addAll-append}
 use Rattle.lists.proofs.GroupWords.{HaveKeys, wrapped, groups-in-words, have-keys-in}
 use Rattle.lists.proofs.GroupsAdded.{have-addAll}
@@ -46,21 +44,10 @@ all-numbers d f xs =
     ∙ ap (map f) (each-number d xs)
 
 -- ---- groups: sums are wrapped in words, which adds up to the same words
-same-bits : (b : ℤ) → sumBits (sumIn (sumBits b)) ≡ sumBits b
-same-bits b = bits-in (sumBits b) ∙ (let l = bits-below b in omega arith)
-
-wrapped-twice : (gs : List Group) → map wrapped (map wrapped gs) ≡ map wrapped gs
-wrapped-twice [] = refl
-wrapped-twice (g ∷ gs) =
-    let s = ap sumIn (same-bits (g .sum)) in
-    let e : wrapped (wrapped g) ≡ wrapped g =
-    λ i. record { keys = g .keys; rows = g .rows; numbers = g .numbers; sum = s i; least = g .least; greatest = g .greatest } in
-    ap₂ _∷_ e (wrapped-twice gs)
-
 words-onto : (gs hs : List Group) → map groupWords (addGroups (map wrapped gs) hs) ≡ map groupWords (addGroups gs hs)
 words-onto gs hs =
     sym (words-added (map wrapped gs) hs)
-    ∙ ap (λ l. map groupWords (addGroups l (map wrapped hs))) (wrapped-twice gs)
+    ∙ ap (λ l. map groupWords (addGroups l (map wrapped hs))) (all-wrapped-twice gs)
     ∙ words-added gs hs
 
 module _ (vs : List ℕ) (m : ℕ) where

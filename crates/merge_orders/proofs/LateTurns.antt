@@ -2,7 +2,6 @@
 use Prim.Native.Nat.{ℕ, _<_}
 use mathlib.Core.Path.{_≡_, refl, sym, _∙_, ap, subst, subst⁻¹}
 use mathlib.Core.Bool.{Bool, true, false}
-use mathlib.Core.Option.{Option, none, some}
 use mathlib.Core.List.{List, [], _∷_, map, foldl}
 use lib.ListN.{length}
 use Rattle.words.specs.Bindings.{Bindings}
@@ -13,7 +12,7 @@ use Rattle.tables.specs.Tables.{Tables}
 use Rattle.plans.specs.Endings.{Ending, rows, top, group, registers}
 use Rattle.plans.specs.Plans.{Plan, planOf, hasForm}
 use Rattle.plans.proofs.Bounds.{EndingForm}
-use Rattle.steps.specs.Steps.{State, after}
+use Rattle.steps.specs.Steps.{after}
 use Rattle.registers.specs.Registers.{registerCount}
 use Rattle.lists.specs.Rows.{project, rowBefore}
 use Rattle.lists.specs.Gathering.{isRows, gathered, takenInto, listRight}
@@ -34,6 +33,7 @@ use Rattle.cuts.proofs.Chains.{Chain, piece-adds, kept-some, chain-placed, chai
 use Rattle.cuts.proofs.MergeRefusals.{piece-right}
 use Rattle.cuts.proofs.Keeping.{Kept, end-later, whole}
 use Rattle.cuts.proofs.AnyCut.{history-keeps, fresh-keeps}
+use Rattle.cuts.proofs.Keeping.{is-none}
 use Rattle.merge_orders.specs.Apart.{Apart}
 use Rattle.merge_orders.specs.Ways.{Way, turnsAlong, isMerge, EachOnce}
 use Rattle.merge_orders.proofs.ApartParts.{apart-lists}
@@ -42,10 +42,6 @@ use Rattle.merge_orders.proofs.AnyOrder.{any-order}
 use Rattle.merge_orders.proofs.Refused.{ways-refused}
 use Rattle.merge_orders.proofs.Once.{top-once, top-grouped, group-once, register-once}
 use Rattle.merge_orders.specs.LateTurns.{GivesUncut, LateAsUncut}
-
-over-none : (o : Option State) → isOver o ≡ true → o ≡ none
-over-none none e = refl
-over-none (some s) e = absurd-true refl (sym e)
 
 -- the lists of a chain, taken in order, make what the run keeps
 chain-taken : (v : Survey) (q : Plan) → EndingForm (q .ending) → (from end : ℕ) (xs : List ServedTurn) → Chain v q from xs end
@@ -151,7 +147,7 @@ module _ (v : Survey) (plan : List ℕ) (a : Accepted (v .tables) plan) (h : Pho
         grouped = λ j vs keys e w i p b f.
             top-grouped plan (listsIn (servedIn h)) j vs keys e (some-row j vs keys e) w i p b f ∙ top-taken j vs keys e;
         finished = λ d.
-            let end : EndsAt t q n = record { over = over-none (after t q n .state) (sym (k .done) ∙ d); not-before = k .alive } in
+            let end : EndsAt t q n = record { over = is-none (after t q n .state) (sym (k .done) ∙ d); not-before = k .alive } in
             (end, kept-some t q form n (end-later t q n end));
         refusals = ways-refused plan (ap hasForm (a .read), (a .variables, (a .years, tt))) (listsIn (servedIn h))
             (λ m. all-right v plan a m 0 n (servedIn h) chain);

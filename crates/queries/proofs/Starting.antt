@@ -10,38 +10,27 @@ use Rattle.words.specs.declared.Written.{Written}
 use Rattle.words.specs.declared.Written.the-variants as written
 use Rattle.words.specs.Words.{lowNumbers}
 use Rattle.words.specs.Answers.{wordsIn}
-use Rattle.sequences.specs.Sequences.{all, over}
+use Rattle.sequences.specs.Sequences.{over}
 use Rattle.sequences.proofs.Buffers.{length-over}
-use Rattle.plans.specs.Endings.{Ending, rows, top, group, registers}
 use Rattle.plans.specs.Plans.{planOf}
 use Rattle.steps.specs.Steps.{Run, after}
 use Rattle.steps.specs.Saved.{savedWords, leastStateWords}
 use Rattle.steps.proofs.Runs.{after-none}
-use Rattle.lists.specs.Groups.{addAllBy, groupsOf}
-use Rattle.lists.specs.Gathering.{groupFits}
 use Rattle.turns.specs.Surveys.{Survey}
 use Rattle.turns.specs.Opening.{openOf, Opens}
 use Rattle.turns.proofs.Opening.{open-refusals, open-passed}
 use Rattle.turns.proofs.Follows.{starts-run}
 use Rattle.cuts.specs.Histories.{stepsIn, doneIn, history, fresh}
-use Rattle.cuts.specs.Uncut.{runFits}
 use Rattle.cuts.specs.Accepting.{Accepted}
 use Rattle.cuts.proofs.Accepting.{opening-accepts}
 use Rattle.cuts.proofs.Keeping.{Kept}
 use Rattle.cuts.proofs.AnyCut.{fresh-keeps}
+use Rattle.cuts.proofs.AnyCut.{nothing-fits}
 use Rattle.queries.specs.declared.Keeping.{Keeping}
 use Rattle.queries.specs.Stepping.{keeps, keptOf}
 use Rattle.queries.specs.Playing.{none-made, StandsAfter, OpeningRefused, Started}
 use Rattle.queries.proofs.UnderWay.{startAt, UnderWay}
 use Rattle.queries.proofs.Leaving.{stands, not-over, GoesAhead}
-
--- no row has no total
-no-rows-fit : (e : Ending) (r : Run) → r .delivered ≡ [] → runFits e r ≡ true
-unfolding addAllBy all
-no-rows-fit (rows vs) r e = refl
-no-rows-fit (top k vs keys) r e = refl
-no-rows-fit (group vs m) r e = ap (λ l. all groupFits (groupsOf vs m l)) e
-no-rows-fit (registers v) r e = refl
 
 none-of : (b : Bool) → cond {A = List ℕ} b [] [] ≡ []
 none-of true = refl
@@ -79,7 +68,7 @@ module _ (v : Survey) (plan state : List ℕ) (saved : ℕ) (s : Started v plan 
             ∙ ap length (sym (r .buffer .front))
             ∙ sym (ap₂ (λ n l. length (take n l)) (s .counted) (s .left));
         state-room = omega (arith, l, n, ap length (r .buffer .whole), ap length (s .left));
-        fits = no-rows-fit (planOf plan .ending) (after (v .tables) (planOf plan) 0) (ap (λ (r : Run). r .delivered) (after-none (v .tables) (planOf plan)));
+        fits = nothing-fits (planOf plan .ending) (after (v .tables) (planOf plan) 0) (ap (λ (r : Run). r .delivered) (after-none (v .tables) (planOf plan)));
         list = sym (ap (λ l. over l kept) (nothing keep));
         words = sym (ap length (nothing keep));
         room = omega arith;

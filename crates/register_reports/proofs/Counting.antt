@@ -27,11 +27,7 @@ module _ (v : ℕ) (xs : List ℕ) (i : ℕ) where
     pub count-skips : (getD xs i 0 ≡ v → ⊥) → countAt v (drop i xs) ≡ countAt v (drop (i + 1) xs)
     count-skips n = count-step ∙ rw (ne-eqb (getD xs i 0) v n) (omega arith)
 
--- ---- of an empty list and of another
-pub some-registers : (ws : List ℕ) → (length ws ≡ 0 → ⊥) → registersIn ws ≡ ws
-some-registers [] n = absurd (n refl)
-some-registers (w ∷ ws) n = refl
-
+-- ---- of an empty list
 pub no-registers : (ws : List ℕ) → length ws ≡ 0 → registersIn ws ≡ registersIn []
 no-registers [] h = refl
 no-registers (w ∷ ws) h = absurd (omega arith)

@@ -10,14 +10,11 @@ use Rattle.sequences.proofs.Numbers.{numbers-none, numbers-next, numbers-length
 use Rattle.sequences.proofs.Buffers.{over-next}
 use Rattle.registers.specs.Registers.{registersIn, countAt, reportOn}
 use Rattle.register_reports.specs.Reporting.{reportWords}
+use Rattle.list_registers.proofs.Raising.{map-last}
 
 -- the counts at the values below n
 abbrev pub reported : List ℕ → ℕ → List ℕ
 reported ws n = map (λ v. countAt v (registersIn ws)) (numbers n)
-
-map-last : (f : ℕ → ℕ) (vs : List ℕ) (n : ℕ) → map f (vs ++ (n ∷ [])) ≡ map f vs ++ (f n ∷ [])
-map-last f [] n = refl
-map-last f (v ∷ vs) n = ap (λ l. f v ∷ l) (map-last f vs n)
 
 module _ (ws : List ℕ) where
   abbrev counter : ℕ → ℕ

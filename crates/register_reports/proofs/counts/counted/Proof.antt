@@ -2,7 +2,8 @@
 use borrow.Author.Needs.{needs}
 use mathlib.Core.Path.{sym, _∙_, ap}
 use Rattle.registers.specs.Registers.{countAt}
-use Rattle.register_reports.proofs.Counting.{some-registers, no-registers}
+use Rattle.list_registers.proofs.Merged.{some-in}
+use Rattle.register_reports.proofs.Counting.{no-registers}
 use Rattle.register_reports.proofs.counts.counted.Statement.{statement}
 use Rattle.register_reports.proofs.counts.counted.Tie as tie
 
@@ -20,7 +21,7 @@ count-at-requires c κs = search needs
 returns-2 : tie.Need-returns-2
 returns-2 c =
     let a = c .before .before .before .args in
-    c .count-at .ensures ∙ sym (ap (countAt (a .value)) (some-registers (a .list .now) (c .before .if1 .left)))
+    c .count-at .ensures ∙ sym (ap (countAt (a .value)) (some-in (a .list .now) (c .before .if1 .left)))
 
 pub counted-spec : {M : Type 1} → statement M
 counted-spec = tie.close (tie.spec counted-none-requires returns count-at-requires returns-2)
