@@ -11,9 +11,9 @@ use Rattle.sequences.specs.Sequences.{all, distinct}
 use Rattle.words.specs.Tests.{Test, AllPass}
 use Rattle.sequences.proofs.Booleans.{absurd-true, and-left, and-right, and-both}
 use Rattle.sequences.proofs.Elements.{all-head}
-use Rattle.words.proofs.Testing.{front-passes, rest-passes, test-passed}
+use Rattle.words.proofs.Testing.{fails-first, front-passes, rest-passes, test-passed}
 use Rattle.calls.specs.Calls.{RightCall, CallRefusals}
-use Rattle.calls.proofs.Refusals.{call-refusals}
+use Rattle.calls.proofs.Refusals.{by-number, call-refusals}
 use Rattle.turns.specs.Surveys.{Survey}
 use Rattle.turns.specs.declared.TurnEnding.{TurnEnding}
 use Rattle.turns.specs.declared.TurnEnding.the-variants as ending
@@ -144,7 +144,11 @@ module _ (v : Survey) (l : LentLists) (s : Serving) where
   pub serve-refusals : CallRefusals (serveSchema v l) s
   serve-refusals = call-refusals (serveSchema v l) (serving-right v l) s
 
-  -- a refusal leaves both lists and the output that were lent
+  -- a refusal answers its number and zeros, and leaves both lists and the output that were lent
   pub serve-unchanged : (x : ℕ) → serveOf v l s .answer .turned .ending ≡ ending.Refused x
-      → serveOf v l s .buffers ≡ record { line = l .line; aside = l .aside; output = s .output }
-  serve-unchanged x e = serve-refusals .unchanged x e .buffers
+      → serveOf v l s ≡ record {
+        answer = record { turned = record { steps = 0; ending = ending.Refused x; saved = 0; listed = 0 }; owner = 0; left = 0; waiting = 0; resting = 0 };
+        buffers = record { line = l .line; aside = l .aside; output = s .output };
+      }
+  serve-unchanged x e =
+      by-number (serveSchema v l) (serving-right v l) s x (fails-first x (serveTests v l s) (serve-refusals .refused x .0 e))
