@@ -35,6 +35,10 @@ number-is-right =
 pub number-refusals : (i : NumberInput) → CallRefusals numberCall i
 number-refusals i = call-refusals numberCall number-is-right i
 
+-- a refusal leaves the buffers that were lent
+pub number-unchanged : (i : NumberInput) (x : ℕ) → resultOfCall numberCall i .answer ≡ Refused x → resultOfCall numberCall i .buffers ≡ i .buffers
+number-unchanged i x e = number-refusals i .unchanged x e .buffers
+
 -- what test 26 says of the strings
 module _ (i : NumberInput) where
   pub given-cut : givenRight (i .kind) (i .bytes) (i .ends) ≡ true → endsRight (length (i .bytes)) 0 (i .ends) ≡ true

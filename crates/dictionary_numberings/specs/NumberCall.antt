@@ -42,7 +42,7 @@ givenStrings i = stringsOf (i .bytes) (i .ends)
 unfoldable pub givenRight : StringKind → List ℕ → List ℕ → Bool
 givenRight k bytes ends = endsRight (length bytes) 0 ends && stringsRight k (stringsOf bytes ends)
 
--- 27, by lengths alone: room for so many bytes, and for an end, a number and a place of each string
+-- 27, by lengths alone: room for `bytes` bytes, and for an end, a number and a place of each string
 unfoldable pub numberRoom : ℕ → ℕ → NumberBuffers → Bool
 numberRoom bytes strings b =
     leb bytes (length (b .bytes)) && (leb strings (length (b .ends)) && (leb strings (length (b .numbers)) && leb strings (length (b .places))))

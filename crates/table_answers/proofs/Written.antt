@@ -1,4 +1,4 @@
--- A call that writes tables is right, and a served one writes them over the first words of its buffers.
+-- A call that writes tables is right: a refused one leaves the buffers that were lent, and a served one writes them over their first words.
 use Prim.Native.Nat.{ℕ, _*_}
 use native.Mathlib.Omega.{arith}
 use mathlib.Core.Path.{_≡_, refl, sym, _∙_, ap, subst, subst⁻¹}
@@ -8,9 +8,10 @@ use Rattle.sequences.specs.Buffers.{Overwritten}
 use Rattle.sequences.specs.Sequences.{over}
 use Rattle.words.specs.Tests.{Test}
 use Rattle.sequences.proofs.Buffers.{overwritten, take-over}
-use Rattle.calls.specs.Calls.{RightCall}
+use Rattle.calls.specs.Calls.{RightCall, resultOfCall}
+use Rattle.calls.proofs.Refusals.{call-refusals}
 use Rattle.tables.specs.Tables.{Tables, columnCount}
-use Rattle.table_answers.specs.declared.TablesWritten.the-variants.{Words}
+use Rattle.table_answers.specs.declared.TablesWritten.the-variants.{Words, Refused}
 use Rattle.table_answers.specs.Writing.{TableBuffers, tableBuffers, TablesResult, writtenWith, tablesLeft, writesTables}
 use Rattle.table_answers.specs.Counts.{TablesCount, TablesOver}
 
@@ -26,6 +27,14 @@ writing-right tests numbers lent tables order =
       zero = λ i h. refl;
       counting = λ i h. refl;
     }
+
+-- what a refused call leaves: the buffers that were lent
+pub tables-unchanged : {I : Type 0} (tests : I → List Test) (numbers : List ℕ) (lent : I → TableBuffers) (tables : I → Tables)
+    → ((i : I) → map (λ (x : Test). x .0) (tests i) ≡ numbers) → (i : I) (x : ℕ)
+    → resultOfCall (writesTables tests numbers lent tables) i .answer ≡ Refused x
+    → resultOfCall (writesTables tests numbers lent tables) i .buffers ≡ lent i
+tables-unchanged tests numbers lent tables order i x e =
+    call-refusals (writesTables tests numbers lent tables) (writing-right tests numbers lent tables order) i .unchanged x e .buffers
 
 -- some words over a buffer, counted otherwise
 counted : (ws before : List ℕ) (n : ℕ) → length ws ≡ n → Overwritten ws before (over ws before) n
