@@ -9,11 +9,12 @@ use lib.ListN.{length, take, length-map}
 use Rattle.sequences.specs.Sequences.{over}
 use Rattle.sequences.proofs.Booleans.{and-left, and-right}
 use Rattle.sequences.proofs.Buffers.{take-over}
-use Rattle.calls.specs.Calls.{CallResult, NotRefused, RightCall, CallRefusals}
+use Rattle.calls.specs.Calls.{CallResult, resultOfCall, NotRefused, RightCall, CallRefusals}
 use Rattle.calls.proofs.Refusals.{call-served, call-so, call-refusals}
 use Rattle.dictionaries.specs.Dictionaries.{endsRight, stringRank}
 use Rattle.dictionaries.proofs.Searching.{strings-length}
 use Rattle.dictionary_numberings.specs.declared.DictionaryWritten.{DictionaryWritten}
+use Rattle.dictionary_numberings.specs.declared.DictionaryWritten.the-variants.{Refused}
 use Rattle.dictionary_numberings.specs.Numbering.{stringsOnce, bytesOnce, endsOnce, stringNumbers, stringsRight}
 use Rattle.dictionary_numberings.specs.NumberCall.{NumberBuffers, NumberInput, givenStrings, givenRight, writtenSizes, numberCall}
 use Rattle.dictionary_numberings.specs.NumberCall.{bytesLeft, endsLeft, numbersLeft, NumbersRight}
