@@ -194,9 +194,9 @@ evaluate-evaluate-requires-2 t c κs =
     let r = pair t (taken .before) in
     let s = begun t r in
     operand t s (right t r) (omega arith) (
-        first-inside (words t r) 0 (pair-here t r) (s .pre .1 .0) refl (right-is t r)
-        (sym (taken .if1 .taken) ∙ taken .before .is-short .ensures) refl refl .2
-        )
+    first-inside (words t r) 0 (pair-here t r) (s .pre .1 .0) refl (right-is t r)
+    (sym (taken .if1 .taken) ∙ taken .before .is-short .ensures) refl refl .2
+    )
 
 evaluate-evaluate-requires-3 : (t : ℕ) → evaluate-lts.Need-evaluate-requires-3 (callees t) (evaluate-at t) evaluate.Post
 evaluate-evaluate-requires-3 t c κs = let r = lone t (c .before .before .before .before) in operand t (begun t r) 1 (omega arith) (left-operand t r)
@@ -211,9 +211,9 @@ evaluate-evaluate-requires-5 t c κs =
     let r = first t f in
     let s = begun t r in
     operand t s (right t r) (omega arith) (
-        last-inside (words t r) 0 (pair-here t r) (s .pre .1 .0) refl (right-is t r)
-        (sym (left .if1 .left) ∙ left .before .is-short .ensures) refl refl .2
-        )
+    last-inside (words t r) 0 (pair-here t r) (s .pre .1 .0) refl (right-is t r)
+    (sym (left .if1 .left) ∙ left .before .is-short .ensures) refl refl .2
+    )
 
 evaluate-joined-requires : (t : ℕ) → evaluate-lts.Need-joined-requires (callees t) (evaluate-at t) evaluate.Post
 evaluate-joined-requires t c κs =
