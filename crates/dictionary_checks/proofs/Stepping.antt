@@ -25,55 +25,55 @@ row s ss r b rs step e h = elim (decided (isIn s b)) [ yes k ↦ rw k (ap some e
 abbrev rows9 : List Utf8Row
 rows9 = []
 
-abbrev step9 : ℕ → ByteStep
+abbrev pub step9 : ℕ → ByteStep
 step9 b = Wrong
 
 abbrev rows8 : List Utf8Row
 rows8 = utf8Row (span 0xF4 0xF4) (span 0x80 0x8F ∷ trailing ∷ trailing ∷ []) ∷ rows9
 
-abbrev step8 : ℕ → ByteStep
+abbrev pub step8 : ℕ → ByteStep
 step8 b = cond (isIn (span 0xF4 0xF4) b) (More AfterF4) (step9 b)
 
 abbrev rows7 : List Utf8Row
 rows7 = utf8Row (span 0xF1 0xF3) (trailing ∷ trailing ∷ trailing ∷ []) ∷ rows8
 
-abbrev step7 : ℕ → ByteStep
+abbrev pub step7 : ℕ → ByteStep
 step7 b = cond (isIn (span 0xF1 0xF3) b) (More Three) (step8 b)
 
 abbrev rows6 : List Utf8Row
 rows6 = utf8Row (span 0xF0 0xF0) (span 0x90 0xBF ∷ trailing ∷ trailing ∷ []) ∷ rows7
 
-abbrev step6 : ℕ → ByteStep
+abbrev pub step6 : ℕ → ByteStep
 step6 b = cond (isIn (span 0xF0 0xF0) b) (More AfterF0) (step7 b)
 
 abbrev rows5 : List Utf8Row
 rows5 = utf8Row (span 0xEE 0xEF) (trailing ∷ trailing ∷ []) ∷ rows6
 
-abbrev step5 : ℕ → ByteStep
+abbrev pub step5 : ℕ → ByteStep
 step5 b = cond (isIn (span 0xEE 0xEF) b) (More Two) (step6 b)
 
 abbrev rows4 : List Utf8Row
 rows4 = utf8Row (span 0xED 0xED) (span 0x80 0x9F ∷ trailing ∷ []) ∷ rows5
 
-abbrev step4 : ℕ → ByteStep
+abbrev pub step4 : ℕ → ByteStep
 step4 b = cond (isIn (span 0xED 0xED) b) (More AfterEd) (step5 b)
 
 abbrev rows3 : List Utf8Row
 rows3 = utf8Row (span 0xE1 0xEC) (trailing ∷ trailing ∷ []) ∷ rows4
 
-abbrev step3 : ℕ → ByteStep
+abbrev pub step3 : ℕ → ByteStep
 step3 b = cond (isIn (span 0xE1 0xEC) b) (More Two) (step4 b)
 
 abbrev rows2 : List Utf8Row
 rows2 = utf8Row (span 0xE0 0xE0) (span 0xA0 0xBF ∷ trailing ∷ []) ∷ rows3
 
-abbrev step2 : ℕ → ByteStep
+abbrev pub step2 : ℕ → ByteStep
 step2 b = cond (isIn (span 0xE0 0xE0) b) (More AfterE0) (step3 b)
 
 abbrev rows1 : List Utf8Row
 rows1 = utf8Row (span 0xC2 0xDF) (trailing ∷ []) ∷ rows2
 
-abbrev step1 : ℕ → ByteStep
+abbrev pub step1 : ℕ → ByteStep
 step1 b = cond (isIn (span 0xC2 0xDF) b) (More One) (step2 b)
 
 -- the table's spans behind a first byte are those of the step

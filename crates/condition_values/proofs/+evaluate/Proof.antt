@@ -18,7 +18,7 @@ use Rattle.condition_truths.proofs.is_false.Reads as is-false-reads
 use Rattle.conditions.proofs.Reading.{Begins}
 use Rattle.conditions.specs.declared.Evaluated.{Evaluated}
 use Rattle.conditions.specs.Evaluated.{evaluated}
-use Rattle.conditions.specs.Values.{Readable, conditionIn, comparisonRead}
+use Rattle.conditions.specs.Values.{Readable, conditionIn, comparisonRead, leftsOf, Few}
 use Rattle.conditions.proofs.Places.{lefts-length, lefts-part, left-here}
 use Rattle.conditions.proofs.Evaluating.{
   begins-at,
@@ -90,187 +90,185 @@ lefts-inside t s = lefts-length (s .args .p .now) (s .pre .1 .1)
 both-inside : (t : ℕ) (s : Begun t) → 0 < length (s .args .lefts .now)
 both-inside t s = omega (arith, inside t s, lefts-inside t s)
 
--- a part to the end, as it is lent
-part-read : (ws : List ℕ) (i : ℕ) → Readable (drop i ws) → Readable (take (length ws - i) (drop i ws))
-part-read ws i r = rw rest-of r
-
+-- a part to the end, as it is lent: its value, and that it may be evaluated
 part-value : (b : Bindings) (ws : List ℕ) (i : ℕ) {v : Evaluated} → v ≡ evaluated b (conditionIn (take (length ws - i) (drop i ws)))
     → v ≡ evaluated b (conditionIn (drop i ws))
 part-value b ws i e = e ∙ ap (λ (l : List ℕ). evaluated b (conditionIn l)) (rest-of ws i)
+
+operand : (t : ℕ) (s : Begun t) (i : ℕ) → 0 < i →
+    let p = s .args .p .now in
+    let ls = s .args .lefts .now in
+    let part = take (length p - i) (drop i p) in
+    Readable (drop i p) → (length part < t) × (Readable part × (take (length ls - i) (drop i ls) ≡ leftsOf part))
+operand t s i h r =
+    let p = s .args .p .now in
+    (omega (arith, s .pre .0, inside t s, rest-length p i), (rw rest-of r, lefts-part p (s .args .lefts .now) i (s .pre .1 .1)))
 
 -- the node at the start is known
 abbrev AtNode : ℕ → Type 0
 AtNode t = evaluate-lts.After-node-of (callees t) (evaluate-at t) evaluate.Post
 
-here : (t : ℕ) (c : AtNode t) → let s = c .before .before .before .before in Begins mostDepth (s .args .p .now) (c .node-of .result)
-here t c = let s = c .before .before .before .before in begins-at (s .args .p .now) 0 (inside t s) (c .node-of .ensures)
+abbrev entry : (t : ℕ) → AtNode t → Begun t
+entry t n = n .before .before .before .before
+
+here : (t : ℕ) (n : AtNode t) → Begins mostDepth (entry t n .args .p .now) (n .node-of .result)
+here t n = begins-at (entry t n .args .p .now) 0 (inside t (entry t n)) (n .node-of .ensures)
 
 -- no slice has as many words
-bounded : (t : ℕ) (c : AtNode t) → let s = c .before .before .before .before in length (s .args .p .now) < 0x2000_0000_0000_0000
-bounded t c = omega arith
+bounded : (t : ℕ) (n : AtNode t) → length (entry t n .args .p .now) < 0x2000_0000_0000_0000
+bounded t n = omega arith
 
 -- it is a pair, and where its right operand stands is known
 abbrev AtRight : ℕ → Type 0
 AtRight t = evaluate-lts.After-wide (callees t) (evaluate-at t) evaluate.Post
 
+abbrev node : (t : ℕ) → AtRight t → AtNode t
+node t r = r .before .before .before .before
+
 abbrev begun : (t : ℕ) → AtRight t → Begun t
-begun t c = c .before .before .before .before .before .before .before .before
+begun t r = entry t (node t r)
 
-pair-here : (t : ℕ) (c : AtRight t) → let s = c .before .before .before .before .before .before .before .before in Begins mostDepth (s .args .p .now) Pair
-pair-here t c =
-    let n = c .before .before .before .before in
-    let s = n .before .before .before .before in
-    begins-at (s .args .p .now) 0 (inside t s) (sym (c .before .before .enum-told5 .given .1) ∙ n .node-of .ensures)
+abbrev words : (t : ℕ) → AtRight t → List ℕ
+words t r = begun t r .args .p .now
 
-right-is : (t : ℕ) (c : AtRight t) → let s = c .before .before .before .before .before .before .before .before in
-    1 + c .wide .result ≡ 1 + wordsRead (readCondition mostDepth (drop 1 (s .args .p .now)))
-right-is t c =
-    let s = c .before .before .before .before .before .before .before .before in
-    ap (λ m. 1 + m) (c .wide .ensures ∙ left-here (s .args .p .now) 0 (pair-here t c) (s .pre .1 .1))
+abbrev right : (t : ℕ) → AtRight t → ℕ
+right t r = 1 + r .wide .result
 
-right-fits : (t : ℕ) (c : AtRight t) → let s = c .before .before .before .before .before .before .before .before in
-    1 + c .wide .result < length (s .args .p .now)
-right-fits t c =
-    let s = c .before .before .before .before .before .before .before .before in
-    right-inside (s .args .p .now) 0 (pair-here t c) (s .pre .1 .0) refl (right-is t c) .1
+pair-here : (t : ℕ) (r : AtRight t) → Begins mostDepth (words t r) Pair
+pair-here t r = begins-at (words t r) 0 (inside t (begun t r)) (sym (r .before .before .enum-told5 .given .1) ∙ node t r .node-of .ensures)
 
-right-room : (t : ℕ) (c : AtRight t) → let s = c .before .before .before .before .before .before .before .before in
-    1 + c .wide .result < length (s .args .lefts .now)
-right-room t c =
-    let s = c .before .before .before .before .before .before .before .before in
-    omega (arith, right-fits t c, lefts-inside t s)
+right-is : (t : ℕ) (r : AtRight t) → right t r ≡ 1 + wordsRead (readCondition mostDepth (drop 1 (words t r)))
+right-is t r = ap (λ m. 1 + m) (r .wide .ensures ∙ left-here (words t r) 0 (pair-here t r) (begun t r .pre .1 .1))
+
+right-fits : (t : ℕ) (r : AtRight t) → right t r < length (words t r)
+right-fits t r = right-inside (words t r) 0 (pair-here t r) (begun t r .pre .1 .0) refl (right-is t r) .1
+
+right-room : (t : ℕ) (r : AtRight t) → right t r < length (begun t r .args .lefts .now)
+right-room t r = omega (arith, right-fits t r, lefts-inside t (begun t r))
+
+left-operand : (t : ℕ) (r : AtRight t) → Readable (drop 1 (words t r))
+left-operand t r = left-read (words t r) 0 (pair-here t r) (begun t r .pre .1 .0) refl (right-is t r)
+
+-- the number of a value's reads fits, as no slice has as many words
+few : (t : ℕ) (r : AtRight t) (i : ℕ) (v : Evaluated) → let b = begun t r .args .bound .now in
+    v ≡ evaluated b (conditionIn (take (length (words t r) - i) (drop i (words t r)))) → Few v
+few t r i v e = let b = begun t r .args .bound .now in few-from b i (words t r) (part-value b (words t r) i e) (bounded t (node t r))
+
+-- whether the right operand is a lone comparison is known
+abbrev AtShort : ℕ → Type 0
+AtShort t = evaluate-lts.After-is-short (callees t) (evaluate-at t) evaluate.Post
+
+abbrev pair : (t : ℕ) → AtShort t → AtRight t
+pair t h = h .before .before
+
+-- it is one, and evaluated
+abbrev AtLone : ℕ → Type 0
+AtLone t = evaluate-lts.After-evaluate2 (callees t) (evaluate-at t) evaluate.Post
+
+abbrev lone : (t : ℕ) → AtLone t → AtRight t
+lone t l = let taken = l .before .before .before in pair t (taken .before)
+
+-- it is none, and the left operand is evaluated
+abbrev AtFirst : ℕ → Type 0
+AtFirst t = evaluate-lts.After-evaluate4 (callees t) (evaluate-at t) evaluate.Post
+
+abbrev first : (t : ℕ) → AtFirst t → AtRight t
+first t f = let left = f .before .before .before in pair t (left .before)
 
 evaluate-compared-requires : (t : ℕ) → evaluate-lts.Need-compared-requires (callees t) (evaluate-at t) evaluate.Post
 evaluate-compared-requires t c κs =
-    let s = c .before .before .before .before .before .before in
-    omega (arith, compared-room (s .args .p .now) 0 (here t (c .before .before)) (s .pre .1 .0) (c .enum-told3 .given .1))
+    let n = c .before .before in
+    let s = entry t n in
+    omega (arith, compared-room (s .args .p .now) 0 (here t n) (s .pre .1 .0) (c .enum-told3 .given .1))
 
 evaluate-evaluate-requires : (t : ℕ) → evaluate-lts.Need-evaluate-requires (callees t) (evaluate-at t) evaluate.Post
 evaluate-evaluate-requires t c κs =
-    let s = c .before .before .before .before .before .before .before .before in
-    let p = s .args .p .now in (
-      omega (arith, s .pre .0, inside t s, rest-length p 1),
-      (
-        part-read p 1 (under-read p 0 (here t (c .before .before .before .before)) (s .pre .1 .0) (c .before .before .enum-told4 .given .1)),
-        lefts-part p (s .args .lefts .now) 1 (s .pre .1 .1),
-      ),
-    )
+    let told = c .before .before in
+    let n = told .before .before in
+    let s = entry t n in
+    operand t s 1 (omega arith) (under-read (s .args .p .now) 0 (here t n) (s .pre .1 .0) (told .enum-told4 .given .1))
 
 evaluate-evaluate-requires-2 : (t : ℕ) → evaluate-lts.Need-evaluate-requires-2 (callees t) (evaluate-at t) evaluate.Post
 evaluate-evaluate-requires-2 t c κs =
-    let r = c .before .before .before .before .before in
-    let s = r .before .before .before .before .before .before .before .before in
-    let p = s .args .p .now in
-    let i = 1 + r .wide .result in (
-      omega (arith, s .pre .0, inside t s, right-fits t r, rest-length p i),
-      (
-        part-read p i (
-            first-inside p 0 (pair-here t r) (s .pre .1 .0) refl (right-is t r)
-            (sym (c .before .before .if1 .taken) ∙ c .before .before .before .is-short .ensures) refl refl .2
-            ),
-        lefts-part p (s .args .lefts .now) i (s .pre .1 .1),
-      ),
+    let taken = c .before .before in
+    let r = pair t (taken .before) in
+    let s = begun t r in
+    operand t s (right t r) (omega arith) (
+    first-inside (words t r) 0 (pair-here t r) (s .pre .1 .0) refl (right-is t r)
+    (sym (taken .if1 .taken) ∙ taken .before .is-short .ensures) refl refl .2
     )
 
 evaluate-evaluate-requires-3 : (t : ℕ) → evaluate-lts.Need-evaluate-requires-3 (callees t) (evaluate-at t) evaluate.Post
-evaluate-evaluate-requires-3 t c κs =
-    let r = c .before .before .before .before .before .before .before .before .before .before in
-    let s = r .before .before .before .before .before .before .before .before in
-    let p = s .args .p .now in
-    let i : ℕ = 1 in (
-      omega (arith, s .pre .0, inside t s, right-fits t r, rest-length p i),
-      (part-read p i (left-read p 0 (pair-here t r) (s .pre .1 .0) refl (right-is t r)), lefts-part p (s .args .lefts .now) i (s .pre .1 .1)),
-    )
+evaluate-evaluate-requires-3 t c κs = let r = lone t (c .before .before .before .before) in operand t (begun t r) 1 (omega arith) (left-operand t r)
 
 evaluate-evaluate-requires-4 : (t : ℕ) → evaluate-lts.Need-evaluate-requires-4 (callees t) (evaluate-at t) evaluate.Post
-evaluate-evaluate-requires-4 t c κs =
-    let r = c .before .before .before .before .before in
-    let s = r .before .before .before .before .before .before .before .before in
-    let p = s .args .p .now in
-    let i : ℕ = 1 in (
-      omega (arith, s .pre .0, inside t s, right-fits t r, rest-length p i),
-      (part-read p i (left-read p 0 (pair-here t r) (s .pre .1 .0) refl (right-is t r)), lefts-part p (s .args .lefts .now) i (s .pre .1 .1)),
-    )
+evaluate-evaluate-requires-4 t c κs = let r = pair t (c .before .before .before) in operand t (begun t r) 1 (omega arith) (left-operand t r)
 
 evaluate-evaluate-requires-5 : (t : ℕ) → evaluate-lts.Need-evaluate-requires-5 (callees t) (evaluate-at t) evaluate.Post
 evaluate-evaluate-requires-5 t c κs =
-    let r = c .before .before .before .before .before .before .before .before in
-    let s = r .before .before .before .before .before .before .before .before in
-    let p = s .args .p .now in
-    let i = 1 + r .wide .result in (
-      omega (arith, s .pre .0, inside t s, right-fits t r, rest-length p i),
-      (
-        part-read p i (
-            last-inside p 0 (pair-here t r) (s .pre .1 .0) refl (right-is t r)
-            (sym (c .before .before .before .before .before .if1 .left) ∙ c .before .before .before .before .before .before .is-short .ensures) refl refl .2
-            ),
-        lefts-part p (s .args .lefts .now) i (s .pre .1 .1),
-      ),
+    let f = c .before .before in
+    let left = f .before .before .before in
+    let r = first t f in
+    let s = begun t r in
+    operand t s (right t r) (omega arith) (
+    last-inside (words t r) 0 (pair-here t r) (s .pre .1 .0) refl (right-is t r)
+    (sym (left .if1 .left) ∙ left .before .is-short .ensures) refl refl .2
     )
 
 evaluate-joined-requires : (t : ℕ) → evaluate-lts.Need-joined-requires (callees t) (evaluate-at t) evaluate.Post
 evaluate-joined-requires t c κs =
-    let r = c .before .before .before .before .before .before .before .before .before .before .before in
-    let s = r .before .before .before .before .before .before .before .before in
-    let p = s .args .p .now in
-    let b = s .args .bound .now in
-    let n = bounded t (r .before .before .before .before) in (
-      few-from b (1 + r .wide .result) p (part-value b p (1 + r .wide .result) (c .before .before .before .before .before .evaluate2 .ensures)) n,
-      few-from b (1) p (part-value b p (1) (c .evaluate3 .ensures)) n,
-    )
+    let settles = c .before .before .before .before in
+    let l = settles .before in
+    let r = lone t l in
+    (few t r (right t r) _ (l .evaluate2 .ensures), few t r 1 _ (c .evaluate3 .ensures))
 
 evaluate-joined-requires-2 : (t : ℕ) → evaluate-lts.Need-joined-requires-2 (callees t) (evaluate-at t) evaluate.Post
 evaluate-joined-requires-2 t c κs =
-    let r = c .before .before .before .before .before .before .before .before .before in
-    let s = r .before .before .before .before .before .before .before .before in
-    let p = s .args .p .now in
-    let b = s .args .bound .now in
-    let n = bounded t (r .before .before .before .before) in (
-      few-from b (1) p (part-value b p (1) (c .before .before .before .evaluate4 .ensures)) n,
-      few-from b (1 + r .wide .result) p (part-value b p (1 + r .wide .result) (c .evaluate5 .ensures)) n,
-    )
+    let f = c .before .before .before in
+    let r = first t f in
+    (few t r 1 _ (f .evaluate4 .ensures), few t r (right t r) _ (c .evaluate5 .ensures))
 
 -- the lone comparison on the right settles it
 evaluate-returns : (t : ℕ) → evaluate-lts.Need-returns (callees t) (evaluate-at t) evaluate.Post
 evaluate-returns t c =
-    let r = c .before .before .before .before .before .before .before .before in
-    let s = r .before .before .before .before .before .before .before .before in
-    let p = s .args .p .now in
+    let l = c .before .before in
+    let taken = l .before .before .before in
+    let r = lone t l in
+    let s = begun t r in
     let b = s .args .bound .now in
-    settled p 0 (pair-here t r) (s .pre .1 .0) refl (right-is t r)
-    (sym (c .before .before .before .before .before .if1 .taken) ∙ c .before .before .before .before .before .before .is-short .ensures) refl refl b
-    (part-value b p (1 + r .wide .result) (c .before .before .evaluate2 .ensures)) (sym (c .before .is-false .ensures) ∙ c .if2 .taken)
+    settled (words t r) 0 (pair-here t r) (s .pre .1 .0) refl (right-is t r) (sym (taken .if1 .taken) ∙ taken .before .is-short .ensures) refl refl b
+    (part-value b (words t r) (right t r) (l .evaluate2 .ensures)) (sym (c .before .is-false .ensures) ∙ c .if2 .taken)
 
 -- it does not, and the left operand is read too
 evaluate-returns-2 : (t : ℕ) → evaluate-lts.Need-returns-2 (callees t) (evaluate-at t) evaluate.Post
 evaluate-returns-2 t c =
     let f = c .before .before .before .before in
-    let r = c .before .before .before .before .before .before .before .before .before .before .before .before in
-    let s = r .before .before .before .before .before .before .before .before in
-    let p = s .args .p .now in
+    let l = f .before .before in
+    let taken = l .before .before .before in
+    let r = lone t l in
+    let s = begun t r in
     let b = s .args .bound .now in
     c .joined .ensures
-    ∙ joins p 0 (pair-here t r) (s .pre .1 .0) refl (right-is t r)
-    (sym (f .before .before .before .before .before .if1 .taken) ∙ f .before .before .before .before .before .before .is-short .ensures) refl refl b
-    (part-value b p (1 + r .wide .result) (f .before .before .evaluate2 .ensures))
-    (sym (f .before .is-false .ensures) ∙ f .if2 .left) (part-value b p 1 (c .before .evaluate3 .ensures))
+    ∙ joins (words t r) 0 (pair-here t r) (s .pre .1 .0) refl (right-is t r) (sym (taken .if1 .taken) ∙ taken .before .is-short .ensures) refl refl b
+    (part-value b (words t r) (right t r) (l .evaluate2 .ensures))
+    (sym (f .before .is-false .ensures) ∙ f .if2 .left) (part-value b (words t r) 1 (c .before .evaluate3 .ensures))
 
 evaluate-returns-3 : (t : ℕ) → evaluate-lts.Need-returns-3 (callees t) (evaluate-at t) evaluate.Post
 evaluate-returns-3 t c =
     let n = c .before .before in
-    let s = n .before .before .before .before in
+    let s = entry t n in
     absurd (never-wrong (s .args .p .now) 0 (here t n) (s .pre .1 .0) (c .enum-told .given .1))
 
 evaluate-returns-4 : (t : ℕ) → evaluate-lts.Need-returns-4 (callees t) (evaluate-at t) evaluate.Post
 evaluate-returns-4 t c =
     let n = c .before .before in
-    let s = n .before .before .before .before in
+    let s = entry t n in
     is-true (s .args .p .now) 0 (here t n) (s .pre .1 .0) (s .args .bound .now) (c .enum-told2 .given .1)
 
 evaluate-returns-5 : (t : ℕ) → evaluate-lts.Need-returns-5 (callees t) (evaluate-at t) evaluate.Post
 evaluate-returns-5 t c =
     let n = c .before .before .before in
-    let s = n .before .before .before .before in
+    let s = entry t n in
     let p = s .args .p .now in
     let b = s .args .bound .now in
     c .compared .ensures
@@ -279,25 +277,25 @@ evaluate-returns-5 t c =
 
 evaluate-returns-6 : (t : ℕ) → evaluate-lts.Need-returns-6 (callees t) (evaluate-at t) evaluate.Post
 evaluate-returns-6 t c =
-    let n = c .before .before .before .before .before .before in
-    let s = n .before .before .before .before in
+    let told = c .before .before .before .before in
+    let n = told .before .before in
+    let s = entry t n in
     let p = s .args .p .now in
     let b = s .args .bound .now in
     c .negated .ensures
-    ∙ is-negated p 0 (here t n) (s .pre .1 .0) b (c .before .before .before .before .enum-told4 .given .1) (part-value b p 1 (c .before .evaluate .ensures))
+    ∙ is-negated p 0 (here t n) (s .pre .1 .0) b (told .enum-told4 .given .1) (part-value b p 1 (c .before .evaluate .ensures))
 
 -- both operands of another pair are read, the left one first
 evaluate-returns-7 : (t : ℕ) → evaluate-lts.Need-returns-7 (callees t) (evaluate-at t) evaluate.Post
 evaluate-returns-7 t c =
-    let r = c .before .before .before .before .before .before .before .before .before .before in
-    let s = r .before .before .before .before .before .before .before .before in
-    let p = s .args .p .now in
+    let f = c .before .before .before .before in
+    let left = f .before .before .before in
+    let r = first t f in
+    let s = begun t r in
     let b = s .args .bound .now in
     c .joined2 .ensures
-    ∙ joins p 0 (pair-here t r) (s .pre .1 .0) refl (right-is t r)
-    (sym (c .before .before .before .before .before .before .before .if1 .left)
-    ∙ c .before .before .before .before .before .before .before .before .is-short .ensures) refl refl b
-    (part-value b p 1 (c .before .before .before .before .evaluate4 .ensures)) refl (part-value b p (1 + r .wide .result) (c .before .evaluate5 .ensures))
+    ∙ joins (words t r) 0 (pair-here t r) (s .pre .1 .0) refl (right-is t r) (sym (left .if1 .left) ∙ left .before .is-short .ensures) refl refl b
+    (part-value b (words t r) 1 (f .evaluate4 .ensures)) refl (part-value b (words t r) (right t r) (c .before .evaluate5 .ensures))
 
 pub +evaluate-spec : {M : Type 1} → statement M
 +evaluate-spec = close μ-evaluate λ t. evaluate-lts.spec (callees t) (evaluate-at t)
@@ -309,56 +307,56 @@ pub +evaluate-spec : {M : Type 1} → statement M
     (λ c. search needs)
     (evaluate-compared-requires t)
     (λ c. search needs)
-    (λ c. omega (arith, inside t (c .before .before .before .before .before .before)))
-    (λ c. omega (arith, inside t (c .before .before .before .before .before .before)))
-    (λ c. omega (arith, inside t (c .before .before .before .before .before .before)))
-    (λ c. omega (arith, both-inside t (c .before .before .before .before .before .before .before)))
-    (λ c. omega (arith, both-inside t (c .before .before .before .before .before .before .before)))
-    (λ c. omega (arith, both-inside t (c .before .before .before .before .before .before .before)))
+    (λ c. omega (arith, inside t (entry t (c .before .before))))
+    (λ c. omega (arith, inside t (entry t (c .before .before))))
+    (λ c. omega (arith, inside t (entry t (c .before .before))))
+    (λ c. omega (arith, both-inside t (entry t (c .before .before .before))))
+    (λ c. omega (arith, both-inside t (entry t (c .before .before .before))))
+    (λ c. omega (arith, both-inside t (entry t (c .before .before .before))))
     (evaluate-evaluate-requires t)
     (λ c κs. search needs)
     (λ c. search needs)
-    (λ c. omega (arith, both-inside t (c .before .before .before .before .before .before .before)))
+    (λ c. omega (arith, both-inside t (entry t (c .before .before .before))))
     (λ c κs. search needs)
     (λ c. omega (arith, right-fits t c))
     (λ c. omega (arith, right-fits t c))
     (λ c. omega (arith, right-fits t (c .before)))
     (λ c κs. search needs)
-    (λ c. omega (arith, right-fits t (c .before .before .before)))
-    (λ c. omega (arith, right-fits t (c .before .before .before)))
-    (λ c. omega (arith, right-fits t (c .before .before .before)))
-    (λ c. omega (arith, right-fits t (c .before .before .before)))
-    (λ c. omega (arith, right-room t (c .before .before .before .before)))
-    (λ c. omega (arith, right-room t (c .before .before .before .before)))
-    (λ c. omega (arith, right-room t (c .before .before .before .before)))
-    (λ c. omega (arith, right-room t (c .before .before .before .before)))
+    (λ c. omega (arith, right-fits t (pair t (c .before))))
+    (λ c. omega (arith, right-fits t (pair t (c .before))))
+    (λ c. omega (arith, right-fits t (pair t (c .before))))
+    (λ c. omega (arith, right-fits t (pair t (c .before))))
+    (λ c. omega (arith, right-room t (pair t (c .before .before))))
+    (λ c. omega (arith, right-room t (pair t (c .before .before))))
+    (λ c. omega (arith, right-room t (pair t (c .before .before))))
+    (λ c. omega (arith, right-room t (pair t (c .before .before))))
     (evaluate-evaluate-requires-2 t)
     (λ c κs. search needs)
     (evaluate-returns t)
-    (λ c. omega (arith, inside t (begun t (c .before .before .before .before .before .before .before .before))))
-    (λ c. omega (arith, inside t (begun t (c .before .before .before .before .before .before .before .before))))
-    (λ c. omega (arith, inside t (begun t (c .before .before .before .before .before .before .before .before))))
-    (λ c. omega (arith, both-inside t (begun t (c .before .before .before .before .before .before .before .before .before))))
-    (λ c. omega (arith, both-inside t (begun t (c .before .before .before .before .before .before .before .before .before))))
-    (λ c. omega (arith, both-inside t (begun t (c .before .before .before .before .before .before .before .before .before))))
+    (λ c. omega (arith, inside t (begun t (lone t (c .before .before)))))
+    (λ c. omega (arith, inside t (begun t (lone t (c .before .before)))))
+    (λ c. omega (arith, inside t (begun t (lone t (c .before .before)))))
+    (λ c. omega (arith, both-inside t (begun t (lone t (c .before .before .before)))))
+    (λ c. omega (arith, both-inside t (begun t (lone t (c .before .before .before)))))
+    (λ c. omega (arith, both-inside t (begun t (lone t (c .before .before .before)))))
     (evaluate-evaluate-requires-3 t)
     (evaluate-joined-requires t)
     (evaluate-returns-2 t)
-    (λ c. omega (arith, inside t (c .before .before .before .before .before .before .before .before .before .before .before)))
-    (λ c. omega (arith, inside t (c .before .before .before .before .before .before .before .before .before .before .before)))
-    (λ c. omega (arith, inside t (c .before .before .before .before .before .before .before .before .before .before .before)))
-    (λ c. omega (arith, both-inside t (c .before .before .before .before .before .before .before .before .before .before .before .before)))
-    (λ c. omega (arith, both-inside t (c .before .before .before .before .before .before .before .before .before .before .before .before)))
-    (λ c. omega (arith, both-inside t (c .before .before .before .before .before .before .before .before .before .before .before .before)))
+    (λ c. omega (arith, inside t (begun t (pair t (c .before)))))
+    (λ c. omega (arith, inside t (begun t (pair t (c .before)))))
+    (λ c. omega (arith, inside t (begun t (pair t (c .before)))))
+    (λ c. omega (arith, both-inside t (begun t (pair t (c .before .before)))))
+    (λ c. omega (arith, both-inside t (begun t (pair t (c .before .before)))))
+    (λ c. omega (arith, both-inside t (begun t (pair t (c .before .before)))))
     (evaluate-evaluate-requires-4 t)
-    (λ c. omega (arith, right-fits t (c .before .before .before .before .before .before)))
-    (λ c. omega (arith, right-fits t (c .before .before .before .before .before .before)))
-    (λ c. omega (arith, right-fits t (c .before .before .before .before .before .before)))
-    (λ c. omega (arith, right-fits t (c .before .before .before .before .before .before)))
-    (λ c. omega (arith, right-room t (c .before .before .before .before .before .before .before)))
-    (λ c. omega (arith, right-room t (c .before .before .before .before .before .before .before)))
-    (λ c. omega (arith, right-room t (c .before .before .before .before .before .before .before)))
-    (λ c. omega (arith, right-room t (c .before .before .before .before .before .before .before)))
+    (λ c. omega (arith, right-fits t (first t c)))
+    (λ c. omega (arith, right-fits t (first t c)))
+    (λ c. omega (arith, right-fits t (first t c)))
+    (λ c. omega (arith, right-fits t (first t c)))
+    (λ c. omega (arith, right-room t (first t (c .before))))
+    (λ c. omega (arith, right-room t (first t (c .before))))
+    (λ c. omega (arith, right-room t (first t (c .before))))
+    (λ c. omega (arith, right-room t (first t (c .before))))
     (evaluate-evaluate-requires-5 t)
     (evaluate-joined-requires-2 t)
     (evaluate-returns-3 t)

@@ -25,13 +25,24 @@ Inv-loop bytes rows pos osp plan quantum state₀ opened output₀ kept₀ lists
 abbrev μ-loop : tie.MeasureT-loop
 μ-loop bytes rows pos osp plan quantum state₀ opened output₀ kept₀ lists saved₀ used₀ made₀ state output kept saved used made = mostTurns - made
 
+-- the function's start, from the loop
+abbrev start : tie.At-loop Inv-loop μ-loop → tie.Start Inv-loop μ-loop
+start l = let lent = l .before .before .before .before in lent .before .before .before .before .before
+
+-- the buffers are written, the kept words last: where the state is, and the turn
+abbrev stated : tie.After-kept Inv-loop μ-loop → tie.After-state Inv-loop μ-loop
+stated k = k .before .before .before .before
+
+abbrev turn : tie.After-kept Inv-loop μ-loop → tie.At-loop Inv-loop μ-loop
+turn k = let asked = stated k .before .before .before in asked .before .before .before
+
 loop-holds : tie.Need-loop-holds Inv-loop μ-loop
 loop-holds c = (omega arith, refl, refl, refl, rounds-none Merged _ _ _ _)
 
 print-step-requires : tie.Need-print-step-requires Inv-loop μ-loop
 print-step-requires c κs =
     let l = c .before .before .before .before in
-    let s = l .before .before .before .before .before .before .before .before .before in
+    let s = start l in
     let v = lentSurvey (s .args .rows .now) (s .args .pos .now) (s .args .osp .now) in
     let p = s .args .plan .now in
     let st = s .args .state .now in
@@ -61,14 +72,15 @@ loop-less c = omega arith
 
 loop-again : tie.Need-loop-again Inv-loop μ-loop
 loop-again c =
-    let d = c .before .before .before .before .before .before .before .before .before in
-    let l = d .before .before .before .before .before .loop in
+    let k = c .before .before .before .before in
+    let d = stated k .before in
+    let l = turn k .loop in
     let e = rounds-next Merged _ _ _ _ (l .made) (l .saved) (l .used) _ (l .inv .4) (d .print-step .result) _ (d .print-step .ensures) _
     (c .before .went .given .1) in (
       omega arith,
-      c .before .before .before .before .before .before .before .before .state .given ∙ l .inv .1,
-      c .before .before .before .before .before .before .output .given ∙ l .inv .2,
-      c .before .before .before .before .kept .given ∙ l .inv .3,
+      stated k .state .given ∙ l .inv .1,
+      k .before .before .output .given ∙ l .inv .2,
+      k .kept .given ∙ l .inv .3,
       e,
     )
 
@@ -76,24 +88,19 @@ enum-known-went-2 : tie.Need-enum-known-went-2 Inv-loop μ-loop
 enum-known-went-2 c = search needs
 
 same-length : tie.Need-same-length Inv-loop μ-loop
-same-length c =
-    let l = c .before .before .before .before .before .before .before .before .before .before .before .before .before .before in
-    c .before .before .before .before .before .before .before .before .state .given ∙ l .loop .inv .1
+same-length c = let k = c .before .before .before .before in stated k .state .given ∙ turn k .loop .inv .1
 
 same-length-2 : tie.Need-same-length-2 Inv-loop μ-loop
-same-length-2 c =
-    let l = c .before .before .before .before .before .before .before .before .before .before .before .before .before .before in
-    c .before .before .before .before .before .before .output .given ∙ l .loop .inv .2
+same-length-2 c = let k = c .before .before .before .before in k .before .before .output .given ∙ turn k .loop .inv .2
 
 same-length-3 : tie.Need-same-length-3 Inv-loop μ-loop
-same-length-3 c =
-    let l = c .before .before .before .before .before .before .before .before .before .before .before .before .before .before in
-    c .before .before .before .before .kept .given ∙ l .loop .inv .3
+same-length-3 c = let k = c .before .before .before .before in k .kept .given ∙ turn k .loop .inv .3
 
 returns : tie.Need-returns Inv-loop μ-loop
 returns c =
-    let d = c .before .before .before .before .before .before .before .before .before in
-    let l = d .before .before .before .before .before .loop in
+    let k = c .before .before .before .before in
+    let d = stated k .before in
+    let l = turn k .loop in
     let e = rounds-next Merged _ _ _ _ (l .made) (l .saved) (l .used) _ (l .inv .4) (d .print-step .result) _ (d .print-step .ensures) _
     (c .before .went2 .given .1) in
     sym (ap resultAt (rounds-over Merged _ _ _ _ (l .made + 1) _ (omega arith) _ _ e))
@@ -102,24 +109,19 @@ enum-known-went-3 : tie.Need-enum-known-went-3 Inv-loop μ-loop
 enum-known-went-3 c = search needs
 
 same-length-4 : tie.Need-same-length-4 Inv-loop μ-loop
-same-length-4 c =
-    let l = c .before .before .before .before .before .before .before .before .before .before .before .before .before .before in
-    c .before .before .before .before .before .before .before .before .state .given ∙ l .loop .inv .1
+same-length-4 c = let k = c .before .before .before .before in stated k .state .given ∙ turn k .loop .inv .1
 
 same-length-5 : tie.Need-same-length-5 Inv-loop μ-loop
-same-length-5 c =
-    let l = c .before .before .before .before .before .before .before .before .before .before .before .before .before .before in
-    c .before .before .before .before .before .before .output .given ∙ l .loop .inv .2
+same-length-5 c = let k = c .before .before .before .before in k .before .before .output .given ∙ turn k .loop .inv .2
 
 same-length-6 : tie.Need-same-length-6 Inv-loop μ-loop
-same-length-6 c =
-    let l = c .before .before .before .before .before .before .before .before .before .before .before .before .before .before in
-    c .before .before .before .before .kept .given ∙ l .loop .inv .3
+same-length-6 c = let k = c .before .before .before .before in k .kept .given ∙ turn k .loop .inv .3
 
 returns-2 : tie.Need-returns-2 Inv-loop μ-loop
 returns-2 c =
-    let d = c .before .before .before .before .before .before .before .before .before in
-    let l = d .before .before .before .before .before .loop in
+    let k = c .before .before .before .before in
+    let d = stated k .before in
+    let l = turn k .loop in
     let e = rounds-next Merged _ _ _ _ (l .made) (l .saved) (l .used) _ (l .inv .4) (d .print-step .result) _ (d .print-step .ensures) _
     (c .before .went3 .given .1) in
     sym (ap resultAt (rounds-stopped Merged _ _ _ _ (l .made + 1) _ (omega arith) _ _ e))

@@ -21,6 +21,17 @@ Inv-loop rows pos osp survey plan quantum most state₀ opened output₀ kept₀
 abbrev μ-loop : tie.MeasureT-loop
 μ-loop rows pos osp survey plan quantum most state₀ opened output₀ kept₀ saved₀ used₀ n₀ state output kept saved used n = most - n
 
+-- the function's start, from the loop
+abbrev start : tie.At-loop Inv-loop μ-loop → tie.Start Inv-loop μ-loop
+start l = let lent = l .before .before .before .before in lent .before .before .before .before
+
+-- the buffers are written, the kept words last: where the state is, and the turn
+abbrev stated : tie.After-kept Inv-loop μ-loop → tie.After-state Inv-loop μ-loop
+stated k = k .before .before .before .before
+
+abbrev turn : tie.After-kept Inv-loop μ-loop → tie.At-loop Inv-loop μ-loop
+turn k = let asked = stated k .before .before .before in asked .before .before .before
+
 loop-holds : tie.Need-loop-holds Inv-loop μ-loop
 loop-holds c = (omega arith, refl, refl, refl, rounds-none All _ _ _ _)
 
@@ -38,13 +49,14 @@ loop-less c = omega arith
 
 loop-again : tie.Need-loop-again Inv-loop μ-loop
 loop-again c =
-    let d = c .before .before .before .before .before .before .before .before .before in
-    let l = d .before .before .before .before .before .loop in
+    let k = c .before .before .before .before in
+    let d = stated k .before in
+    let l = turn k .loop in
     let e = rounds-next All _ _ _ _ (l .n) (l .saved) (l .used) _ (l .inv .4) (d .advance .result) _ (d .advance .ensures) _ (c .before .went .given .1) in (
       omega arith,
-      c .before .before .before .before .before .before .before .before .state .given ∙ l .inv .1,
-      c .before .before .before .before .before .before .output .given ∙ l .inv .2,
-      c .before .before .before .before .kept .given ∙ l .inv .3,
+      stated k .state .given ∙ l .inv .1,
+      k .before .before .output .given ∙ l .inv .2,
+      k .kept .given ∙ l .inv .3,
       e,
     )
 
@@ -55,24 +67,19 @@ play-answer-requires : tie.Need-play-answer-requires Inv-loop μ-loop
 play-answer-requires c κs = search needs
 
 same-length : tie.Need-same-length Inv-loop μ-loop
-same-length c =
-    let l = c .before .before .before .before .before .before .before .before .before .before .before .before .before .before in
-    c .before .before .before .before .before .before .before .before .state .given ∙ l .loop .inv .1
+same-length c = let k = c .before .before .before .before in stated k .state .given ∙ turn k .loop .inv .1
 
 same-length-2 : tie.Need-same-length-2 Inv-loop μ-loop
-same-length-2 c =
-    let l = c .before .before .before .before .before .before .before .before .before .before .before .before .before .before in
-    c .before .before .before .before .before .before .output .given ∙ l .loop .inv .2
+same-length-2 c = let k = c .before .before .before .before in k .before .before .output .given ∙ turn k .loop .inv .2
 
 same-length-3 : tie.Need-same-length-3 Inv-loop μ-loop
-same-length-3 c =
-    let l = c .before .before .before .before .before .before .before .before .before .before .before .before .before .before in
-    c .before .before .before .before .kept .given ∙ l .loop .inv .3
+same-length-3 c = let k = c .before .before .before .before in k .kept .given ∙ turn k .loop .inv .3
 
 returns : tie.Need-returns Inv-loop μ-loop
 returns c =
-    let d = c .before .before .before .before .before .before .before .before .before in
-    let l = d .before .before .before .before .before .loop in
+    let k = c .before .before .before .before in
+    let d = stated k .before in
+    let l = turn k .loop in
     let w = c .before .enum-told .given .1 in
     let e = rounds-next All _ _ _ _ (l .n) (l .saved) (l .used) _ (l .inv .4) (d .advance .result) _ (d .advance .ensures) _ w in
     rw (c .play-answer .ensures ∙ ap playAnswer w) (sym (ap resultAt (rounds-over All _ _ _ _ (l .n + 1) _ (omega arith) _ _ e)))
@@ -84,24 +91,19 @@ play-answer-requires-2 : tie.Need-play-answer-requires-2 Inv-loop μ-loop
 play-answer-requires-2 c κs = search needs
 
 same-length-4 : tie.Need-same-length-4 Inv-loop μ-loop
-same-length-4 c =
-    let l = c .before .before .before .before .before .before .before .before .before .before .before .before .before .before in
-    c .before .before .before .before .before .before .before .before .state .given ∙ l .loop .inv .1
+same-length-4 c = let k = c .before .before .before .before in stated k .state .given ∙ turn k .loop .inv .1
 
 same-length-5 : tie.Need-same-length-5 Inv-loop μ-loop
-same-length-5 c =
-    let l = c .before .before .before .before .before .before .before .before .before .before .before .before .before .before in
-    c .before .before .before .before .before .before .output .given ∙ l .loop .inv .2
+same-length-5 c = let k = c .before .before .before .before in k .before .before .output .given ∙ turn k .loop .inv .2
 
 same-length-6 : tie.Need-same-length-6 Inv-loop μ-loop
-same-length-6 c =
-    let l = c .before .before .before .before .before .before .before .before .before .before .before .before .before .before in
-    c .before .before .before .before .kept .given ∙ l .loop .inv .3
+same-length-6 c = let k = c .before .before .before .before in k .kept .given ∙ turn k .loop .inv .3
 
 returns-2 : tie.Need-returns-2 Inv-loop μ-loop
 returns-2 c =
-    let d = c .before .before .before .before .before .before .before .before .before in
-    let l = d .before .before .before .before .before .loop in
+    let k = c .before .before .before .before in
+    let d = stated k .before in
+    let l = turn k .loop in
     let w = c .before .enum-told2 .given .1 in
     let e = rounds-next All _ _ _ _ (l .n) (l .saved) (l .used) _ (l .inv .4) (d .advance .result) _ (d .advance .ensures) _ w in
     rw (c .play-answer2 .ensures ∙ ap playAnswer w) (sym (ap resultAt (rounds-stopped All _ _ _ _ (l .n + 1) _ (omega arith) _ _ e)))
@@ -118,7 +120,7 @@ same-length-9 c = c .before .loop .inv .3
 returns-3 : tie.Need-returns-3 Inv-loop μ-loop
 returns-3 c =
     let l = c .before .loop in
-    let e : l .n ≡ c .before .before .before .before .before .before .before .before .before .args .most = omega (arith, c .loop-test .left, l .inv .0) in
+    let e : l .n ≡ start (c .before) .args .most = omega (arith, c .loop-test .left, l .inv .0) in
     sym (ap resultAt (rounds-made All _ _ _ _ (l .n) _ e _ (l .inv .4)))
 
 pub go-on-spec : {M : Type 1} → statement M

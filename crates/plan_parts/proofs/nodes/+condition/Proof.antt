@@ -1,7 +1,7 @@
 -- `condition` meets its contract: each arm is the case of what the first word begins. The depth left falls.
 use borrow.Author.Needs.{needs}
 use Prim.Native.Nat.{ℕ, _+_, _-_, _≤_, _<_}
-use mathlib.Core.Path.{sym, _∙_}
+use mathlib.Core.Path.{_≡_, sym, _∙_}
 use native.Mathlib.Omega.{arith}
 use lib.ListN.{length}
 use Rattle.plans.proofs.Trees.{no-depth, no-words, at-wrong, at-always, at-compared, at-not, at-half, at-two, part-small, first-words}
@@ -42,18 +42,39 @@ callees t = (
   join-reads.Learnt,
 )
 
+-- the node at the start is known: there is a word, and depth is left
+abbrev AtNode : ℕ → Type 0
+AtNode t = condition-lts.After-node-of (callees t) (condition-at t) condition.Post
+
+abbrev entry : (t : ℕ) → AtNode t → condition-lts.Start (callees t) (condition-at t) condition.Post
+entry t n = let there = n .before .before .before in there .before .before .before
+
+deep : (t : ℕ) (n : AtNode t) → entry t n .args .left ≡ 0 → ⊥
+deep t n = n .before .before .before .if1 .left
+
+there : (t : ℕ) (n : AtNode t) → length (entry t n .args .p .now) ≡ 0 → ⊥
+there t n = n .before .before .if2 .left
+
+-- no slice has as many words
+bounded : (t : ℕ) (n : AtNode t) → length (entry t n .args .p .now) < 0x2000_0000_0000_0000
+bounded t n = omega arith
+
+-- it is a pair, and its first condition is read
+abbrev AtFirst : ℕ → Type 0
+AtFirst t = condition-lts.After-condition2 (callees t) (condition-at t) condition.Post
+
+abbrev node : (t : ℕ) → AtFirst t → AtNode t
+node t f = f .before .before .before .before
+
 -- the first condition of two leaves the words behind it
 first-room : (t : ℕ) (c : condition-lts.After-known-told (callees t) (condition-at t) condition.Post)
-    → 1 + c .before .first .given .0 .0 ≤ length
-    (c .before .before .before .before .before .before .before .before .before .before .before .before .before .args .p .now)
+    → 1 + c .before .first .given .0 .0 ≤ length (entry t (node t (c .before .before .before)) .args .p .now)
 first-room t c =
-    let args = c .before .before .before .before .before .before .before .before .before .before .before .before .before .args in
-    let n = c .before .before .before .before .before .before .before .node-of in
-    let l = c .before .before .before .condition2 in
-    first-words (args .terms .now) (args .left) (args .p .now)
-    (c .before .before .before .before .before .before .before .before .before .before .if1 .left)
-    (c .before .before .before .before .before .before .before .before .before .if2 .left) (n .result) (n .ensures) (l .result) (l .ensures) _ _ _
-    (c .before .first .given .1)
+    let f = c .before .before .before in
+    let n = node t f in
+    let args = entry t n .args in
+    first-words (args .terms .now) (args .left) (args .p .now) (deep t n) (there t n) (n .node-of .result) (n .node-of .ensures)
+    (f .condition2 .result) (f .condition2 .ensures) _ _ _ (c .before .first .given .1)
 
 condition-returns : (t : ℕ) → condition-lts.Need-returns (callees t) (condition-at t) condition.Post
 condition-returns t c =
@@ -103,9 +124,9 @@ condition-condition-requires t c κs = search needs
 
 condition-over-requires : (t : ℕ) → condition-lts.Need-over-requires (callees t) (condition-at t) condition.Post
 condition-over-requires t c κs =
-    let args = c .before .before .before .before .before .before .before .before .before .before .args in
-    let l = c .condition in
-    part-small (args .terms .now) (args .left - 1) (args .p .now) 1 (l .result) (l .ensures) (omega arith)
+    let n = c .before .before .before .before in
+    let args = entry t n .args in
+    part-small (args .terms .now) (args .left - 1) (args .p .now) 1 (c .condition .result) (c .condition .ensures) (bounded t n)
 
 condition-enum-told-5 : (t : ℕ) → condition-lts.Need-enum-told-5 (callees t) (condition-at t) condition.Post
 condition-enum-told-5 t c = search needs
@@ -154,73 +175,63 @@ condition-condition-requires-3 t c κs = search needs
 
 condition-join-requires : (t : ℕ) → condition-lts.Need-join-requires (callees t) (condition-at t) condition.Post
 condition-join-requires t c κs =
-    let args = c .before .before .before .before .before .before .before .before .before .before .before .before .before .before .before .args in
-    let l = c .before .before .before .before .before .condition2 in
-    let r = c .condition3 in
-    let first = c .before .before .before .first in (
-      rw (first .given .1) at (part-small (args .terms .now) (args .left - 1) (args .p .now) 1 (l .result) (l .ensures) (omega arith)),
-      part-small (args .terms .now) (args .left - 1) (args .p .now) (1 + first .given .0 .0) (r .result) (r .ensures) (omega arith),
+    let first = c .before .before .before in
+    let l = first .before .before in
+    let n = node t l in
+    let args = entry t n .args in (
+      rw (first .first .given .1) at
+          (part-small (args .terms .now) (args .left - 1) (args .p .now) 1 (l .condition2 .result) (l .condition2 .ensures) (bounded t n)),
+      part-small (args .terms .now) (args .left - 1) (args .p .now) (1 + first .first .given .0 .0) (c .condition3 .result) (c .condition3 .ensures)
+          (bounded t n),
     )
 
 condition-returns-3 : (t : ℕ) → condition-lts.Need-returns-3 (callees t) (condition-at t) condition.Post
 condition-returns-3 t c =
-    let args = c .before .before .before .before .before .before .before .before .args in
-    let n = c .before .before .node-of in
-    let if1 = c .before .before .before .before .before .if1 in
-    let if2 = c .before .before .before .before .if2 in
-    sym (at-wrong (args .terms .now) (args .left) (args .p .now) (if1 .left) (if2 .left) (n .result) (n .ensures) (c .enum-told .given .1))
+    let n = c .before .before in
+    let args = entry t n .args in
+    sym (at-wrong (args .terms .now) (args .left) (args .p .now) (deep t n) (there t n) (n .node-of .result) (n .node-of .ensures) (c .enum-told .given .1))
 
 condition-returns-4 : (t : ℕ) → condition-lts.Need-returns-4 (callees t) (condition-at t) condition.Post
 condition-returns-4 t c =
-    let args = c .before .before .before .before .before .before .before .before .args in
-    let n = c .before .before .node-of in
-    let if1 = c .before .before .before .before .before .if1 in
-    let if2 = c .before .before .before .before .if2 in
-    sym (at-always (args .terms .now) (args .left) (args .p .now) (if1 .left) (if2 .left) (n .result) (n .ensures) (c .enum-told2 .given .1))
+    let n = c .before .before in
+    let args = entry t n .args in
+    sym (at-always (args .terms .now) (args .left) (args .p .now) (deep t n) (there t n) (n .node-of .result) (n .node-of .ensures) (c .enum-told2 .given .1))
 
 condition-returns-5 : (t : ℕ) → condition-lts.Need-returns-5 (callees t) (condition-at t) condition.Post
 condition-returns-5 t c =
-    let args = c .before .before .before .before .before .before .before .before .before .args in
-    let n = c .before .before .before .node-of in
-    let if1 = c .before .before .before .before .before .before .if1 in
-    let if2 = c .before .before .before .before .before .if2 in
-    c .comparison .ensures ∙ sym (at-compared (args .terms .now) (args .left) (args .p .now) (if1 .left) (if2 .left) (n .result) (n .ensures)
+    let n = c .before .before .before in
+    let args = entry t n .args in
+    c .comparison .ensures ∙ sym (at-compared (args .terms .now) (args .left) (args .p .now) (deep t n) (there t n) (n .node-of .result) (n .node-of .ensures)
     (c .before .enum-told3 .given .1))
 
 condition-returns-6 : (t : ℕ) → condition-lts.Need-returns-6 (callees t) (condition-at t) condition.Post
 condition-returns-6 t c =
-    let args = c .before .before .before .before .before .before .before .before .before .before .before .args in
-    let n = c .before .before .before .before .before .node-of in
+    let told = c .before .before .before in
+    let n = told .before .before in
+    let args = entry t n .args in
     let l = c .before .condition in
-    let if1 = c .before .before .before .before .before .before .before .before .if1 in
-    let if2 = c .before .before .before .before .before .before .before .if2 in
-    let enum-told4 = c .before .before .before .enum-told4 in
-    c .over .ensures ∙ sym (at-not (args .terms .now) (args .left) (args .p .now) (if1 .left) (if2 .left) (n .result) (n .ensures) (l .result)
-    (l .ensures) (enum-told4 .given .1))
+    c .over .ensures ∙ sym (at-not (args .terms .now) (args .left) (args .p .now) (deep t n) (there t n) (n .node-of .result) (n .node-of .ensures)
+    (l .result) (l .ensures) (told .enum-told4 .given .1))
 
 condition-returns-7 : (t : ℕ) → condition-lts.Need-returns-7 (callees t) (condition-at t) condition.Post
 condition-returns-7 t c =
-    let args = c .before .before .before .before .before .before .before .before .before .before .before .before .args in
-    let n = c .before .before .before .before .before .before .node-of in
-    let l = c .before .before .condition2 in
-    let if1 = c .before .before .before .before .before .before .before .before .before .if1 in
-    let if2 = c .before .before .before .before .before .before .before .before .if2 in
-    let enum-told5 = c .before .before .before .before .enum-told5 in
-    sym (at-half (args .terms .now) (args .left) (args .p .now) (if1 .left) (if2 .left) (n .result) (n .ensures) (l .result) (l .ensures)
-    (enum-told5 .given .1) (c .enum-told6 .given .1))
+    let f = c .before .before in
+    let n = node t f in
+    let args = entry t n .args in
+    let l = f .condition2 in
+    sym (at-half (args .terms .now) (args .left) (args .p .now) (deep t n) (there t n) (n .node-of .result) (n .node-of .ensures) (l .result) (l .ensures)
+    (f .before .before .enum-told5 .given .1) (c .enum-told6 .given .1))
 
 condition-returns-8 : (t : ℕ) → condition-lts.Need-returns-8 (callees t) (condition-at t) condition.Post
 condition-returns-8 t c =
-    let args = c .before .before .before .before .before .before .before .before .before .before .before .before .before .before .before .before .args in
-    let n = c .before .before .before .before .before .before .before .before .before .before .node-of in
-    let l = c .before .before .before .before .before .before .condition2 in
+    let first = c .before .before .before .before in
+    let f = first .before .before in
+    let n = node t f in
+    let args = entry t n .args in
+    let l = f .condition2 in
     let r = c .before .condition3 in
-    let if1 = c .before .before .before .before .before .before .before .before .before .before .before .before .before .if1 in
-    let if2 = c .before .before .before .before .before .before .before .before .before .before .before .before .if2 in
-    let enum-told5 = c .before .before .before .before .before .before .before .before .enum-told5 in
-    let first = c .before .before .before .before .first in
-    c .join .ensures ∙ sym (at-two (args .terms .now) (args .left) (args .p .now) (if1 .left) (if2 .left) (n .result) (n .ensures) (l .result)
-    (l .ensures) (enum-told5 .given .1) _ _ _ (first .given .1) (r .result) (r .ensures) ∙ rw (first .given .1))
+    c .join .ensures ∙ sym (at-two (args .terms .now) (args .left) (args .p .now) (deep t n) (there t n) (n .node-of .result) (n .node-of .ensures) (l .result)
+    (l .ensures) (f .before .before .enum-told5 .given .1) _ _ _ (first .first .given .1) (r .result) (r .ensures) ∙ rw (first .first .given .1))
 
 pub +condition-spec : {M : Type 1} → statement M
 +condition-spec = close μ-condition λ t. condition-lts.spec (callees t) (condition-at t)
