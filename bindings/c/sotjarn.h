@@ -30,7 +30,7 @@ extern "C" {
 #endif
 
 /* The version of this header, which is that of the libraries made beside it. */
-#define SOTJARN_VERSION "0.17.2"
+#define SOTJARN_VERSION "0.17.3"
 
 /* How a turn ended. */
 enum {
