@@ -1,6 +1,7 @@
 -- `ending_right` meets its contract: the form, the variables, and then what the kind of the ending asks besides.
 use borrow.Author.Needs.{needs}
-use mathlib.Core.Path.{sym, ap, _∙_}
+use mathlib.Core.Path.{_≡_, sym, ap, _∙_}
+use mathlib.Core.Bool.{true}
 use borrow.Author.Tests.{not-true, not-false}
 use Rattle.plans.specs.Branches.{binds}
 use Rattle.plans.specs.Endings.{endingAt}
@@ -9,6 +10,16 @@ use Rattle.plans.proofs.EndingRead.{some-kind}
 use Rattle.plan_ending_variables.proofs.EndingRight.{wrong-variables, right-rows, right-top, right-group, right-registers}
 use Rattle.plan_ending_variables.proofs.ending_right.Statement.{statement}
 use Rattle.plan_ending_variables.proofs.ending_right.Tie as tie
+
+-- the kind is known: the function's start, the form, the variables and that they are right
+abbrev formed : tie.After-ending-kind → tie.After-ending-form
+formed k = let right = k .before .before in right .before .before .before
+
+abbrev entry : tie.After-ending-kind → tie.Start
+entry k = formed k .before .before .before
+
+form-is : (k : tie.After-ending-kind) → formed k .ending-form .result ≡ true
+form-is k = let right = k .before .before in not-false (formed k .ending-form .result) (right .before .before .if1 .left)
 
 ending-form-requires : tie.Need-ending-form-requires
 ending-form-requires c κs = search needs
@@ -60,15 +71,14 @@ enum-told-3 c = search needs
 
 measured-requires : tie.Need-measured-requires
 measured-requires c κs =
-    let ending-form = c .before .before .before .before .before .before .before .ending-form in
-    let if1 = c .before .before .before .before .before .before .if1 in
-    let ending-kind = c .before .before .ending-kind in
-    (sym (ending-form .ensures) ∙ not-false (ending-form .result) (if1 .left), sym (ending-kind .ensures) ∙ c .enum-told3 .given .1)
+    let k = c .before .before in
+    let ending-form = formed k .ending-form in
+    (sym (ending-form .ensures) ∙ form-is k, sym (k .ending-kind .ensures) ∙ c .enum-told3 .given .1)
 
 some-binds-requires : tie.Need-some-binds-requires
 some-binds-requires c κs =
-    let pre = c .before .before .before .before .before .before .before .before .before .before .before .pre in
-    pre
+    let k = c .before .before .before in
+    entry k .pre
 
 enum-told-4 : tie.Need-enum-told-4
 enum-told-4 c = search needs
@@ -78,69 +88,65 @@ enum-told-5 c = search needs
 
 returns-3 : tie.Need-returns-3
 returns-3 c =
-    let args = c .before .before .before .before .before .before .before .before .before .before .args in
-    let variables-right = c .before .before .before .before .variables-right in
-    let ending-form = c .before .before .before .before .before .before .before .ending-form in
-    let if1 = c .before .before .before .before .before .before .if1 in
-    let variables = c .before .before .before .before .before .variables in
-    let if2 = c .before .before .before .if2 in
-    let ending-kind = c .before .before .ending-kind in
-    let f = binds (branchesIn (args .count) (args .p .now)) in let q = endingAt (args .e .now) in let v = variables-right in
-    rw (← ending-form .ensures, not-false (ending-form .result) (if1 .left))
+    let k = c .before .before in
+    let args = entry k .args in
+    let v = k .before .before .variables-right in
+    let ending-form = formed k .ending-form in
+    let variables = k .before .before .before .variables in
+    let if2 = k .before .if2 in
+    let f = binds (branchesIn (args .count) (args .p .now)) in let q = endingAt (args .e .now) in
+    rw (← ending-form .ensures, form-is k)
     (sym (right-rows f (v .result) q (rw (variables .ensures) at (v .ensures)) (not-false _ (if2 .left))
-    (sym (ending-kind .ensures) ∙ c .enum-told .given .1)))
+    (sym (k .ending-kind .ensures) ∙ c .enum-told .given .1)))
 
 returns-4 : tie.Need-returns-4
 returns-4 c =
-    let args = c .before .before .before .before .before .before .before .before .before .before .before .before .args in
-    let variables-right = c .before .before .before .before .before .before .variables-right in
-    let ending-form = c .before .before .before .before .before .before .before .before .before .ending-form in
-    let if1 = c .before .before .before .before .before .before .before .before .if1 in
-    let variables = c .before .before .before .before .before .before .before .variables in
-    let if2 = c .before .before .before .before .before .if2 in
-    let ending-kind = c .before .before .before .before .ending-kind in
+    let k = c .before .before .before .before in
+    let args = entry k .args in
+    let v = k .before .before .variables-right in
+    let ending-form = formed k .ending-form in
+    let variables = k .before .before .before .variables in
+    let if2 = k .before .if2 in
     let enum-told2 = c .before .before .enum-told2 in
-    let f = binds (branchesIn (args .count) (args .p .now)) in let q = endingAt (args .e .now) in let v = variables-right in
-    rw (← ending-form .ensures, not-false (ending-form .result) (if1 .left))
+    let f = binds (branchesIn (args .count) (args .p .now)) in let q = endingAt (args .e .now) in
+    rw (← ending-form .ensures, form-is k)
     (rw (variables .ensures, c .before .keys .ensures) at (c .keys-among .ensures)
     ∙ sym (right-top f (v .result) q (rw (variables .ensures) at (v .ensures)) (not-false _ (if2 .left))
-    (sym (ending-kind .ensures) ∙ enum-told2 .given .1)))
+    (sym (k .ending-kind .ensures) ∙ enum-told2 .given .1)))
 
 returns-5 : tie.Need-returns-5
 returns-5 c =
-    let args = c .before .before .before .before .before .before .before .before .before .before .before .before .args in
-    let variables-right = c .before .before .before .before .before .before .variables-right in
-    let ending-form = c .before .before .before .before .before .before .before .before .before .ending-form in
-    let if1 = c .before .before .before .before .before .before .before .before .if1 in
-    let variables = c .before .before .before .before .before .before .before .variables in
-    let if2 = c .before .before .before .before .before .if2 in
-    let ending-kind = c .before .before .before .before .ending-kind in
+    let k = c .before .before .before .before in
+    let args = entry k .args in
+    let v = k .before .before .variables-right in
+    let ending-form = formed k .ending-form in
+    let variables = k .before .before .before .variables in
+    let if2 = k .before .if2 in
     let enum-told3 = c .before .before .enum-told3 in
-    let f = binds (branchesIn (args .count) (args .p .now)) in let q = endingAt (args .e .now) in let v = variables-right in
-    rw (← ending-form .ensures, not-false (ending-form .result) (if1 .left))
+    let f = binds (branchesIn (args .count) (args .p .now)) in let q = endingAt (args .e .now) in
+    rw (← ending-form .ensures, form-is k)
     (c .some-binds .ensures ∙ ap f (c .before .measured .ensures)
     ∙ sym (right-group f (v .result) q (rw (variables .ensures) at (v .ensures)) (not-false _ (if2 .left))
-    (sym (ending-kind .ensures) ∙ enum-told3 .given .1)))
+    (sym (k .ending-kind .ensures) ∙ enum-told3 .given .1)))
 
 returns-6 : tie.Need-returns-6
 returns-6 c =
-    let args = c .before .before .before .before .before .before .before .before .before .before .args in
-    let variables-right = c .before .before .before .before .variables-right in
-    let ending-form = c .before .before .before .before .before .before .before .ending-form in
-    let if1 = c .before .before .before .before .before .before .if1 in
-    let variables = c .before .before .before .before .before .variables in
-    let if2 = c .before .before .before .if2 in
-    let ending-kind = c .before .before .ending-kind in
-    let f = binds (branchesIn (args .count) (args .p .now)) in let q = endingAt (args .e .now) in let v = variables-right in
-    rw (← ending-form .ensures, not-false (ending-form .result) (if1 .left))
+    let k = c .before .before in
+    let args = entry k .args in
+    let v = k .before .before .variables-right in
+    let ending-form = formed k .ending-form in
+    let variables = k .before .before .before .variables in
+    let if2 = k .before .if2 in
+    let f = binds (branchesIn (args .count) (args .p .now)) in let q = endingAt (args .e .now) in
+    rw (← ending-form .ensures, form-is k)
     (sym (right-registers f (v .result) q (rw (variables .ensures) at (v .ensures)) (not-false _ (if2 .left))
-    (sym (ending-kind .ensures) ∙ c .enum-told4 .given .1)))
+    (sym (k .ending-kind .ensures) ∙ c .enum-told4 .given .1)))
 
 returns-7 : tie.Need-returns-7
 returns-7 c =
-    let args = c .before .before .before .before .before .before .before .before .before .before .args in
-    let ending-kind = c .before .before .ending-kind in
-    absurd (some-kind (endingAt (args .e .now)) (sym (ending-kind .ensures) ∙ c .enum-told5 .given .1))
+    let k = c .before .before in
+    let args = entry k .args in
+    absurd (some-kind (endingAt (args .e .now)) (sym (k .ending-kind .ensures) ∙ c .enum-told5 .given .1))
 
 pub ending-right-spec : {M : Type 1} → statement M
 ending-right-spec =

@@ -1,11 +1,33 @@
 -- `branch` meets its contract: the cases of its first word, its length, its condition and its nodes.
 use borrow.Author.Needs.{needs}
-use mathlib.Core.Path.{sym, _∙_}
+use Prim.Native.Nat.{ℕ, _+_, _*_}
+use mathlib.Core.Path.{_≡_, sym, _∙_, ap}
+use mathlib.Core.List.{List}
 use native.Mathlib.Omega.{arith}
 use borrow.Author.Tests.{le-leb, lt-leb}
-use Rattle.plan_tests.proofs.Parts.{branch-none, branch-short, branch-with, condition-words}
+use Rattle.sequences.specs.Sequences.{all}
+use Rattle.plans.specs.declared.Tree.{Tree}
+use Rattle.plans.specs.Branches.{patternWidth, readBranch, termRight, branchRight}
+use Rattle.plans.proofs.BranchRead.{lentTerms}
+use Rattle.plan_tests.specs.Testing.{partOf}
+use Rattle.plan_tests.proofs.Parts.{branchPart, branch-none, branch-short, branch-with, condition-words}
 use Rattle.plan_tests.proofs.branches.branch.Statement.{statement}
 use Rattle.plan_tests.proofs.branches.branch.Tie as tie
+
+-- the condition is read: the count of patterns, which is not zero, and the words, which are enough
+abbrev counted : tie.After-condition → tie.After-pattern-count
+counted l = let enough = l .before .before .before in enough .before .before
+
+abbrev words : tie.After-condition → List ℕ
+words l = counted l .before .before .args .p .now
+
+branch-read : (l : tie.After-condition) {tree : Tree} → l .condition .result ≡ tree → let n = counted l .pattern-count .result in
+    partOf branchRight (readBranch (words l)) ≡ branchPart (1 + patternWidth * n) (all termRight (lentTerms n (words l))) tree
+branch-read l is =
+    let enough = l .before .before .before in
+    let n = counted l .pattern-count in
+    branch-with (words l) (n .result) (n .ensures .0) (enough .before .if1 .left) (enough .if2 .left) (l .condition .result) (l .condition .ensures)
+    ∙ ap (λ tree. branchPart (1 + patternWidth * n .result) (all termRight (lentTerms (n .result) (words l))) tree) is
 
 pattern-count-requires : tie.Need-pattern-count-requires
 pattern-count-requires c κs = search needs
@@ -59,25 +81,19 @@ enum-known-words : tie.Need-enum-known-words
 enum-known-words c = search needs
 
 returns-3 : tie.Need-returns-3
-returns-3 c =
-    let n = c .before .before .before .before .before .before .before .before .before .pattern-count in
-    let l = c .before .before .before .before .condition in
-    let args = c .before .before .before .before .before .before .before .before .before .before .before .args in
-    let if1 = c .before .before .before .before .before .before .before .before .if1 in
-    let if2 = c .before .before .before .before .before .before .before .if2 in
-    let words = c .before .before .words in
-    sym (branch-with (args .p .now) (n .result) (n .ensures .0) (if1 .left) (if2 .left) (l .result) (l .ensures)
-    ∙ rw (words .given .1, lt-leb _ _ (c .if3 .taken)))
+returns-3 c = let w = c .before .before in sym (branch-read (w .before .before) (w .words .given .1) ∙ rw (lt-leb _ _ (c .if3 .taken)))
 
 add-t19 : tie.Need-add-t19
 add-t19 c =
-    let n = c .before .before .before .before .before .before .before .before .before .pattern-count in
-    let l = c .before .before .before .before .condition in
-    let args = c .before .before .before .before .before .before .before .before .before .before .before .args in
-    let if1 = c .before .before .before .before .before .before .before .before .if1 in
-    let if2 = c .before .before .before .before .before .before .before .if2 in
-    let words = c .before .before .words in
-    omega (arith, condition-words (args .p .now) (n .result) (n .ensures .0) (if1 .left) (if2 .left) (l .result) (l .ensures) _ _ _ (words .given .1))
+    let w = c .before .before in
+    let l = w .before .before in
+    let enough = l .before .before .before in
+    let n = counted l .pattern-count in
+    omega (
+      arith,
+      condition-words (words l) (n .result) (n .ensures .0) (enough .before .if1 .left) (enough .if2 .left) (l .condition .result)
+          (l .condition .ensures) _ _ _ (w .words .given .1),
+    )
 
 all-wanted-requires : tie.Need-all-wanted-requires
 all-wanted-requires c κs = search needs
@@ -86,25 +102,14 @@ both-requires : tie.Need-both-requires
 both-requires c κs = search needs
 
 returns-4 : tie.Need-returns-4
-returns-4 c =
-    let n = c .before .before .before .before .before .before .before .pattern-count in
-    let l = c .before .before .condition in
-    let args = c .before .before .before .before .before .before .before .before .before .args in
-    let if1 = c .before .before .before .before .before .before .if1 in
-    let if2 = c .before .before .before .before .before .if2 in
-    sym (branch-with (args .p .now) (n .result) (n .ensures .0) (if1 .left) (if2 .left) (l .result) (l .ensures) ∙ rw (c .enum-told .given .1))
+returns-4 c = sym (branch-read (c .before .before) (c .enum-told .given .1))
 
 returns-5 : tie.Need-returns-5
 returns-5 c =
-    let n = c .before .before .before .before .before .before .before .before .before .before .before .pattern-count in
-    let l = c .before .before .before .before .before .before .condition in
-    let args = c .before .before .before .before .before .before .before .before .before .before .before .before .before .args in
-    let if1 = c .before .before .before .before .before .before .before .before .before .before .if1 in
-    let if2 = c .before .before .before .before .before .before .before .before .before .if2 in
-    let words = c .before .before .before .before .words in
-    let if3 = c .before .before .if3 in
-    sym (branch-with (args .p .now) (n .result) (n .ensures .0) (if1 .left) (if2 .left) (l .result) (l .ensures)
-    ∙ rw (words .given .1, le-leb _ _ (if3 .left), c .both .ensures, c .before .all-wanted .ensures))
+    let few = c .before .before in
+    let w = few .before .before in
+    sym (branch-read (w .before .before) (w .words .given .1)
+    ∙ rw (le-leb _ _ (few .if3 .left), c .both .ensures, c .before .all-wanted .ensures))
 
 pub branch-spec : {M : Type 1} → statement M
 branch-spec =
