@@ -231,7 +231,8 @@ condition-returns-8 t c =
     let l = f .condition2 in
     let r = c .before .condition3 in
     c .join .ensures ∙ sym (at-two (args .terms .now) (args .left) (args .p .now) (deep t n) (there t n)
-    (n .node-of .result) (n .node-of .ensures) (l .result) (l .ensures) (f .before .before .enum-told5 .given .1) _ _ _ (first .first .given .1) (r .result) (r .ensures) ∙ rw (first .first .given .1))
+    (n .node-of .result) (n .node-of .ensures) (l .result) (l .ensures) (f .before .before .enum-told5 .given .1) _ _ _
+    (first .first .given .1) (r .result) (r .ensures) ∙ rw (first .first .given .1))
 
 pub +condition-spec : {M : Type 1} → statement M
 +condition-spec = close μ-condition λ t. condition-lts.spec (callees t) (condition-at t)
