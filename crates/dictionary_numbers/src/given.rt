@@ -41,7 +41,7 @@ pub fn given_right(kind: StringKind, bytes: &[u8], ends: &[u32]) -> bool
     each_right(kind, bytes, ends)
 }
 
-// Whether buffers of lengths `out`, `cuts`, `numbers` and `places` have room for so many `bytes` and `strings`.
+// Whether buffers of lengths `out`, `cuts`, `numbers` and `places` have room for `bytes` bytes and `strings` strings.
 pub fn has_room(
     bytes: usize,
     strings: usize,

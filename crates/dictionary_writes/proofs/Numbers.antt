@@ -37,7 +37,7 @@ module _ (bytes ends : List ℕ) where
   abbrev rank : ℕ → ℕ
   rank p = stringRank whole (getD (stringsOf bytes ends) p [])
 
-  -- the first k places have their numbers, and so many different strings stand before place k
+  -- the first k places have their numbers, as many as different strings stand before place k
   pub record NumbersWritten (old ns : List ℕ) (count k : ℕ) : Type 0 where
     pub long : length ns ≡ length old
     pub rest-is : drop count whole ≡ lastOfEach (drop k strings)

@@ -1,4 +1,4 @@
--- The part with a number, of parts that have so many elements each: where it stands in its list.
+-- The part with a number, of parts with as many elements each: where it stands in its list.
 use Prim.Native.Nat.{ℕ, zero, suc, _+_, _*_, _/_, _≤_, _<_}
 use native.Mathlib.Omega.{arith}
 use native.Mathlib.Nat.{suc-mul, mul-le-mul-right, div-mul-le-self}

@@ -135,7 +135,7 @@ resultOf i e n saved list =
 abbrev pub turnList : TurnInput → TurnEnding → List Bindings → List ℕ
 turnList i e bs = listAt (givenPlan i .ending) (i .threshold) (isDone e) bs
 
--- the result of so many steps: a turn still under way after its quantum is spent
+-- the result of the steps that a turn made: one still under way after its quantum is spent
 abbrev pub finished : TurnInput → Progress → TurnResult
 finished i p = resultOf i (endingOf p) (stepsOf p) (savedWords (i .survey .number) (leftOf p)) (turnList i (endingOf p) (rowsOf p))
 

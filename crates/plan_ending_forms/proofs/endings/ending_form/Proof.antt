@@ -3,12 +3,20 @@ use borrow.Author.Needs.{needs}
 use Prim.Native.Nat.{ℕ, _-_}
 use mathlib.Core.Path.{_≡_, sym, ap, _∙_}
 use native.Mathlib.Omega.{arith}
-use lib.ListN.{length, take, drop}
+use mathlib.Core.List.{List}
+use lib.ListN.{length, getD, take, drop}
 use borrow.Author.Tests.{eq-eqb, ne-eqb}
 use Rattle.plans.specs.Endings.{endingKindOf}
 use Rattle.plans.proofs.EndingForms.{form-invalid, form-rows, form-top, form-group, form-registers, rows-room, rows-after, some-word}
 use Rattle.plan_ending_forms.proofs.endings.ending_form.Statement.{statement}
 use Rattle.plan_ending_forms.proofs.endings.ending_form.Tie as tie
+
+-- the kind is read: the ending's words, and that it is their first word's
+abbrev words : tie.After-last-of → List ℕ
+words k = k .before .before .before .args .p .now
+
+kind-is : (k : tie.After-last-of) → k .last-of .result ≡ lastOf (getD (words k) 0 0)
+kind-is k = k .last-of .ensures ∙ ap lastOf (k .before .first .ensures)
 
 first-requires : tie.Need-first-requires
 first-requires c κs = search needs
@@ -30,6 +38,7 @@ add-result c = omega arith
 
 returns : tie.Need-returns
 returns c =
+<<<<<<< HEAD
     let p = c .before .before .before .before .before .before .before .before .args .p .now in
     let t = c .before .before .before .before .before .ending-kind-of in
     let first = c .before .before .before .before .before .before .first in
@@ -37,6 +46,14 @@ returns c =
     let rows-form = c .before .before .rows-form in
     rw (
       form-rows p (t .result) (t .ensures ∙ ap endingKindOf (first .ensures)) (enum-told .given .1),
+=======
+    let told = c .before .before .before in
+    let k = told .before .before in
+    let p = words k in
+    let rows-form = c .before .before .rows-form in
+    rw (
+      form-rows p (k .last-of .result) (kind-is k) (told .enum-told .given .1),
+>>>>>>> 6a432750246a2b1f883daf9f6eef5c1594314b8c
       ← rows-form .ensures,
       c .before .if1 .taken,
       ← c .row-width .ensures .0,
@@ -47,23 +64,39 @@ enum-told-2 c = search needs
 
 sub-rest : tie.Need-sub-rest
 sub-rest c =
+<<<<<<< HEAD
     let p = c .before .before .before .before .before .args .p .now in
     let t = c .before .before .ending-kind-of in
     let first = c .before .before .before .first in
     omega (
       arith,
       some-word p (t .result) (t .ensures ∙ ap endingKindOf (first .ensures))
+=======
+    let k = c .before .before in
+    let p = words k in
+    omega (
+      arith,
+      some-word p (k .last-of .result) (kind-is k)
+>>>>>>> 6a432750246a2b1f883daf9f6eef5c1594314b8c
           (λ e. let z : _≡_ {A = ℕ} 0 1 = cc (c .enum-told2 .given .1) in omega arith),
     )
 
 part-rest-start : tie.Need-part-rest-start
 part-rest-start c =
+<<<<<<< HEAD
     let p = c .before .before .before .before .before .args .p .now in
     let t = c .before .before .ending-kind-of in
     let first = c .before .before .before .first in
     omega (
       arith,
       some-word p (t .result) (t .ensures ∙ ap endingKindOf (first .ensures))
+=======
+    let k = c .before .before in
+    let p = words k in
+    omega (
+      arith,
+      some-word p (k .last-of .result) (kind-is k)
+>>>>>>> 6a432750246a2b1f883daf9f6eef5c1594314b8c
           (λ e. let z : _≡_ {A = ℕ} 0 1 = cc (c .enum-told2 .given .1) in omega arith),
     )
 
@@ -84,16 +117,18 @@ mul-keys-form c = omega arith
 
 sub-keys-form : tie.Need-sub-keys-form
 sub-keys-form c =
-    let p = c .before .before .before .before .before .before .before .before .before .args .p .now in
+    let formed = c .before .before in
+    let p = words (formed .before .before .before .before) in
     let n = c .row-width2 in
-    let rows-form2 = c .before .before .rows-form2 in
+    let rows-form2 = formed .rows-form2 in
     omega (arith, rows-room (take (length p - 1) (drop 1 p)) (n .result) (n .ensures .0) (sym (rows-form2 .ensures) ∙ c .before .if2 .taken))
 
 part-keys-form-start : tie.Need-part-keys-form-start
 part-keys-form-start c =
-    let p = c .before .before .before .before .before .before .before .before .before .args .p .now in
+    let formed = c .before .before in
+    let p = words (formed .before .before .before .before) in
     let n = c .row-width2 in
-    let rows-form2 = c .before .before .rows-form2 in
+    let rows-form2 = formed .rows-form2 in
     omega (arith, rows-room (take (length p - 1) (drop 1 p)) (n .result) (n .ensures .0) (sym (rows-form2 .ensures) ∙ c .before .if2 .taken))
 
 part-keys-form-end : tie.Need-part-keys-form-end
@@ -104,15 +139,23 @@ keys-form-requires c κs = search needs
 
 returns-2 : tie.Need-returns-2
 returns-2 c =
+<<<<<<< HEAD
     let p = c .before .before .before .before .before .before .before .before .before .before .before .args .p .now in
     let t = c .before .before .before .before .before .before .before .before .ending-kind-of in
+=======
+    let told = c .before .before .before .before .before .before in
+    let k = told .before .before in
+    let p = words k in
+>>>>>>> 6a432750246a2b1f883daf9f6eef5c1594314b8c
     let n = c .before .before .row-width2 in
-    let first = c .before .before .before .before .before .before .before .before .before .first in
-    let enum-told2 = c .before .before .before .before .before .before .enum-told2 in
     let rows-form2 = c .before .before .before .before .rows-form2 in
     let if2 = c .before .before .before .if2 in
     rw (
+<<<<<<< HEAD
       form-top p (t .result) (t .ensures ∙ ap endingKindOf (first .ensures)) (enum-told2 .given .1),
+=======
+      form-top p (k .last-of .result) (kind-is k) (told .enum-told2 .given .1),
+>>>>>>> 6a432750246a2b1f883daf9f6eef5c1594314b8c
       ← rows-form2 .ensures,
       if2 .taken,
       ← rows-after (take (length p - 1) (drop 1 p)) (n .result) (n .ensures .0),
@@ -147,16 +190,26 @@ all-wanted-requires c κs = search needs
 
 returns-3 : tie.Need-returns-3
 returns-3 c =
+<<<<<<< HEAD
     let p = c .before .before .before .before .before .before .before .before .before .before .before .args .p .now in
     let t = c .before .before .before .before .before .before .before .before .ending-kind-of in
     let first = c .before .before .before .before .before .before .before .before .before .first in
     let enum-told3 = c .before .before .before .before .before .before .enum-told3 in
+=======
+    let told = c .before .before .before .before .before .before in
+    let k = told .before .before in
+    let p = words k in
+>>>>>>> 6a432750246a2b1f883daf9f6eef5c1594314b8c
     let first2 = c .before .before .before .before .before .first2 in
     let low = c .before .before .before .before .low in
     let wide = c .before .before .before .wide in
     let if3 = c .before .before .if3 in
     rw (
+<<<<<<< HEAD
       form-group p (t .result) (t .ensures ∙ ap endingKindOf (first .ensures)) (enum-told3 .given .1),
+=======
+      form-group p (k .last-of .result) (kind-is k) (told .enum-told3 .given .1),
+>>>>>>> 6a432750246a2b1f883daf9f6eef5c1594314b8c
       ← first2 .ensures,
       ← low .ensures,
       ← wide .ensures,
@@ -180,6 +233,7 @@ all-wanted-requires-2 c κs = search needs
 
 returns-4 : tie.Need-returns-4
 returns-4 c =
+<<<<<<< HEAD
     let p = c .before .before .before .before .before .before .before .before .args .p .now in
     let t = c .before .before .before .before .before .ending-kind-of in
     let first = c .before .before .before .before .before .before .first in
@@ -187,6 +241,14 @@ returns-4 c =
     let if4 = c .before .before .if4 in
     rw (
       form-registers p (t .result) (t .ensures ∙ ap endingKindOf (first .ensures)) (enum-told4 .given .1),
+=======
+    let told = c .before .before .before in
+    let k = told .before .before in
+    let p = words k in
+    let if4 = c .before .before .if4 in
+    rw (
+      form-registers p (k .last-of .result) (kind-is k) (told .enum-told4 .given .1),
+>>>>>>> 6a432750246a2b1f883daf9f6eef5c1594314b8c
       eq-eqb _ _ (if4 .taken),
     ) (c .all-wanted2 .ensures)
 
@@ -195,6 +257,7 @@ enum-told-5 c = search needs
 
 returns-5 : tie.Need-returns-5
 returns-5 c =
+<<<<<<< HEAD
     let p = c .before .before .before .before .before .before .before .args .p .now in
     let t = c .before .before .before .before .ending-kind-of in
     let first = c .before .before .before .before .before .first in
@@ -219,6 +282,29 @@ returns-7 c =
     let low = c .before .before .low in
     rw (
       form-group p (t .result) (t .ensures ∙ ap endingKindOf (first .ensures)) (enum-told3 .given .1),
+=======
+    let told = c .before .before in
+    let k = told .before .before in
+    let p = words k in
+    rw (form-rows p (k .last-of .result) (kind-is k) (told .enum-told .given .1), ← c .before .rows-form .ensures, c .if1 .left)
+
+returns-6 : tie.Need-returns-6
+returns-6 c =
+    let told = c .before .before .before in
+    let k = told .before .before in
+    let p = words k in
+    rw (form-top p (k .last-of .result) (kind-is k) (told .enum-told2 .given .1), ← c .before .rows-form2 .ensures, c .if2 .left)
+
+returns-7 : tie.Need-returns-7
+returns-7 c =
+    let told = c .before .before .before .before in
+    let k = told .before .before in
+    let p = words k in
+    let first2 = c .before .before .before .first2 in
+    let low = c .before .before .low in
+    rw (
+      form-group p (k .last-of .result) (kind-is k) (told .enum-told3 .given .1),
+>>>>>>> 6a432750246a2b1f883daf9f6eef5c1594314b8c
       ← first2 .ensures,
       ← low .ensures,
       ← c .before .wide .ensures,
@@ -227,20 +313,31 @@ returns-7 c =
 
 returns-8 : tie.Need-returns-8
 returns-8 c =
+<<<<<<< HEAD
     let p = c .before .before .before .before .before .before .args .p .now in
     let t = c .before .before .before .ending-kind-of in
     let first = c .before .before .before .before .first in
     rw (
       form-registers p (t .result) (t .ensures ∙ ap endingKindOf (first .ensures)) (c .before .enum-told4 .given .1),
+=======
+    let k = c .before .before .before in
+    let p = words k in
+    rw (
+      form-registers p (k .last-of .result) (kind-is k) (c .before .enum-told4 .given .1),
+>>>>>>> 6a432750246a2b1f883daf9f6eef5c1594314b8c
       ne-eqb _ _ (c .if4 .left),
     )
 
 returns-9 : tie.Need-returns-9
+<<<<<<< HEAD
 returns-9 c =
     let t = c .before .before .ending-kind-of in
     let args = c .before .before .before .before .before .args in
     let first = c .before .before .before .first in
     sym (form-invalid (args .p .now) (t .result) (t .ensures ∙ ap endingKindOf (first .ensures)) (c .enum-told5 .given .1))
+=======
+returns-9 c = let k = c .before .before in sym (form-invalid (words k) (k .last-of .result) (kind-is k) (c .enum-told5 .given .1))
+>>>>>>> 6a432750246a2b1f883daf9f6eef5c1594314b8c
 
 pub ending-form-spec : {M : Type 1} → statement M
 ending-form-spec =

@@ -77,11 +77,14 @@ branches-enum-known-more t c = search needs
 
 branches-add-t18 : (t : ℕ) → branches-lts.Need-add-t18 (callees t) (branches-at t) branches.Post
 branches-add-t18 t c =
-    let b = c .before .before .before .before .before .before .before .before .branch in
-    let r = c .before .before .before .branches in
-    let args = c .before .before .before .before .before .before .before .before .before .before .before .args in
-    let if1 = c .before .before .before .before .before .before .before .before .before .if1 in
-    let words = c .before .before .before .before .before .before .words in
+    let rest = c .before .before .before in
+    let counted = rest .before .before .before in
+    let first = counted .before .before in
+    let b = first .branch in
+    let r = rest .branches in
+    let args = first .before .before .before .args in
+    let if1 = first .before .if1 in
+    let words = counted .words in
     omega (
       arith,
       rest-words (args .count) (args .p .now) (if1 .left) (b .result) (b .ensures) _ _ (words .given .1) (r .result) (r .ensures) _ _
@@ -100,21 +103,27 @@ branches-returns-2 t c =
 
 branches-returns-3 : (t : ℕ) → branches-lts.Need-returns-3 (callees t) (branches-at t) branches.Post
 branches-returns-3 t c =
-    let b = c .before .before .before .before .before .before .before .branch in
-    let r = c .before .before .branches in
-    let args = c .before .before .before .before .before .before .before .before .before .before .args in
-    let if1 = c .before .before .before .before .before .before .before .before .if1 in
-    let words = c .before .before .before .before .before .words in
+    let rest = c .before .before in
+    let counted = rest .before .before .before in
+    let first = counted .before .before in
+    let b = first .branch in
+    let r = rest .branches in
+    let args = first .before .before .before .args in
+    let if1 = first .before .if1 in
+    let words = counted .words in
     sym (branches-two (args .count) (args .p .now) (if1 .left) (b .result) (b .ensures) _ _ (words .given .1) (r .result) (r .ensures)
     ∙ rw (c .enum-told2 .given .1))
 
 branches-returns-4 : (t : ℕ) → branches-lts.Need-returns-4 (callees t) (branches-at t) branches.Post
 branches-returns-4 t c =
-    let b = c .before .before .before .before .before .before .before .before .before .branch in
-    let r = c .before .before .before .before .branches in
-    let args = c .before .before .before .before .before .before .before .before .before .before .before .before .args in
-    let if1 = c .before .before .before .before .before .before .before .before .before .before .if1 in
-    let words = c .before .before .before .before .before .before .before .words in
+    let rest = c .before .before .before .before in
+    let counted = rest .before .before .before in
+    let first = counted .before .before in
+    let b = first .branch in
+    let r = rest .branches in
+    let args = first .before .before .before .args in
+    let if1 = first .before .if1 in
+    let words = counted .words in
     let more = c .before .before .more in
     sym (branches-two (args .count) (args .p .now) (if1 .left) (b .result) (b .ensures) _ _ (words .given .1) (r .result) (r .ensures)
     ∙ rw (more .given .1, c .both .ensures))
