@@ -12,11 +12,11 @@ use Rattle.plan_ending_forms.proofs.endings.ending_form.Statement.{stat
 use Rattle.plan_ending_forms.proofs.endings.ending_form.Tie as tie
 
 -- the kind is read: the ending's words, and that it is their first word's
-abbrev words : tie.After-last-of → List ℕ
+abbrev words : tie.After-ending-kind-of → List ℕ
 words k = k .before .before .before .args .p .now
 
-kind-is : (k : tie.After-last-of) → k .last-of .result ≡ lastOf (getD (words k) 0 0)
-kind-is k = k .last-of .ensures ∙ ap lastOf (k .before .first .ensures)
+kind-is : (k : tie.After-ending-kind-of) → k .ending-kind-of .result ≡ endingKindOf (getD (words k) 0 0)
+kind-is k = k .ending-kind-of .ensures ∙ ap endingKindOf (k .before .first .ensures)
 
 first-requires : tie.Need-first-requires
 first-requires c κs = search needs
@@ -38,22 +38,12 @@ add-result c = omega arith
 
 returns : tie.Need-returns
 returns c =
-<<<<<<< HEAD
-    let p = c .before .before .before .before .before .before .before .before .args .p .now in
-    let t = c .before .before .before .before .before .ending-kind-of in
-    let first = c .before .before .before .before .before .before .first in
-    let enum-told = c .before .before .before .enum-told in
-    let rows-form = c .before .before .rows-form in
-    rw (
-      form-rows p (t .result) (t .ensures ∙ ap endingKindOf (first .ensures)) (enum-told .given .1),
-=======
     let told = c .before .before .before in
     let k = told .before .before in
     let p = words k in
     let rows-form = c .before .before .rows-form in
     rw (
-      form-rows p (k .last-of .result) (kind-is k) (told .enum-told .given .1),
->>>>>>> 6a432750246a2b1f883daf9f6eef5c1594314b8c
+      form-rows p (k .ending-kind-of .result) (kind-is k) (told .enum-told .given .1),
       ← rows-form .ensures,
       c .before .if1 .taken,
       ← c .row-width .ensures .0,
@@ -64,39 +54,21 @@ enum-told-2 c = search needs
 
 sub-rest : tie.Need-sub-rest
 sub-rest c =
-<<<<<<< HEAD
-    let p = c .before .before .before .before .before .args .p .now in
-    let t = c .before .before .ending-kind-of in
-    let first = c .before .before .before .first in
-    omega (
-      arith,
-      some-word p (t .result) (t .ensures ∙ ap endingKindOf (first .ensures))
-=======
     let k = c .before .before in
     let p = words k in
     omega (
       arith,
-      some-word p (k .last-of .result) (kind-is k)
->>>>>>> 6a432750246a2b1f883daf9f6eef5c1594314b8c
+      some-word p (k .ending-kind-of .result) (kind-is k)
           (λ e. let z : _≡_ {A = ℕ} 0 1 = cc (c .enum-told2 .given .1) in omega arith),
     )
 
 part-rest-start : tie.Need-part-rest-start
 part-rest-start c =
-<<<<<<< HEAD
-    let p = c .before .before .before .before .before .args .p .now in
-    let t = c .before .before .ending-kind-of in
-    let first = c .before .before .before .first in
-    omega (
-      arith,
-      some-word p (t .result) (t .ensures ∙ ap endingKindOf (first .ensures))
-=======
     let k = c .before .before in
     let p = words k in
     omega (
       arith,
-      some-word p (k .last-of .result) (kind-is k)
->>>>>>> 6a432750246a2b1f883daf9f6eef5c1594314b8c
+      some-word p (k .ending-kind-of .result) (kind-is k)
           (λ e. let z : _≡_ {A = ℕ} 0 1 = cc (c .enum-told2 .given .1) in omega arith),
     )
 
@@ -139,23 +111,14 @@ keys-form-requires c κs = search needs
 
 returns-2 : tie.Need-returns-2
 returns-2 c =
-<<<<<<< HEAD
-    let p = c .before .before .before .before .before .before .before .before .before .before .before .args .p .now in
-    let t = c .before .before .before .before .before .before .before .before .ending-kind-of in
-=======
     let told = c .before .before .before .before .before .before in
     let k = told .before .before in
     let p = words k in
->>>>>>> 6a432750246a2b1f883daf9f6eef5c1594314b8c
     let n = c .before .before .row-width2 in
     let rows-form2 = c .before .before .before .before .rows-form2 in
     let if2 = c .before .before .before .if2 in
     rw (
-<<<<<<< HEAD
-      form-top p (t .result) (t .ensures ∙ ap endingKindOf (first .ensures)) (enum-told2 .given .1),
-=======
-      form-top p (k .last-of .result) (kind-is k) (told .enum-told2 .given .1),
->>>>>>> 6a432750246a2b1f883daf9f6eef5c1594314b8c
+      form-top p (k .ending-kind-of .result) (kind-is k) (told .enum-told2 .given .1),
       ← rows-form2 .ensures,
       if2 .taken,
       ← rows-after (take (length p - 1) (drop 1 p)) (n .result) (n .ensures .0),
@@ -190,26 +153,15 @@ all-wanted-requires c κs = search needs
 
 returns-3 : tie.Need-returns-3
 returns-3 c =
-<<<<<<< HEAD
-    let p = c .before .before .before .before .before .before .before .before .before .before .before .args .p .now in
-    let t = c .before .before .before .before .before .before .before .before .ending-kind-of in
-    let first = c .before .before .before .before .before .before .before .before .before .first in
-    let enum-told3 = c .before .before .before .before .before .before .enum-told3 in
-=======
     let told = c .before .before .before .before .before .before in
     let k = told .before .before in
     let p = words k in
->>>>>>> 6a432750246a2b1f883daf9f6eef5c1594314b8c
     let first2 = c .before .before .before .before .before .first2 in
     let low = c .before .before .before .before .low in
     let wide = c .before .before .before .wide in
     let if3 = c .before .before .if3 in
     rw (
-<<<<<<< HEAD
-      form-group p (t .result) (t .ensures ∙ ap endingKindOf (first .ensures)) (enum-told3 .given .1),
-=======
-      form-group p (k .last-of .result) (kind-is k) (told .enum-told3 .given .1),
->>>>>>> 6a432750246a2b1f883daf9f6eef5c1594314b8c
+      form-group p (k .ending-kind-of .result) (kind-is k) (told .enum-told3 .given .1),
       ← first2 .ensures,
       ← low .ensures,
       ← wide .ensures,
@@ -233,22 +185,12 @@ all-wanted-requires-2 c κs = search needs
 
 returns-4 : tie.Need-returns-4
 returns-4 c =
-<<<<<<< HEAD
-    let p = c .before .before .before .before .before .before .before .before .args .p .now in
-    let t = c .before .before .before .before .before .ending-kind-of in
-    let first = c .before .before .before .before .before .before .first in
-    let enum-told4 = c .before .before .before .enum-told4 in
-    let if4 = c .before .before .if4 in
-    rw (
-      form-registers p (t .result) (t .ensures ∙ ap endingKindOf (first .ensures)) (enum-told4 .given .1),
-=======
     let told = c .before .before .before in
     let k = told .before .before in
     let p = words k in
     let if4 = c .before .before .if4 in
     rw (
-      form-registers p (k .last-of .result) (kind-is k) (told .enum-told4 .given .1),
->>>>>>> 6a432750246a2b1f883daf9f6eef5c1594314b8c
+      form-registers p (k .ending-kind-of .result) (kind-is k) (told .enum-told4 .given .1),
       eq-eqb _ _ (if4 .taken),
     ) (c .all-wanted2 .ensures)
 
@@ -257,43 +199,17 @@ enum-told-5 c = search needs
 
 returns-5 : tie.Need-returns-5
 returns-5 c =
-<<<<<<< HEAD
-    let p = c .before .before .before .before .before .before .before .args .p .now in
-    let t = c .before .before .before .before .ending-kind-of in
-    let first = c .before .before .before .before .before .first in
-    let enum-told = c .before .before .enum-told in
-    rw (form-rows p (t .result) (t .ensures ∙ ap endingKindOf (first .ensures)) (enum-told .given .1), ← c .before .rows-form .ensures, c .if1 .left)
-
-returns-6 : tie.Need-returns-6
-returns-6 c =
-    let p = c .before .before .before .before .before .before .before .before .args .p .now in
-    let t = c .before .before .before .before .before .ending-kind-of in
-    let first = c .before .before .before .before .before .before .first in
-    let enum-told2 = c .before .before .before .enum-told2 in
-    rw (form-top p (t .result) (t .ensures ∙ ap endingKindOf (first .ensures)) (enum-told2 .given .1), ← c .before .rows-form2 .ensures, c .if2 .left)
-
-returns-7 : tie.Need-returns-7
-returns-7 c =
-    let p = c .before .before .before .before .before .before .before .before .before .args .p .now in
-    let t = c .before .before .before .before .before .before .ending-kind-of in
-    let first = c .before .before .before .before .before .before .before .first in
-    let enum-told3 = c .before .before .before .before .enum-told3 in
-    let first2 = c .before .before .before .first2 in
-    let low = c .before .before .low in
-    rw (
-      form-group p (t .result) (t .ensures ∙ ap endingKindOf (first .ensures)) (enum-told3 .given .1),
-=======
     let told = c .before .before in
     let k = told .before .before in
     let p = words k in
-    rw (form-rows p (k .last-of .result) (kind-is k) (told .enum-told .given .1), ← c .before .rows-form .ensures, c .if1 .left)
+    rw (form-rows p (k .ending-kind-of .result) (kind-is k) (told .enum-told .given .1), ← c .before .rows-form .ensures, c .if1 .left)
 
 returns-6 : tie.Need-returns-6
 returns-6 c =
     let told = c .before .before .before in
     let k = told .before .before in
     let p = words k in
-    rw (form-top p (k .last-of .result) (kind-is k) (told .enum-told2 .given .1), ← c .before .rows-form2 .ensures, c .if2 .left)
+    rw (form-top p (k .ending-kind-of .result) (kind-is k) (told .enum-told2 .given .1), ← c .before .rows-form2 .ensures, c .if2 .left)
 
 returns-7 : tie.Need-returns-7
 returns-7 c =
@@ -303,8 +219,7 @@ returns-7 c =
     let first2 = c .before .before .before .first2 in
     let low = c .before .before .low in
     rw (
-      form-group p (k .last-of .result) (kind-is k) (told .enum-told3 .given .1),
->>>>>>> 6a432750246a2b1f883daf9f6eef5c1594314b8c
+      form-group p (k .ending-kind-of .result) (kind-is k) (told .enum-told3 .given .1),
       ← first2 .ensures,
       ← low .ensures,
       ← c .before .wide .ensures,
@@ -313,31 +228,15 @@ returns-7 c =
 
 returns-8 : tie.Need-returns-8
 returns-8 c =
-<<<<<<< HEAD
-    let p = c .before .before .before .before .before .before .args .p .now in
-    let t = c .before .before .before .ending-kind-of in
-    let first = c .before .before .before .before .first in
-    rw (
-      form-registers p (t .result) (t .ensures ∙ ap endingKindOf (first .ensures)) (c .before .enum-told4 .given .1),
-=======
     let k = c .before .before .before in
     let p = words k in
     rw (
-      form-registers p (k .last-of .result) (kind-is k) (c .before .enum-told4 .given .1),
->>>>>>> 6a432750246a2b1f883daf9f6eef5c1594314b8c
+      form-registers p (k .ending-kind-of .result) (kind-is k) (c .before .enum-told4 .given .1),
       ne-eqb _ _ (c .if4 .left),
     )
 
 returns-9 : tie.Need-returns-9
-<<<<<<< HEAD
-returns-9 c =
-    let t = c .before .before .ending-kind-of in
-    let args = c .before .before .before .before .before .args in
-    let first = c .before .before .before .first in
-    sym (form-invalid (args .p .now) (t .result) (t .ensures ∙ ap endingKindOf (first .ensures)) (c .enum-told5 .given .1))
-=======
-returns-9 c = let k = c .before .before in sym (form-invalid (words k) (k .last-of .result) (kind-is k) (c .enum-told5 .given .1))
->>>>>>> 6a432750246a2b1f883daf9f6eef5c1594314b8c
+returns-9 c = let k = c .before .before in sym (form-invalid (words k) (k .ending-kind-of .result) (kind-is k) (c .enum-told5 .given .1))
 
 pub ending-form-spec : {M : Type 1} → statement M
 ending-form-spec =
