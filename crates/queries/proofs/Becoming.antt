@@ -125,7 +125,7 @@ module _ (keep : Keeping) (v : Survey) (plan : List ℕ) (a : Accepted (v .table
     by-ending ending.Spent f = served-becomes ending.Spent f refl
     by-ending ending.Full f = served-becomes ending.Full f refl
     by-ending (ending.Refused y) f =
-        subst⁻¹ (λ (r : MergeResult). Then (turnOf i .buffers .state) (r .kept) (wentAs (ending.Refused y) (turnOf i .answer .saved) (r .answer)))
+        subst⁻¹ (λ (r : WordsResult). Then (turnOf i .buffers .state) (r .buffers) (wentAs (ending.Refused y) (turnOf i .answer .saved) (r .answer)))
         (not-taken (ending.Refused y) f refl) (stopped y kept (refl, turn-cause y f))
 
     pub becomes : Then (takeTurnOf keep i kept used .state) (takeTurnOf keep i kept used .kept) (wentOf (takeTurnOf keep i kept used .answer))
