@@ -1,4 +1,6 @@
 // The answers of the calls as numbers, for programs in other languages: structs of numbers, defined, and tabled in literal numbers.
+#![tactic(auto)]
+
 ghost use Rattle.std.specs.Prelude.{◌≡◌};
 ghost use Rattle.call_numbers.specs.Numbers.{written_numbers, ending_numbers, turned_numbers, made_numbers, queued_numbers, service_numbers};
 ghost use Rattle.call_numbers.specs.Numbers.{tables_numbers, kind_of, numbered_numbers, found_numbers, bounds_numbers};
@@ -15,7 +17,7 @@ use words::Written;
 // What a call that writes to one buffer answers, or that says how long one has to be: the number of the test that refused it, or 0; and
 // the words written or asked for.
 #[repr(C)]
-#[derive(Drop)]
+#[derive(Clone, Copy)]
 pub struct WrittenNumbers {
     pub refused: u32,
     pub words: usize,
@@ -24,7 +26,7 @@ pub struct WrittenNumbers {
 // What a turn answers: its ending by number; the number of the test that refused it, or 0; its steps; and the words written to the state
 // and to the output.
 #[repr(C)]
-#[derive(Drop)]
+#[derive(Clone, Copy)]
 pub struct TurnedNumbers {
     pub ending: u32,
     pub refused: u32,
@@ -34,7 +36,7 @@ pub struct TurnedNumbers {
 }
 
 // An ending by its number, and the number of the test that refused a turn, or 0.
-#[derive(Drop)]
+#[derive(Clone, Copy)]
 pub struct EndingNumbers {
     pub ending: u32,
     pub refused: u32,
@@ -43,7 +45,7 @@ pub struct EndingNumbers {
 // What making tables answers: the number of the test that refused it, or 0; and the words written to the rows, to POS, to OSP and to the
 // report.
 #[repr(C)]
-#[derive(Drop)]
+#[derive(Clone, Copy)]
 pub struct MadeNumbers {
     pub refused: u32,
     pub rows: usize,
@@ -54,7 +56,7 @@ pub struct MadeNumbers {
 
 // What writing tables answers: the number of the test that refused it, or 0; and the words written to the rows, to POS and to OSP.
 #[repr(C)]
-#[derive(Drop)]
+#[derive(Clone, Copy)]
 pub struct TablesNumbers {
     pub refused: u32,
     pub rows: usize,
@@ -65,7 +67,7 @@ pub struct TablesNumbers {
 // What joining and topping up answer: the number of the test that refused it, or 0; and how many entries the line and the list set aside
 // have now.
 #[repr(C)]
-#[derive(Drop)]
+#[derive(Clone, Copy)]
 pub struct QueuedNumbers {
     pub refused: u32,
     pub waiting: usize,
@@ -75,7 +77,7 @@ pub struct QueuedNumbers {
 // What serving answers: what the turn did; whose it was, and the steps left to it; and how many entries the line and the list set aside
 // have now.
 #[repr(C)]
-#[derive(Drop)]
+#[derive(Clone, Copy)]
 pub struct ServiceNumbers {
     pub ending: u32,
     pub refused: u32,
@@ -90,7 +92,7 @@ pub struct ServiceNumbers {
 
 // What numbering strings answers: the number of the test that refused it, or 0; and the bytes and the strings of the dictionary.
 #[repr(C)]
-#[derive(Drop)]
+#[derive(Clone, Copy)]
 pub struct NumberedNumbers {
     pub refused: u32,
     pub bytes: usize,
@@ -99,7 +101,7 @@ pub struct NumberedNumbers {
 
 // What looking for a string answers: the number of the test that refused it, or 0; whether it is there; and its number, or its rank.
 #[repr(C)]
-#[derive(Drop)]
+#[derive(Clone, Copy)]
 pub struct FoundNumbers {
     pub refused: u32,
     pub present: u32,
@@ -108,7 +110,7 @@ pub struct FoundNumbers {
 
 // What the string of a number is: the number of the test that refused it, or 0; whether it is there; and where its bytes start and end.
 #[repr(C)]
-#[derive(Drop)]
+#[derive(Clone, Copy)]
 pub struct BoundsNumbers {
     pub refused: u32,
     pub present: u32,

@@ -1,4 +1,6 @@
 // A text's bytes read to code points and places, in one pass over two lent buffers.
+#![tactic(auto)]
+
 mod escapes;
 mod utf8;
 

@@ -1,4 +1,6 @@
 // Comparisons of two terms.
+#![tactic(auto)]
+
 ghost use Rattle.std.specs.Prelude.{◌≡◌, ◌≤◌, ltb, leb, length};
 ghost use Rattle.plans.specs.Conditions.{comparison_words};
 ghost use Rattle.conditions.specs.Truth.{kinds_are, equality, inequality, comparison};

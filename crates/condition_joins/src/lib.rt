@@ -1,4 +1,6 @@
 // Values put together: what is known of a condition from its operands, and which right operand is read first.
+#![tactic(auto)]
+
 ghost use Rattle.std.specs.Prelude.{◌≡◌};
 ghost use Rattle.conditions.specs.Evaluated.{negated_read, pair_read};
 ghost use Rattle.conditions.specs.Values.{joined_by, Few, is_short};

@@ -1,4 +1,6 @@
 // Truths in code: and, or and not, as SPARQL's tables have them.
+#![tactic(auto)]
+
 ghost use Rattle.std.specs.Prelude.{◌≡◌};
 ghost use Rattle.conditions.specs.Truth.{conjunction, disjunction, negation, of_test, is_true};
 ghost use Rattle.conditions.specs.Evaluated.{is_false};

@@ -1,5 +1,7 @@
 // Conditions evaluated in code, the short side of an "and" first: true, false or error, and how many comparisons were read; where right operands
 // stand, found once a turn.
+#![tactic(auto)]
+
 mod operands;
 
 ghost use Rattle.std.specs.Prelude.{◌≡◌, true};

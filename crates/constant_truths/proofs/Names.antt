@@ -113,7 +113,7 @@ module _ {M : Vocabulary} (c : Carrier by_number M) (count : ℕ) (s : M.Name) (
   no_text = ne_eqb (term_kind (words.name count)) text_kind (λ z. omega (arith, kind_name, z))
 
   no_variable : is_variable (words.name count) ≡ false
-  no_variable = ne_eqb (term_kind (words.name count)) words.variableKind (λ z. omega (arith, kind_name, z))
+  no_variable = ne_eqb (term_kind (words.name count)) words.variable_kind (λ z. omega (arith, kind_name, z))
 
   within : NameWithin (words.name count) w
   within p q = let l = inside p q in omega (arith, l)

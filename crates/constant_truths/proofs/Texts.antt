@@ -168,7 +168,7 @@ module _ {M : Vocabulary} (c : Carrier by_number M) (count rank : ℕ) (s : M.Na
       no_number = ne_eqb (term_kind (words.text n)) number_kind (λ z. omega (arith, kind_text, z))
 
       no_variable : is_variable (words.text n) ≡ false
-      no_variable = ne_eqb (term_kind (words.text n)) words.variableKind (λ z. omega (arith, kind_text, z))
+      no_variable = ne_eqb (term_kind (words.text n)) words.variable_kind (λ z. omega (arith, kind_text, z))
 
       value_text_lem : term_value (words.text n) ≡ n
       value_text_lem = omega (arith, h, absent.fits)

@@ -1,4 +1,6 @@
 // Constants of a query's text in comparisons: what becomes of one that the dictionary does not have or no table can hold, and its words in a plan.
+#![tactic(auto)]
+
 ghost use Rattle.std.specs.Prelude.{[], ◌∷◌, ◌++◌, ◌+◌, ◌≤◌, ◌<◌, length};
 ghost use Rattle.words.specs.Words.{number, last_operator};
 ghost use Rattle.plans.specs.Conditions.{compared};
@@ -9,7 +11,7 @@ use words::PlanWord;
 
 // What is known of a constant: its term, a name or a text that the dictionary does not have, the text with the term at its rank, or a number below or
 // above all that a table can hold.
-#[derive(Drop)]
+#[derive(Clone, Copy)]
 pub enum Constant {
     Term(u32),
     NoName,

@@ -1,4 +1,6 @@
 // Whether bytes are well-formed UTF-8, character by character, and whether all are ASCII; one byte's step of it, which character_passes takes too.
+#![tactic(auto)]
+
 mod spans;
 
 ghost use Rattle.std.specs.Prelude.{◌≡◌, cond, ltb};
@@ -9,7 +11,7 @@ ghost use Rattle.dictionary_checks.specs.Steps.{first_step, later_step, next_ste
 use spans::{rest_in, rest_length};
 
 // What is still to come of a character.
-#[derive(Drop)]
+#[derive(Clone, Copy)]
 pub enum Rest {
     Nothing,
     One,
@@ -22,7 +24,7 @@ pub enum Rest {
 }
 
 // What a byte leaves to come, or that it may not stand there.
-#[derive(Drop)]
+#[derive(Clone, Copy)]
 pub enum ByteStep {
     More(Rest),
     Wrong,

@@ -1,4 +1,6 @@
 // The calls `find` and `string` over a lent dictionary: the number of a string or its rank, and the string of a number.
+#![tactic(auto)]
+
 ghost use Rattle.std.specs.Prelude.{◌≡◌};
 ghost use Rattle.calls.specs.Calls.{result_of_call, AnswersRight};
 ghost use Rattle.dictionary_lookups.specs.Finding.{find_input, find_schema};
@@ -12,7 +14,7 @@ use dictionary_tests::dictionary_right;
 pub const DICTIONARY: u32 = 28;
 
 // What a search answers: the string's number, how many come before one that is not there, or the number of the test that refused it.
-#[derive(Drop)]
+#[derive(Clone, Copy)]
 pub enum StringFound {
     At(usize),
     Absent(usize),
@@ -20,7 +22,7 @@ pub enum StringFound {
 }
 
 // What a number's string is: where its bytes start and end, that it is past the last number, or the number of the test that refused the call.
-#[derive(Drop)]
+#[derive(Clone, Copy)]
 pub enum StringBounds {
     Part(usize, usize),
     Past,

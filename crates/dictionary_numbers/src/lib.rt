@@ -1,4 +1,6 @@
 // Strings numbered: the call.
+#![tactic(auto)]
+
 mod given;
 mod writing;
 

@@ -1,4 +1,6 @@
 // The test of a whole dictionary of names or of texts: ends, number of strings, UTF-8, characters of names, order.
+#![tactic(auto)]
+
 mod names;
 mod strings;
 

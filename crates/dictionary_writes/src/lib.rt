@@ -1,4 +1,6 @@
 // The dictionary of strings by their sorted places: each string once, behind the one before it, and the number of each place's string.
+#![tactic(auto)]
+
 ghost use Rattle.std.specs.Prelude.{◌≡◌, true, ◌||◌, ◌+◌, ◌≤◌, ◌<◌, eqb, length, get_or};
 ghost use Rattle.std.proofs.Math.Seq.{paste};
 ghost use Rattle.sequences.specs.Sequences.{all, over};
@@ -9,7 +11,7 @@ ghost use Rattle.dictionary_numberings.specs.Sorted.{sorted_places};
 use dictionary_searches::{is_before, string};
 
 // How much was written.
-#[derive(Drop)]
+#[derive(Clone, Copy)]
 pub struct Extent {
     pub bytes: usize,
     pub strings: usize,

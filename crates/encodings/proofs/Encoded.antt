@@ -36,19 +36,19 @@ use Rattle.encodings.specs.Encodings.{StringTerm, in_code_points, is_signed30, b
 name_read : (n : ℕ) → n < 0x4000_0000 → term_of (words.name n) ≡ iri n
 name_read n h =
     let v : words.name n ≡ n = omega arith in
-    rw (ne_eqb (words.termKind (words.name n)) 1 (λ e. omega arith), ne_eqb (words.termKind (words.name n)) 2 (λ e. omega arith)) (ap iri v)
+    rw (ne_eqb (words.term_kind (words.name n)) 1 (λ e. omega arith), ne_eqb (words.term_kind (words.name n)) 2 (λ e. omega arith)) (ap iri v)
 
 text_read : (n : ℕ) → n < 0x4000_0000 → term_of (words.text n) ≡ text n
 text_read n h =
-    let k : words.termKind (words.text n) ≡ 2 = omega arith in
-    let v : words.termValue (words.text n) ≡ n = omega arith in
-    rw (ne_eqb (words.termKind (words.text n)) 1 (λ e. omega arith), eq-eqb (words.termKind (words.text n)) 2 k, v) refl
+    let k : words.term_kind (words.text n) ≡ 2 = omega arith in
+    let v : words.term_value (words.text n) ≡ n = omega arith in
+    rw (ne_eqb (words.term_kind (words.text n)) 1 (λ e. omega arith), eq-eqb (words.term_kind (words.text n)) 2 k, v) refl
 
 number_read : (n : ℕ) → n < 0x4000_0000 → term_of (words.number n) ≡ integer (whole_number n)
 number_read n h =
-    let k : words.termKind (words.number n) ≡ 1 = omega arith in
-    let v : words.termValue (words.number n) ≡ n = omega arith in
-    rw (eq-eqb (words.termKind (words.number n)) 1 k, v) refl
+    let k : words.term_kind (words.number n) ≡ 1 = omega arith in
+    let v : words.term_value (words.number n) ≡ n = omega arith in
+    rw (eq-eqb (words.term_kind (words.number n)) 1 k, v) refl
 
 bits_below_lem : (z : ℤ) → is_signed30 z ≡ true → bits_of30 z < 0x4000_0000
 bits_below_lem (pos n) h = let l = ltb-true n 0x2000_0000 h in omega arith
@@ -140,11 +140,11 @@ is_number_term (text s) = false
 -- a whole number that is out of its 30 bits is no term: no word stands for it
 whole_signed : (v : ℕ) → v < 0x4000_0000 → is_signed30 (whole_number v) ≡ true
 whole_signed v h =
-    let a = (v + words.halfValues) % words.termValues in
+    let a = (v + words.half_values) % words.term_values in
     ap is_signed30 (whole_difference v h)
-    ∙ elim (dec_lt a words.halfValues) [
-      | yes l ↦ ap is_signed30 (below a words.halfValues l) ∙ lt-ltb (words.halfValues - suc a) 0x2000_0000 (omega arith)
-      | no l ↦ ap is_signed30 (above a words.halfValues (omega arith)) ∙ lt-ltb (a - words.halfValues) 0x2000_0000 (omega arith)
+    ∙ elim (dec_lt a words.half_values) [
+      | yes l ↦ ap is_signed30 (below a words.half_values l) ∙ lt-ltb (words.half_values - suc a) 0x2000_0000 (omega arith)
+      | no l ↦ ap is_signed30 (above a words.half_values (omega arith)) ∙ lt-ltb (a - words.half_values) 0x2000_0000 (omega arith)
     ]
 
 pub no_term : (d : Dictionaries) (w : ℕ) (z : ℤ) → term_decoded (decoding d) w ≡ integer z → is_signed30 z ≡ true
@@ -155,9 +155,9 @@ no_term d w z e = go (sort_of w)
 
     go : Sort w → is_signed30 z ≡ true
     go (a_number p q) =
-        let t : term_of w ≡ integer (whole_number (words.termValue w)) = simp (p, q) in
-        let f : integer (whole_number (words.termValue w)) ≡ integer z = sym (ap (carry_term (decoding d)) t) ∙ e in
-        let g : whole_number (words.termValue w) ≡ z = cc in
-        ap is_signed30 (sym g) ∙ whole_signed (words.termValue w) (omega arith)
+        let t : term_of w ≡ integer (whole_number (words.term_value w)) = simp (p, q) in
+        let f : integer (whole_number (words.term_value w)) ≡ integer z = sym (ap (carry_term (decoding d)) t) ∙ e in
+        let g : whole_number (words.term_value w) ≡ z = cc in
+        ap is_signed30 (sym g) ∙ whole_signed (words.term_value w) (omega arith)
     go (a_text p q) = absurd_true (apart (term_decoded (decoding d) w) e) (simp (p, q))
     go (a_name p q) = absurd_true (apart (term_decoded (decoding d) w) e) (simp (p, q))

@@ -1,4 +1,6 @@
 // Where a row is put among those of a best-of list, behind those equal to it in all keys.
+#![tactic(auto)]
+
 ghost use Rattle.std.specs.Prelude.{◌≡◌, ◌*◌, length};
 ghost use Rattle.lists.specs.Rows.{row_before};
 ghost use Rattle.lists.specs.Gathering.{records_in};

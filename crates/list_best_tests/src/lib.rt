@@ -1,4 +1,6 @@
 // The tests of a threshold (11) and of a best-of list (12), and the room for a merged one (14).
+#![tactic(auto)]
+
 ghost use Rattle.std.specs.Prelude.{◌≡◌, true, not, List, ℕ, ◌%◌, ◌≤◌, ◌<◌, leb, length, take};
 ghost use Rattle.sequences.specs.Sequences.{all, neighbours};
 ghost use Rattle.plans.specs.Endings.{top, key_among, most_row_variables, most_best};

@@ -1,4 +1,6 @@
 // What done adds to a list, by the ending of a plan.
+#![tactic(auto)]
+
 ghost use Rattle.std.specs.Prelude.{◌≡◌, true, ℕ, ◌+◌, ◌≤◌, length, take};
 ghost use Rattle.plans.specs.Endings.{group, ending_form, ending_at};
 ghost use Rattle.lists.specs.Groups.{of_nothing, totals_width};

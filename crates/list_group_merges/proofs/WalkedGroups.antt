@@ -116,10 +116,10 @@ module _ (vs : List ℕ) (m : ℕ) (kept : List ℕ) (used : ℕ) (list : List �
   groups = walked (sides g kept list) (list_walk together (group_at g kept) (group_at g list)) n k
 
   old_in : (p : ℕ) → p < n → p * w + w ≤ length kept
-  old_in p h = let f = at_words.part-fits p used w h in omega arith
+  old_in p h = let f = at_words.part_fits p used w h in omega arith
 
   new_in : (q : ℕ) → q < k → q * w + w ≤ length list
-  new_in q h = at_words.part-fits q (length list) w h
+  new_in q h = at_words.part_fits q (length list) w h
 
   -- the words of the walk
   ends_words : (i : ℕ) → i ≤ n → flat (first (group_at g kept) i) ≡ take (i * w) kept

@@ -1,4 +1,6 @@
 // Numbers of 64 bits in two words and signed sums, as groups have them.
+#![tactic(auto)]
+
 mod longs;
 mod sums;
 

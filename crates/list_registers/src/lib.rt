@@ -1,4 +1,6 @@
 // Sixteen registers in code: those of no values, one value more, test 12 of a list, two lists merged.
+#![tactic(auto)]
+
 mod merging;
 mod tests;
 mod values;

@@ -1,4 +1,6 @@
 // The order of rows by the keys of a best-of ending.
+#![tactic(auto)]
+
 ghost use Rattle.std.specs.Prelude.{◌≡◌, true, ◌≤◌, length};
 ghost use Rattle.words.specs.Words.{variable, low};
 ghost use Rattle.sequences.specs.Sequences.{all};

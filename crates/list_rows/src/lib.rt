@@ -1,4 +1,6 @@
 // The code that lists of each kind share: rows written, words moved in a buffer, and the tests that hold for any list.
+#![tactic(auto)]
+
 mod rows;
 mod shifts;
 mod tests;

@@ -1,5 +1,7 @@
 // The call `merge`: the tests of the plan and of the kept list's words, then the ending's. The kept list is the first words of its buffer, as many as the
 // call gives.
+#![tactic(auto)]
+
 ghost use Rattle.std.specs.Prelude.{◌≡◌};
 ghost use Rattle.calls.specs.Calls.{AnswersRight};
 ghost use Rattle.merges.specs.Merging.{merge_input, merge_schema, merge_of};

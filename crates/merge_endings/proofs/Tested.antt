@@ -174,8 +174,8 @@ module _ (i : MergeInput) where
     abbrev added : List ℕ
     added = merged (group vs m) (given_kept i) i.list
 
-    pub groups_merged : {after : List ℕ} {r : Merged} → r ≡ groups.groupsMergedAs fits added i.kept
-        → after ≡ groups.mergedOver fits added i.kept
+    pub groups_merged : {after : List ℕ} {r : Merged} → r ≡ groups.groups_merged_as fits added i.kept
+        → after ≡ groups.merged_over fits added i.kept
         → record { answer = written_of r; buffers = after } ≡ merge_of i
     groups_merged er ea =
         rw (er, ea)

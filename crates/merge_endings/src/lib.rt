@@ -1,4 +1,6 @@
 // Merging by the ending of a plan: test 12 of both lists, then 13 and 14, and only then the first write.
+#![tactic(auto)]
+
 ghost use Rattle.std.specs.Prelude.{◌≡◌, true, List, ℕ, ◌≤◌, length};
 ghost use Rattle.plans.specs.Endings.{top, group, registers, most_group_variables, ending_form, ending_at};
 ghost use Rattle.list_best.specs.BestLists.{TopParts};

@@ -1,4 +1,6 @@
 // What merging asks of both lists, and what it answers of groups.
+#![tactic(auto)]
+
 ghost use Rattle.std.specs.Prelude.{◌≡◌, List, ℕ, ◌≤◌, length};
 ghost use Rattle.plans.specs.Endings.{top, group, registers, most_group_variables};
 ghost use Rattle.list_best.specs.BestLists.{TopParts};

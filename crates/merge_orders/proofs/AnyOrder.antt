@@ -57,9 +57,9 @@ module _ (plan : List ℕ) (lists : List (List ℕ)) where
       → turns_along v ≡ turns_along w → SameEnd plan lists v w
   grouped_ends k [] keys ending v w i j p a b e f = nothing_given k keys ending v i a e ∙ sym (nothing_given k keys ending w j b f)
   grouped_ends k (x ∷ vs) keys ending v w i j p a b e f =
-      tops.way-gives plan lists k (x ∷ vs) keys ending (omega arith) v a i e
+      tops.way_gives plan lists k (x ∷ vs) keys ending (omega arith) v a i e
       ∙ ap (λ is. flatten (best_by (row_before (x ∷ vs) keys) k (rows_merged (length (x ∷ vs)) lists is))) p
-      ∙ sym (tops.way-gives plan lists k (x ∷ vs) keys ending (omega arith) w b j f)
+      ∙ sym (tops.way_gives plan lists k (x ∷ vs) keys ending (omega arith) w b j f)
 
   -- as long as no merge of either is refused, which is asked of each
   pub any_order : AnyOrder plan lists

@@ -56,7 +56,7 @@ module _ (plan : List ℕ) (lists : List (List ℕ)) (k : ℕ) (vs keys : List �
   pub top_once : Apart (row_before vs keys) (rows_in (length vs) lists) → (w : Way) → is_merge w ≡ true → EachOnce lists w
       → (a : List ℕ) → given plan lists w ≡ some a → a ≡ merged_all (top k vs keys) lists
   top_once h w m p a e =
-      tops.way-gives plan lists k vs keys ending some-vs w a m e
+      tops.way_gives plan lists k vs keys ending some-vs w a m e
       ∙ ap flatten
       (sym (best_permuted (row_before vs keys) (rows_ordered vs keys) k (joined_permuted (λ i. records_in (length vs) (get_or lists i [])) p)
       (subst (Apart (row_before vs keys)) (sym rows_numbers) h))
@@ -67,7 +67,7 @@ module _ (plan : List ℕ) (lists : List (List ℕ)) (k : ℕ) (vs keys : List �
   pub top_grouped : (w : Way) → is_merge w ≡ true → turns_along w ≡ numbers (length lists)
       → (a : List ℕ) → given plan lists w ≡ some a → a ≡ merged_all (top k vs keys) lists
   top_grouped w m p a e =
-      tops.way-gives plan lists k vs keys ending some-vs w a m e
+      tops.way_gives plan lists k vs keys ending some-vs w a m e
       ∙ ap (λ l. flatten (best_by (row_before vs keys) k l)) (ap rows_at p ∙ rows_numbers)
       ∙ sym (merged_all_lem k vs keys some-vs lists)
 
@@ -93,22 +93,22 @@ module _ (plan : List ℕ) (lists : List (List ℕ)) (vs : List ℕ) (m : ℕ) (
   sum_once : (w : Way) → EachOnce lists w → Each (RightKeyed n) (all_at (turns_along w))
       → plain n (groups.sum_of plan lists vs m ending (turns_along w)) ≡ add_groups [] (records_all vs m lists)
   sum_once w p r =
-      ap (plain n) (add_all_permuted (keyed_joins n) (RightKeyed n) (groups.keyed-comm n) (joined_permuted records_at (Permᴰ.symm p)) r [])
+      ap (plain n) (add_all_permuted (keyed_joins n) (RightKeyed n) (groups.keyed_comm n) (joined_permuted records_at (Permᴰ.symm p)) r [])
       ∙ plain_add_all n [] (all_at (numbers (length lists)))
       ∙ ap (add_groups []) (plain_all (numbers (length lists)) ∙ ap flatten (all_numbers [] (groups_in vs) lists))
 
   pub group_once : (w : Way) → is_merge w ≡ true → EachOnce lists w → (a : List ℕ) → given plan lists w ≡ some a
       → a ≡ merged_all (group vs m) lists
   group_once w i p a e =
-      let x = groups.way-gives plan lists vs m ending w a i e in
+      let x = groups.way_gives plan lists vs m ending w a i e in
       x.0 ∙ ap (λ g. flatten (map group_words g)) (sum_once w p x.1) ∙ sym (groups_in_order vs m lists)
 
   -- and its totals are in their range
   pub group_fits_lem : (w : Way) → is_merge w ≡ true → EachOnce lists w → (a : List ℕ) → given plan lists w ≡ some a
       → all group_fits (add_groups [] (records_all vs m lists)) ≡ true
   group_fits_lem w i p a e =
-      sym (ap (all group_fits) (sum_once w p (groups.way-gives plan lists vs m ending w a i e).1))
-      ∙ groups.way-fits plan lists vs m ending w a i e
+      sym (ap (all group_fits) (sum_once w p (groups.way_gives plan lists vs m ending w a i e).1))
+      ∙ groups.way_fits plan lists vs m ending w a i e
 
 -- ---- registers, of lists that have them all
 pub register_once : (plan : List ℕ) (lists : List (List ℕ)) (v : ℕ) → (plan_of plan).ending ≡ registers v
@@ -117,7 +117,7 @@ pub register_once : (plan : List ℕ) (lists : List (List ℕ)) (v : ℕ) → (p
 register_once plan [] v ending h w i p a e =
     absurd (registering.some_turn plan [] v ending w a i e (none_left (subst (λ l. Permᴰ l (turns_along w)) (sym numbers_none) p)))
 register_once plan (l ∷ ls) v ending h w i p a e =
-    (registering.way-gives plan (l ∷ ls) v ending w a i e).0
-    ∙ sym (registering.greatest-permuted (λ k. get_or (l ∷ ls) k []) p)
-    ∙ ap registering.greatestOf (each_number [] (l ∷ ls))
+    (registering.way_gives plan (l ∷ ls) v ending w a i e).0
+    ∙ sym (registering.greatest_permuted (λ k. get_or (l ∷ ls) k []) p)
+    ∙ ap registering.greatest_of (each_number [] (l ∷ ls))
     ∙ sym (registers_in_order v l ls h)

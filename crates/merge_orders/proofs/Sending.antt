@@ -29,7 +29,7 @@ module _ (plan : List ℕ) (lists : List (List ℕ)) where
       → (a : List ℕ) → given plan lists w ≡ some a → a ≡ merged_all (top k vs keys) (chosen_from lists (turns_along w))
   as_merged k [] keys e w m a g = nothing_given plan lists k keys e w m a g ∙ sym (none_merged k keys (chosen_from lists (turns_along w)))
   as_merged k (x ∷ vs) keys e w m a g =
-      tops.way-gives plan lists k (x ∷ vs) keys e (omega arith) w a m g
+      tops.way_gives plan lists k (x ∷ vs) keys e (omega arith) w a m g
       ∙ ap (λ l. flatten (best_by (row_before (x ∷ vs) keys) k (flatten l)))
       (map_twice (λ i. get_or lists i []) (records_in (length (x ∷ vs))) (turns_along w))
       ∙ sym (merged_all_lem k (x ∷ vs) keys (omega arith) (chosen_from lists (turns_along w)))

@@ -1,4 +1,6 @@
 // The form of an ending (test 5), and what is wanted of each word of a list.
+#![tactic(auto)]
+
 mod endings;
 mod searches;
 
@@ -6,7 +8,7 @@ pub use endings::ending_form;
 pub use searches::{all_differ, all_wanted};
 
 // What each word of a part must be.
-#[derive(Drop)]
+#[derive(Clone, Copy)]
 pub enum Wanted {
     Variable,
     Key,

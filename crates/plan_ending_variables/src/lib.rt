@@ -1,4 +1,6 @@
 // The variables of an ending, in test 6: bound by some branch, none repeated, a key's among the rows'.
+#![tactic(auto)]
+
 ghost use Rattle.std.specs.Prelude.{◌≡◌, true, ◌&&◌};
 ghost use Rattle.sequences.specs.Sequences.{all, distinct};
 ghost use Rattle.plans.specs.Branches.{read_branches, binds};

@@ -1,4 +1,6 @@
 // An ending: its kind, how many rows it keeps or variables it names, its variables and its keys.
+#![tactic(auto)]
+
 mod parts;
 
 ghost use Rattle.std.specs.Prelude.{◌≡◌, true, ◌≤◌, get_or};

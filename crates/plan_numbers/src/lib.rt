@@ -1,4 +1,6 @@
 // The number of the first of tests 5, 6 and 23 that fails.
+#![tactic(auto)]
+
 ghost use Rattle.std.specs.Prelude.{◌≡◌, ◌∷◌, []};
 ghost use Rattle.words.specs.Tests.{first_failing, number_of};
 

@@ -1,4 +1,6 @@
 // Where the branches and the ending of a plan that has the form stand; a condition read, and whether its variables are bound.
+#![tactic(auto)]
+
 mod branches;
 mod nodes;
 

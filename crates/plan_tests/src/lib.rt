@@ -1,4 +1,6 @@
 // The tests of a plan's form (5), of its variables (6) and of a year that it names (23).
+#![tactic(auto)]
+
 mod branches;
 
 ghost use Rattle.std.specs.Prelude.{◌≡◌};
@@ -19,7 +21,7 @@ pub const MOST_WORDS: usize = 256;
 pub const VARIABLES: u32 = plan_numbers::VARIABLES;
 
 // A part of a plan that was read: its words, and whether its variables are right; or no such part.
-#[derive(Drop)]
+#[derive(Clone, Copy)]
 pub enum Part {
     Ends { words: usize, right: bool },
     Broken,

@@ -1,5 +1,7 @@
 // Plans: one read from words (test 5), its variables (6) and years (23); which words are accepted, said without a reader. In code its head, the patterns
 // of a branch and the node of a word.
+#![tactic(auto)]
+
 mod branches;
 mod heads;
 mod searches;
@@ -23,7 +25,7 @@ pub const MOST_DEPTH: u32 = 8;
 pub const MOST_BRANCHES: u32 = 4;
 
 // What a word of a condition begins.
-#[derive(Drop)]
+#[derive(Clone, Copy)]
 pub enum Node {
     Always,
     Pair,
@@ -33,7 +35,7 @@ pub enum Node {
 }
 
 // A condition that was read: its words, its nodes, and whether its variables are bound; or no condition.
-#[derive(Drop)]
+#[derive(Clone, Copy)]
 pub enum Tree {
     Reads {
         words: usize,
@@ -44,7 +46,7 @@ pub enum Tree {
 }
 
 // The years whose rows a plan reads: the latest that the tables have, every one, or one by its number.
-#[derive(Drop)]
+#[derive(Clone, Copy)]
 pub enum Years {
     Latest,
     Every,
@@ -52,7 +54,7 @@ pub enum Years {
 }
 
 // What the first word of an ending begins.
-#[derive(Drop)]
+#[derive(Clone, Copy)]
 pub enum EndingKind {
     Rows,
     Top,

@@ -1,4 +1,6 @@
 // A file of the printer: opened, read, and its query opened.
+#![tactic(auto)]
+
 ghost use Rattle.std.specs.Prelude.{◌≡◌, ◌≤◌, length, take};
 ghost use Rattle.print_reading.specs.declared.Layout.TheVariants.{Parts};
 ghost use Rattle.print_reading.specs.Files.{file_words, Laid, layout_of};

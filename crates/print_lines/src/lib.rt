@@ -1,4 +1,6 @@
 // The turn printer's lines, and the code that writes each at the front of a line that is lent.
+#![tactic(auto)]
+
 mod groups;
 
 ghost use Rattle.std.specs.Prelude.{◌++◌, ◌+◌, ◌≤◌, length};

@@ -1,4 +1,6 @@
 // The turn printer as a program: prints what the query of the file that its one argument names answers. `./turns` runs it.
+#![tactic(auto)]
+
 use libc::STDERR_FILENO;
 
 fn main() {

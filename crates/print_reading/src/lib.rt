@@ -1,4 +1,6 @@
 // The turn printer's file, read from bytes: its words, and where its parts begin.
+#![tactic(auto)]
+
 ghost use Rattle.std.specs.Prelude.{◌≡◌, ◌+◌, ◌/◌, ◌<◌, ◌≤◌, length, take, drop};
 ghost use Rattle.sequences.specs.Sequences.{over};
 ghost use Rattle.print_reading.specs.Files.{little_endian, file_words, word_bytes, most_file_bytes, parts_in, layout_of, read_of};
@@ -6,7 +8,7 @@ ghost use Rattle.print_reading.specs.Files.{little_endian, file_words, word_byte
 use tables::COLUMNS;
 
 // Where the parts of a file begin, in words, and the words in all; the rows begin after the row count and the quantum.
-#[derive(Drop)]
+#[derive(Clone, Copy)]
 pub struct FileParts {
     pub pos: usize,
     pub osp: usize,
@@ -15,7 +17,7 @@ pub struct FileParts {
 }
 
 // What reading a file answers: its parts, or the number of the test that refused it.
-#[derive(Drop)]
+#[derive(Clone, Copy)]
 pub enum Layout {
     Parts(FileParts),
     Refused(u32),

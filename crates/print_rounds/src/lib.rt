@@ -1,4 +1,6 @@
 // An opened query: its turns until it is done, each printed, and then its merged list.
+#![tactic(auto)]
+
 ghost use Rattle.std.specs.Prelude.{◌≡◌, [], ◌<◌, length};
 ghost use Rattle.turns.specs.Turns.{turn_input};
 ghost use Rattle.queries.specs.declared.Keeping.TheVariants.{Merged};

@@ -1,5 +1,7 @@
 // What is printed of a file's query: each turn with its rows, and at its end the merged list, or the number that stopped it. All of it is the
 // uncut run's.
+#![tactic(auto)]
+
 ghost use Rattle.std.specs.Prelude.{◌≡◌, true, ◌%◌, length};
 ghost use Rattle.plans.specs.declared.EndingKind.TheVariants.{Rows};
 ghost use Rattle.queries.specs.Stepping.{is_served};

@@ -1,4 +1,6 @@
 // Terms as text, put on a line from a place on; each function answers the place after what it put.
+#![tactic(auto)]
+
 ghost use Rattle.std.specs.Prelude.{◌≡◌, ◌+◌, ◌≤◌, length};
 ghost use Rattle.print_texts.specs.Texts.{kind_letter, value_text, term_text, term_field, fields, number_fields, term_fields};
 ghost use Rattle.print_texts.specs.Placing.{PlacedText};
@@ -11,7 +13,7 @@ use words::Term;
 const HALF_VALUES: u64 = words::HALF_VALUES as u64;
 
 // How a word is shown: as a term, or as a number.
-#[derive(Drop)]
+#[derive(Clone, Copy)]
 pub enum ShownAs {
     Term,
     Number,

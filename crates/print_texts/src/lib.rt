@@ -1,4 +1,6 @@
 // Numbers and bytes as text, written into a line that is lent.
+#![tactic(auto)]
+
 mod digits;
 mod texts;
 

@@ -82,7 +82,7 @@ module _ (keep : Keeping) (v : Survey) (plan : List ℕ) (a : Accepted v.tables 
       goes d =
           record {
             under = p.0;
-            alive = leaving.not-over keep v plan a first k before (count + 1) _ _ _ words p.0 (p.1 ∙ ap is_done f ∙ d);
+            alive = leaving.not_over keep v plan a first k before (count + 1) _ _ _ words p.0 (p.1 ∙ ap is_done f ∙ d);
             made = made_then;
           }
 
@@ -108,7 +108,7 @@ module _ (keep : Keeping) (v : Survey) (plan : List ℕ) (a : Accepted v.tables 
     module _ (e : TurnEnding) (f : (turn_of i).answer.ending ≡ e) where
       served_becomes : is_served e ≡ true → Then (turn_of i).buffers.state m.buffers (went_as e (turn_of i).answer.saved m.answer)
       served_becomes s = by_taking e f s m.answer
-          (taking.list-taken keep v plan a first k before quantum count output state saved kept used g (ap is_served f ∙ s))
+          (taking.list_taken_lem keep v plan a first k before quantum count output state saved kept used g (ap is_served f ∙ s))
 
       -- nothing is taken of a turn that is refused
       not_taken : is_served e ≡ false → m ≡ left_as_is kept used
@@ -116,7 +116,7 @@ module _ (keep : Keeping) (v : Survey) (plan : List ℕ) (a : Accepted v.tables 
 
     turn_cause : (y : ℕ) → (turn_of i).answer.ending ≡ ending.Refused y → Cause keep t plan quantum (length output) before n y
     turn_cause y f =
-        turn_stopped i a (advancing.given-passed keep v plan a first k before count state saved kept used u quantum output g.alive) u.state_room_fact
+        turn_stopped i a (advancing.given_passed keep v plan a first k before count state saved kept used u quantum output g.alive) u.state_room_fact
         refl keep before n y f
 
     by_ending_lem : (e : TurnEnding) → (turn_of i).answer.ending ≡ e

@@ -56,10 +56,10 @@ module _ (keep : Keeping) (v : Survey) (plan : List ℕ) (a : Accepted v.tables 
 
     -- ---- what a query under way says of the uncut run
     uncut : StepForStep v q h
-    uncut = advancing.held-uncut keep v plan a first k before count state saved kept used u
+    uncut = advancing.held_uncut keep v plan a first k before count state saved kept used u
 
     all_taken : served_in h ≡ h.taken
-    all_taken = advancing.all-taken keep v plan a first k before count state saved kept used u
+    all_taken = advancing.all_taken keep v plan a first k before count state saved kept used u
 
     pub holds : Holds keep t plan (steps_in h.taken) before kept used
     holds =
@@ -109,4 +109,4 @@ module _ (keep : Keeping) (v : Survey) (plan : List ℕ) (a : Accepted v.tables 
 
     -- where done was not answered, the saved words are a state's
     pub not_over : done_in (served_in h) ≡ false → ¬ (saved ≡ 0)
-    not_over d e = absurd_true (uncut.done.1 (uncut.end.0 (advancing.no-elements h.saved (sym u.state_count ∙ e)))) d
+    not_over d e = absurd_true (uncut.done.1 (uncut.end.0 (advancing.no_elements h.saved (sym u.state_count ∙ e)))) d

@@ -45,7 +45,7 @@ module _ (t : Tables) (plan : List ℕ) (a : Accepted t plan) where
 
   -- more steps only add rows
   pub rows_later : (m n : ℕ) → (cs : List Bindings) × ((after t q (m + n)).delivered ≡ (after t q m).delivered ++ cs)
-  rows_later = runs.rows-later t q
+  rows_later = runs.rows_later t q
 
   -- the list of the rows from some number on, at a run
   abbrev from : ℕ → Run → List ℕ
@@ -56,7 +56,7 @@ module _ (t : Tables) (plan : List ℕ) (a : Accepted t plan) where
   list_later k m n l = go (after t q m).state refl
     where
       go : (o : Option State) → (after t q m).state ≡ o → length (from k (after t q m)) ≤ length (from k (after t q (m + n)))
-      go none e = omega (arith, ap (λ r. length (from k r)) (runs.done-stays t q m n e))
+      go none e = omega (arith, ap (λ r. length (from k r)) (runs.done_stays t q m n e))
       go (some s) e =
           let rows = drop k (after t q m).delivered in
           let more = rows_later m n in

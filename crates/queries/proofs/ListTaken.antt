@@ -92,13 +92,13 @@ module _ (keep : Keeping) (v : Survey) (plan : List ℕ) (a : Accepted v.tables 
 
     module _ (served : is_served (turn_of i).answer.ending ≡ true) where
       one_waits : turned.waiting ≡ x ∷ []
-      one_waits = advancing.one-waits keep v plan a first k before count state saved kept used u quantum output served
+      one_waits = advancing.one_waits keep v plan a first k before count state saved kept used u quantum output served
 
       kept_length : length kept ≡ length before
-      kept_length = advancing.kept-length keep v plan a first k before count state saved kept used u
+      kept_length = advancing.kept_length keep v plan a first k before count state saved kept used u
 
       turned_keeps : Kept v q turned
-      turned_keeps = advancing.turned-keeps keep v plan a first k before count state saved kept used u quantum output served
+      turned_keeps = advancing.turned_keeps keep v plan a first k before count state saved kept used u quantum output served
 
       -- where its list ends
       ends_at : (next v q turned turned_keeps x [] one_waits).0 ≡ n + x.steps
@@ -109,7 +109,7 @@ module _ (keep : Keeping) (v : Survey) (plan : List ℕ) (a : Accepted v.tables 
       -- the turn is one of the uncut run
       turn : Turn t plan quantum (length output) n (n + x.steps)
       turn =
-          let here = advancing.given-state keep v plan a first k before count state saved kept used u quantum output g.alive in
+          let here = advancing.given_state_lem keep v plan a first k before count state saved kept used u quantum output g.alive in
           turn_made i a n here.0 here.1 here.2 refl (is_served_lem i served)
 
       pub made_more : run_fits q.ending (after t q (n + x.steps)) ≡ true → Turns t plan quantum (length output) (count + 1) (n + x.steps)
@@ -137,7 +137,7 @@ module _ (keep : Keeping) (v : Survey) (plan : List ℕ) (a : Accepted v.tables 
         -- the rows of both are the uncut run's up to the end of the turn
         run_length_lem : length both ≡ length (kept_after t q (n + x.steps))
         run_length_lem =
-            ap length (advancing.now-list keep v plan a first k before count state saved kept used u quantum output served joins tt both joins_made)
+            ap length (advancing.now_list keep v plan a first k before count state saved kept used u quantum output served joins tt both joins_made)
 
         rows_fit_lem : run_fits q.ending (after t q (n + x.steps)) ≡ true
         rows_fit_lem = ap (λ d. run_fits d (after t q (n + x.steps))) e
@@ -162,7 +162,7 @@ module _ (keep : Keeping) (v : Survey) (plan : List ℕ) (a : Accepted v.tables 
                 left_list f 14 (no_room rows_fit_lem (omega (arith, run_length_lem, both_length, kept_length, short))),
               )
           by_join true l =
-              let front = advancing.kept-front keep v plan a first k before count state saved kept used u ∙ all_kept f u.held.kept in
+              let front = advancing.kept_front keep v plan a first k before count state saved kept used u ∙ all_kept f u.held.kept in
               let all = sym (all_kept f both) in
               rw l
               (joined_goes (over (take used kept ++ x.list) kept) (used + length x.list)
@@ -214,12 +214,12 @@ module _ (keep : Keeping) (v : Survey) (plan : List ℕ) (a : Accepted v.tables 
         not_taken_for y e =
             subst (λ l. NotTaken t q (n + x.steps) l y) (ap length kept_whole ∙ kept_length)
             (subst (λ m. NotTaken t q m (length (turned.kept ++ drop used kept)) y) ends_at
-            (merging.merge-refused v plan a turned turned_keeps others x [] one_waits (drop used kept) y
+            (merging.merge_refused v plan a turned turned_keeps others x [] one_waits (drop used kept) y
             (ap (λ d. (merge_of d).answer) same_input ∙ e)))
 
         by_answer : (w : Written) → (merge_of j).answer ≡ w → TakenAs (merge_of j).buffers w
         by_answer (written.Refused y) e = (
-          ((refusals.merge-refusals j).unchanged y e).buffers,
+          ((refusals.merge_refusals j).unchanged y e).buffers,
           left_list (merged_kept keep q.ending not-rows) y (not_taken_for y e),
         )
         by_answer (written.Words words) e =
@@ -227,7 +227,7 @@ module _ (keep : Keeping) (v : Survey) (plan : List ℕ) (a : Accepted v.tables 
             let count_is : words_in (merge_of j).answer ≡ words = ap words_in e in
             let list = take words (merge_of j).buffers in
             let fits = ap (λ m. run_fits q.ending (after t q m)) (sym ends_at)
-            ∙ merging.merge-fits v plan a turned turned_keeps others x [] one_waits (drop used kept) words
+            ∙ merging.merge_fits v plan a turned turned_keeps others x [] one_waits (drop used kept) words
             (ap (λ d. (merge_of d).answer) same_input ∙ e) in
             let front : list ≡ _ = ap (λ d. take d (merge_of j).buffers) (sym count_is) ∙ w.buffer.front in
             let all = sym (kept_all list) in

@@ -27,7 +27,7 @@ module _ (t : Tables) (plan : List ℕ) (a : Accepted t plan) where
   pub whole_longest : (n : ℕ) → EndsAt t q n → (m : ℕ) → length (list_after t plan m) ≤ length (list_after t plan n)
   whole_longest n e m =
       elim (dec_lt n m) [
-        | yes f ↦ let same = runs.done-later t q n m (omega arith) e.over in
+        | yes f ↦ let same = runs.done_later t q n m (omega arith) e.over in
             let first = kept_some t q (accepted_form t plan a).ending n (end_later t q n e) in
             let later = kept_some t q (accepted_form t plan a).ending m (omega arith) in
             omega (arith, ap length first, ap length later, ap (λ r. length (run_list q.ending r)) same)

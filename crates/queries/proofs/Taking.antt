@@ -61,7 +61,7 @@ is_served_lem i h = serves i (turn_of i).answer.ending refl h
 -- its plan has the form
 pub served_form : (i : TurnInput) (r : Turned) → r ≡ (turn_of i).answer → is_served r.ending ≡ true → has_form (read_plan i.plan) ≡ true
 served_form i r e h =
-    refusals.turn-passed i 5 (is_served_lem i (ap (λ (x : Turned). is_served x.ending) (sym e) ∙ h))
+    refusals.turn_passed i 5 (is_served_lem i (ap (λ (x : Turned). is_served x.ending) (sym e) ∙ h))
 
 -- its list is in the output
 pub served_room : (i : TurnInput) (r : Turned) (out : List ℕ) → r ≡ (turn_of i).answer → out ≡ (turn_of i).buffers.output
@@ -75,7 +75,7 @@ output_kept : (i : TurnInput) (e : TurnEnding) → (turn_of i).answer.ending ≡
 output_kept i ending.Done p = (keeps_lengths i (serves i ending.Done p refl)).output
 output_kept i ending.Spent p = (keeps_lengths i (serves i ending.Spent p refl)).output
 output_kept i ending.Full p = (keeps_lengths i (serves i ending.Full p refl)).output
-output_kept i (ending.Refused x) p = ap length (refusals.turn-unchanged i x p).1
+output_kept i (ending.Refused x) p = ap length (refusals.turn_unchanged i x p).1
 
 -- ---- a turn, and its list taken
 module _ (keep : Keeping) (i : TurnInput) (kept : List ℕ) (used : ℕ) where

@@ -1,4 +1,6 @@
 // Whether a turn was served, by its ending; and what a play answers, by how its query went on after the last turn.
+#![tactic(auto)]
+
 ghost use Rattle.std.specs.Prelude.{◌≡◌};
 ghost use Rattle.queries.specs.Stepping.{is_served};
 ghost use Rattle.queries.specs.Rounds.{play_answer};

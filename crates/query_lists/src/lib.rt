@@ -1,4 +1,6 @@
 // The list of a served turn, taken: merged into the kept one, joined behind it, or left.
+#![tactic(auto)]
+
 ghost use Rattle.std.specs.Prelude.{◌≡◌, true};
 ghost use Rattle.plans.specs.Plans.{read_plan, has_form, plan_of};
 ghost use Rattle.lists.specs.Gathering.{is_rows};

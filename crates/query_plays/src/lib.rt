@@ -1,4 +1,6 @@
 // A whole query, played over lent buffers, from its opening on: turns of one quantum, each list taken, until it is done or `most` turns are made.
+#![tactic(auto)]
+
 ghost use Rattle.std.specs.Prelude.{◌≡◌};
 ghost use Rattle.turns.specs.Surveys.{survey_of};
 ghost use Rattle.queries.specs.declared.Keeping.TheVariants.{All};

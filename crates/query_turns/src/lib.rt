@@ -1,4 +1,6 @@
 // One turn of a query, its list taken, and how the query goes on.
+#![tactic(auto)]
+
 ghost use Rattle.std.specs.Prelude.{◌≡◌, []};
 ghost use Rattle.turns.specs.Turns.{turn_input};
 ghost use Rattle.queries.specs.Stepping.{take_turn_of, went_of};

@@ -1,4 +1,6 @@
 // How both lists of a queue change, on numbers and an entry by value: tests 17 and 18 by what was seen of them, and where an entry goes.
+#![tactic(auto)]
+
 mod changes;
 mod listing;
 mod moving;
@@ -11,7 +13,7 @@ pub use moving::{topped, with_allowance};
 use queues::{Entry, Queued};
 
 // How a list changes: the entries behind the gap move up, up to the one at the last place; and there one is written, if it is to be.
-#[derive(Drop)]
+#[derive(Clone, Copy)]
 pub struct Change {
     pub gap: usize,
     pub last: usize,
@@ -19,7 +21,7 @@ pub struct Change {
 }
 
 // How both lists change, with which entry, and what the call answers.
-#[derive(Drop)]
+#[derive(Clone, Copy)]
 pub struct Queueing {
     pub answer: Queued,
     pub line: Change,

@@ -1,5 +1,7 @@
 // Entries of waiting queries in a lent list: looked over, read, settled by places. Few and thin functions, proved by hand: the borrow checker does not
 // cover a slice of structs.
+#![tactic(auto)]
+
 ghost use Rattle.queues.specs.Lists.{lent_as, owners_in};
 ghost use Rattle.std.specs.Prelude.{◌≡◌, true, cond, ◌&&◌, not, ◌<◌, ◌≤◌, min, leb, ltb, eqb, length, take, get_or};
 ghost use Rattle.queue_entries.specs.Entries.{nobody, FoundAt, standing, settled};
@@ -106,7 +108,7 @@ pub fn least(a: usize, b: usize) -> usize
 
 // What a look over both lists finds: whether the entries of the line and those set aside are right; how many there are; the places of
 // an owner's entry in the line and in the list set aside, or their ends; and the entries that each buffer has.
-#[derive(Drop)]
+#[derive(Clone, Copy)]
 pub struct Seen {
     pub lined: bool,
     pub rested: bool,

@@ -1,4 +1,6 @@
 // The calls `join` and `top_up`: each looks over both lists, decides on numbers and an entry by value, and settles both lists.
+#![tactic(auto)]
+
 ghost use Rattle.std.specs.Prelude.{◌≡◌};
 ghost use Rattle.queues.specs.Lists.{lent_as};
 ghost use Rattle.queues.specs.ToppingUp.{top_up_of};

@@ -1,4 +1,6 @@
 // The call `serve`: looks over both lists, makes a turn of the front entry by value, and settles both lists.
+#![tactic(auto)]
+
 ghost use Rattle.std.specs.Prelude.{◌≡◌};
 ghost use Rattle.queues.specs.Lists.{lent_as};
 ghost use Rattle.queues.specs.Serving.{serve_of};

@@ -1,4 +1,6 @@
 // Joining and topping up, on numbers and an entry by value: their tests in order, and how both lists change.
+#![tactic(auto)]
+
 mod joining;
 mod topping;
 

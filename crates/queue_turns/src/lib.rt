@@ -1,4 +1,6 @@
 // Serving on numbers and an entry by value: the tests of the front entry and of both lists, and one turn of the entry.
+#![tactic(auto)]
+
 mod numbers;
 mod serving;
 mod turning;

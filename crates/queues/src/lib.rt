@@ -1,10 +1,12 @@
 // Queries of several owners that wait over one set of tables: entries, both lists; joining, topping up and serving, tests, answers and lists at exit; fair
 // turns and accounts.
+#![tactic(auto)]
+
 use turns::Turned;
 
 // A waiting query: the steps left to it, its owner, and its plan and its state, each the first words of its array.
 #[repr(C)]
-#[derive(Drop)]
+#[derive(Clone, Copy)]
 pub struct Entry {
     pub allowance: u64,
     pub owner: u32,
@@ -16,7 +18,7 @@ pub struct Entry {
 
 // What joining and topping up answer: how many entries the line and the list set aside have now, or the number of the test that refused
 // the call.
-#[derive(Drop)]
+#[derive(Clone, Copy)]
 pub enum Queued {
     Lists(usize, usize),
     Refused(u32),
@@ -24,7 +26,7 @@ pub enum Queued {
 
 // What serving answers: what the turn of the front entry answered; whose it was; the steps left to it; and how many entries the line and
 // the list set aside have now.
-#[derive(Drop)]
+#[derive(Clone, Copy)]
 pub struct Service {
     pub turned: Turned,
     pub owner: u32,

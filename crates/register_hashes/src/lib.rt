@@ -1,4 +1,6 @@
 // 64-bit FNV-1a of a word's four bytes, low first; which register a hash picks, and what it gives it; products modulo 2^64.
+#![tactic(auto)]
+
 ghost use Rattle.std.specs.Prelude.{◌≡◌, ◌*◌, ◌%◌, ◌^◌, ◌<◌};
 ghost use Rattle.register_hashes.specs.Hashes.{mixed, hash_of, picked_by, rank_in};
 

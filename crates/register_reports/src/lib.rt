@@ -1,4 +1,6 @@
 // The call `report`: counts the registers of a kept list at each value. The list is the first words of its buffer, as many as the call gives.
+#![tactic(auto)]
+
 mod counts;
 
 ghost use Rattle.std.specs.Prelude.{◌≡◌};

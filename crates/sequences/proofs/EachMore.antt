@@ -35,7 +35,7 @@ module _ {A : Type 0} (P : A → Type 0) where
   each_right [] ys p = p
   each_right (x ∷ xs) ys p = each_right xs ys p.1
 
-  pub each_member : {xs : List A} {a : A} → Memᴰ a xs → Each P xs → P a
+  pub each_member : {a : A} {xs : List A} → Memᴰ a xs → Each P xs → P a
   each_member (Memᴰ.head e) p = subst P (sym e) p.0
   each_member (Memᴰ.tail m) p = each_member m p.1
 

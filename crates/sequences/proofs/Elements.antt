@@ -104,4 +104,4 @@ module _ {A : Type 0} (f : A → Bool) (d : A) where
   all_below_lem xs =
       same_test (all f xs) (all_below (λ i. f (get_or xs i d)) (length xs))
       (λ e. counting.at_all (λ i. f (get_or xs i d)) (length xs) (all_element xs e))
-      (λ e. element_all xs (counting.all-at (λ i. f (get_or xs i d)) (length xs) e))
+      (λ e. element_all xs (counting.all_at_lem (λ i. f (get_or xs i d)) (length xs) e))

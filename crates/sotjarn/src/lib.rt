@@ -1,5 +1,7 @@
 // The calls for programs in other languages: an answer is a struct of numbers, and a buffer its address and its length in words, of strings in bytes.
 // bindings/c/sotjarn.h declares them for C. Those over lists of entries are walked by hand.
+#![tactic(auto)]
+
 ghost use Rattle.std.specs.Prelude.{◌≡◌};
 ghost use Rattle.turns.specs.Surveys.{survey_of};
 ghost use Rattle.turns.specs.Opening.{open_of};

@@ -1,4 +1,6 @@
 // The shape of a state's words and the year that they name: test 9; and the number of its survey: test 22.
+#![tactic(auto)]
+
 ghost use Rattle.std.specs.Prelude.{◌≡◌, true, ◌&&◌, eqb};
 ghost use Rattle.words.specs.Words.{low};
 ghost use Rattle.sequences.specs.Sequences.{all};

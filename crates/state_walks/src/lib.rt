@@ -1,4 +1,6 @@
 // A cursor's places against the rows of a year, which begin with its word: test 10, level by level from the outermost in.
+#![tactic(auto)]
+
 ghost use Rattle.std.specs.Prelude.{◌≡◌, true, ◌<◌, length};
 ghost use Rattle.tables.specs.Tables.{tables_of, section_of};
 ghost use Rattle.tables.specs.Ranges.{range_end};
@@ -16,14 +18,14 @@ use tables::Place;
 use words::Term;
 
 // Upper places walked: whether they are right, and if so the ends of their levels' ranges.
-#[derive(Drop)]
+#[derive(Clone, Copy)]
 struct Above {
     right: bool,
     ends: [Place; 8],
 }
 
 // All places of a cursor walked: whether they are right, and if so the ends of their levels' ranges, the last level's apart.
-#[derive(Drop)]
+#[derive(Clone, Copy)]
 pub struct Walk {
     pub right: bool,
     pub end: Place,

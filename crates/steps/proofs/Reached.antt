@@ -26,13 +26,13 @@ Leads t q a b = machine.Leads (position_step t q) a b
 
 module _ (t : Section) (q : Plan) where
   pub leads_here : (a : Position) → Leads t q a a
-  leads_here = states.leads-here (position_step t q)
+  leads_here = states.leads_here (position_step t q)
 
   pub leads_on : (a b c : Position) → Leads t q a b → Leads t q b c → Leads t q a c
-  leads_on = states.leads-on (position_step t q)
+  leads_on = states.leads_on (position_step t q)
 
   leads_step : (a b : Position) (x : PositionStep) → position_step t q a ≡ x → (machine.stepped [] x).state ≡ some b → Leads t q a b
-  leads_step = states.leads-step (position_step t q)
+  leads_step = states.leads_step (position_step t q)
 
   module _ (i : ℕ) where
     abbrev terms : List ℕ

@@ -31,10 +31,10 @@ Leads t q a b = machine.Leads (step t q) a b
 
 module _ (t : Tables) (q : Plan) where
   pub leads_here : (a : State) → Leads t q a a
-  leads_here = states.leads-here (step t q)
+  leads_here = states.leads_here (step t q)
 
   pub leads_on : (a b c : State) → Leads t q a b → Leads t q b c → Leads t q a c
-  leads_on = states.leads-on (step t q)
+  leads_on = states.leads_on (step t q)
 
   -- ---- within a year
   module _ (year : ℕ) where
@@ -49,7 +49,7 @@ module _ (t : Tables) (q : Plan) where
     to_last_in form = within (start_of (section t year) q 0) (last_position (section t year) q) (to_last (section t year) q form)
 
     pub last_goes_on : PlanForm q → step t q last_in ≡ to_next t q year
-    last_goes_on form = ap (machine.goesOn (in_year year) (to_next t q year)) (last_ends (section t year) q form)
+    last_goes_on form = ap (machine.goes_on (in_year year) (to_next t q year)) (last_ends (section t year) q form)
 
     -- the rows of the year from a position on, and then the next year or the end
     module _ {a : Position} {rows : List Bindings} (l : Stretch (position_step (section t year) q) a none rows) where
@@ -57,20 +57,20 @@ module _ (t : Tables) (q : Plan) where
       year_moves {next} e =
           let x = over (position_step (section t year) q) (step t q) (in_year year) (to_next t q year) (λ s. refl) l in
           subst (Stretch (step t q) (in_year year a) (some (start_in t q next))) (append-nil rows)
-          (states.stretch-on (step t q) x.stretch (states.stretch-moves (step t q) (x.step ∙ ap (start_next t q) e)))
+          (states.stretch_on (step t q) x.stretch (states.stretch_moves (step t q) (x.step ∙ ap (start_next t q) e)))
 
       pub year_ends : next_year t q.years year ≡ none → Stretch (step t q) (in_year year a) none rows
       year_ends e =
           let x = over (position_step (section t year) q) (step t q) (in_year year) (to_next t q year) (λ s. refl) l in
           subst (Stretch (step t q) (in_year year a) none) (append-nil rows)
-          (states.stretch-on (step t q) x.stretch (states.stretch-ends (step t q) (x.step ∙ ap (start_next t q) e)))
+          (states.stretch_on (step t q) x.stretch (states.stretch_ends (step t q) (x.step ∙ ap (start_next t q) e)))
 
   -- ---- from year to year
   module _ (form : PlanForm q) where
     pub to_next_lem : (year next : ℕ) → next_year t q.years year ≡ some next → Leads t q (start_in t q year) (start_in t q next)
     to_next_lem year next e =
         leads_on (start_in t q year) (last_in year) (start_in t q next) (to_last_in year form)
-        (states.leads-step (step t q) (last_in year) (start_in t q next) (to_next t q year) (last_goes_on year form)
+        (states.leads_step (step t q) (last_in year) (start_in t q next) (to_next t q year) (last_goes_on year form)
         (ap (λ o. (machine.stepped [] (start_next t q o)).state) e))
 
     module _ (w : tables_right.Right t) where

@@ -1,6 +1,8 @@
 // The grammar's table in 508 words that the caller lends, made once for a text, and what a symbol does at a kind of token by it.
 // Words 0 to 63 have where each symbol's cells begin, 4096 more where it passes elsewhere; then the symbols that cells put in place; then
 // the cells of all symbols, pushed together: the symbol that a cell is of, and 128 times the cell's number. 127 is of none.
+#![tactic(auto)]
+
 ghost use Rattle.std.specs.Prelude.{◌≡◌, ◌<◌, ◌≤◌, ◌+◌, ◌*◌, ◌/◌, ◌%◌, length};
 ghost use Rattle.syntax.specs.Cells.{misplaced};
 ghost use Rattle.syntax.specs.Grammar.{cell_of};

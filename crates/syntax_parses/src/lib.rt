@@ -1,4 +1,6 @@
 // The machine that reads tokens by the grammar, in code: words in postfix out, or a fault and its token. Buffers and table are lent.
+#![tactic(auto)]
+
 ghost use Rattle.std.specs.Prelude.{◌≡◌, [], ◌∷◌, ◌++◌, ◌+◌, ◌*◌, ◌%◌, ◌≤◌, length, take, drop};
 ghost use Rattle.syntax.specs.Kinds.{query_symbol};
 ghost use Rattle.syntax.specs.Machine.{fed_to, parsed};
@@ -8,14 +10,14 @@ ghost use Rattle.syntax_parses.specs.Answers.{after_by, FedWithin, parsed_by};
 use syntax_cells::{GRAMMAR, cell};
 
 // After a token: how far the symbols reach down and how many words are written; or a fault.
-#[derive(Drop)]
+#[derive(Clone, Copy)]
 pub enum Fed {
     On(usize, usize),
     Off(u32),
 }
 
 // How many words were written; or a fault, and the token where it is seen.
-#[derive(Drop)]
+#[derive(Clone, Copy)]
 pub enum ParseAnswer {
     Read(usize),
     Fault(u32, u32),

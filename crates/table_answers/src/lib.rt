@@ -1,5 +1,7 @@
 // Calls that write tables, the rows and both lists, to three lent buffers: what they answer and leave, whether there is room, that such a call is right.
 // `view` and `grow` are such calls.
+#![tactic(auto)]
+
 ghost use Rattle.std.specs.Prelude.{◌≡◌, ◌≤◌};
 ghost use Rattle.tables.specs.Tables.{most_rows};
 ghost use Rattle.table_answers.specs.Counts.{tables_room_for};
@@ -7,7 +9,7 @@ ghost use Rattle.table_answers.specs.Counts.{tables_room_for};
 use tables::COLUMNS;
 
 // What writing tables answers: the words written to each buffer, or the number of the test that refused it.
-#[derive(Drop)]
+#[derive(Clone, Copy)]
 pub enum TablesWritten {
     Words { rows: usize, pos: usize, osp: usize },
     Refused(u32),

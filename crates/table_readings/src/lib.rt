@@ -1,4 +1,6 @@
 // What an order of lent tables has at a place: whether it names a row, and what the walk compares of that row.
+#![tactic(auto)]
+
 ghost use Rattle.std.specs.Prelude.{◌≡◌, ◌+◌, ◌*◌, ◌≤◌, ◌<◌, length};
 ghost use Rattle.tables.specs.declared.Order.TheVariants.{Pos, Osp};
 ghost use Rattle.tables.specs.Tables.{tables_of, column_count, row_count};

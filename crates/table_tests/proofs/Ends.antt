@@ -48,7 +48,7 @@ module _ (t : Tables) (one : OneYear t.rows) (named : (o : Order) (place : ℕ) 
 
   -- no two places have one row, and so each row has a place
   apart : (o : Order) (a b : ℕ) → a < row_count t → b < row_count t → row_at o t a ≡ row_at o t b → a ≡ b
-  apart o a b h k e = sorted.one-fields column_count (row_count t) (fields_at o t) (places o) a b h k (ap (fields_of o t.rows) e)
+  apart o a b h k e = sorted.one_fields column_count (row_count t) (fields_at o t) (places o) a b h k (ap (fields_of o t.rows) e)
 
   all_rows_lem : (o : Order) (P : ℕ → Type 0) → ((place : ℕ) → place < row_count t → P (row_at o t place)) → (row : ℕ) → row < row_count t → P row
   all_rows_lem o = each_covered (row_at o t) (row_count t) (named o) (apart o)

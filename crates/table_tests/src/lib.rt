@@ -1,4 +1,6 @@
 // The check of lent tables: tests 1, 2, 23, 3 and 4, in this order.
+#![tactic(auto)]
+
 ghost use Rattle.std.specs.Prelude.{◌≡◌, true, [], ◌-◌, ◌*◌, ◌%◌, ◌<◌, eqb, length};
 ghost use Rattle.words.specs.Tests.{first_failing, number_of};
 ghost use Rattle.tables.specs.Tables.{tables_of, column_count, row_count, field_of, year_column, lengths_right, table_tests};

@@ -1,4 +1,6 @@
 // What the walk over the three orders reads and finds: definitions and laws. In code, two words read and compared as one.
+#![tactic(auto)]
+
 ghost use Rattle.std.specs.Prelude.{◌≡◌, false, ◌+◌, ◌*◌, ◌/◌, ◌%◌, ◌≤◌, ◌<◌, length, get_or};
 ghost use Rattle.tables.specs.declared.Order.TheVariants.{Spo};
 ghost use Rattle.tables.specs.Tables.{column_count};
@@ -13,7 +15,7 @@ pub const KEYS: usize = 2;
 const HALF: u64 = 4294967296;
 
 // A place of an order as the walk reads it: whether it names a row, and then what is compared of that row.
-#[derive(Drop)]
+#[derive(Clone, Copy)]
 pub struct Reading {
     pub named: bool,
     pub keys: [u64; KEYS],

@@ -1,4 +1,6 @@
 // The walk over the three orders of lent tables, their places and columns, for tests 3 and 4.
+#![tactic(auto)]
+
 ghost use Rattle.std.specs.Prelude.{◌≡◌, ◌<◌, if◌then◌else◌, nat_le, nat_lt};
 ghost use Rattle.tables.specs.Tables.{tables_of, row_count};
 ghost use Rattle.tables.specs.Right.{Sized};

@@ -28,7 +28,7 @@ module _ (t : Tables) (w : Right t) (o : Order) where
   ascend = sorted.ascend column_count (row_count t) (fields_at o t) order_sorted
 
   pub one_fields : (j i : ℕ) → j < row_count t → i < row_count t → fields_at o t j ≡ fields_at o t i → j ≡ i
-  one_fields = sorted.one-fields column_count (row_count t) (fields_at o t) order_sorted
+  one_fields = sorted.one_fields column_count (row_count t) (fields_at o t) order_sorted
 
   -- no row stands at two places
   pub one_place : (j i : ℕ) → j < row_count t → i < row_count t → row_at o t j ≡ row_at o t i → j ≡ i

@@ -41,7 +41,7 @@ module _ (rows : List ℕ) (r : RowsRight rows) where
   -- no two rows are the same, in any order
   module _ (o : Order) where
     pub one_number_lem : (j i : ℕ) → j < length rows / column_count → i < length rows / column_count → fields_of o rows j ≡ fields_of o rows i → j ≡ i
-    one_number_lem j i h l e = sorted.one-fields column_count count (fields_of Spo rows) own_sorted j i h l (spo_of o rows j i e)
+    one_number_lem j i h l e = sorted.one_fields column_count count (fields_of Spo rows) own_sorted j i h l (spo_of o rows j i e)
 
     list_ascends : Ascending (totally (fields_of o rows) column_count (fields_length o rows)) (row_numbers o rows)
     unfolding row_numbers

@@ -1,4 +1,6 @@
 // What is written within brackets and quotes, and which IRIs, prefixes, years and whole numbers have the right form.
+#![tactic(auto)]
+
 ghost use Rattle.std.specs.Prelude.{◌≡◌};
 ghost use Rattle.terminals.specs.Names.{within, has_scheme, is_bare, is_year_name, year_scheme};
 ghost use Rattle.terminals.specs.Terminals.{is_long, quoted, unsigned, is_whole_number, is_shortest};

@@ -1,4 +1,6 @@
 // What numbers, IRIs, variables and typed texts are for the grammar, by the kind of the terminal before them.
+#![tactic(auto)]
+
 ghost use Rattle.std.specs.Prelude.{◌≡◌, ◌&&◌, [], ◌∷◌};
 ghost use Rattle.tokens.specs.Classes.{is_one_of, is_digit};
 ghost use Rattle.tokens.specs.Runs.{first_is};

@@ -1,4 +1,6 @@
 // Parts of a token's characters, in code: the first so many, the others, runs of a class, and whether two strings are the same.
+#![tactic(auto)]
+
 ghost use Rattle.std.specs.Prelude.{◌≡◌, ◌≤◌, length, take, drop};
 ghost use Rattle.dictionaries.specs.Utf8.{span, is_in};
 ghost use Rattle.dictionaries.specs.Strings.{same_string};
@@ -9,7 +11,7 @@ ghost use Rattle.terminal_letters.specs.Letters.{is_letter_of};
 use token_classes::{is_ascii_letter, is_digit};
 
 // What a run is of: anything but a colon, the characters of an IRI's scheme, or digits.
-#[derive(Drop)]
+#[derive(Clone, Copy)]
 pub enum Letters {
     NoColon,
     Scheme,

@@ -1,4 +1,6 @@
 // Names in code: a token's characters, the prefix of a name, and the last declaration of a prefix.
+#![tactic(auto)]
+
 ghost use Rattle.std.specs.Prelude.{◌≡◌, cond, ◌+◌, ◌*◌, ◌≤◌, length, drop};
 ghost use Rattle.dictionaries.specs.Strings.{same_string};
 ghost use Rattle.terminals.specs.Names.{within, name_prefix, iri, nothing, last_declared};

@@ -1,4 +1,6 @@
 // What words and signs are, by their spelling in any case: a search in a lent dictionary of SPARQL's.
+#![tactic(auto)]
+
 ghost use Rattle.std.specs.Prelude.{◌≡◌, map, ◌≤◌, length, take};
 ghost use Rattle.terminals.specs.Spellings.{capital, kind_at, spelled_words, spelled_kind, keyword_kind};
 ghost use Rattle.dictionaries.specs.Lookups.{lookup_in};

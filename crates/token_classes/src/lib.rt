@@ -1,4 +1,6 @@
 // The classes of characters that tokens are made of, in code. Those above ASCII go by a list of spans that the caller lends, made once for a text.
+#![tactic(auto)]
+
 ghost use Rattle.std.specs.Prelude.{◌≡◌, [], ◌∷◌};
 ghost use Rattle.dictionaries.specs.Utf8.{span, is_in};
 ghost use Rattle.tokens.specs.Classes.{in_spans, is_one_of, is_digit, is_ascii_letter, is_blank, is_line_end, is_word_character, is_name_base, name_spans};

@@ -1,4 +1,6 @@
 // Each kind of token from its first character on, in code: variables, IRIs, names, words, blank node labels, language tags and signs.
+#![tactic(auto)]
+
 ghost use Rattle.std.specs.Prelude.{◌≡◌, ◌≤◌, ◌<◌, length, drop};
 ghost use Rattle.tokens.specs.Classes.{name_spans};
 ghost use Rattle.tokens.specs.Numerals.{token};

@@ -1,4 +1,6 @@
 // The characters of names and variables, in code, by the spans of names that the caller lends.
+#![tactic(auto)]
+
 ghost use Rattle.std.specs.Prelude.{◌≡◌};
 ghost use Rattle.tokens.specs.Classes.{name_spans, is_name_letter, is_name_mark, begins_variable, is_variable_character, is_name_character};
 ghost use Rattle.token_classes.specs.SpanWords.{spans_of};

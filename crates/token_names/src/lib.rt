@@ -1,4 +1,6 @@
 // Names with dots, local names and language tags from a place on, in code.
+#![tactic(auto)]
+
 ghost use Rattle.std.specs.Prelude.{◌≡◌, ◌+◌, ◌≤◌, ◌<◌, eqb, length, get_or, drop};
 ghost use Rattle.tokens.specs.Classes.{name_spans, is_hex_digit, is_name_escape};
 ghost use Rattle.token_classes.specs.SpanWords.{spans_of};

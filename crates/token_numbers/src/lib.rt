@@ -1,4 +1,6 @@
 // Numbers from a place on, in code.
+#![tactic(auto)]
+
 ghost use Rattle.std.specs.Prelude.{◌≡◌, ◌+◌, ◌≤◌, ◌<◌, length, drop};
 ghost use Rattle.tokens.specs.Classes.{name_spans};
 ghost use Rattle.token_classes.specs.SpanWords.{spans_of};

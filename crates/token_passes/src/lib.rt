@@ -1,4 +1,6 @@
 // All tokens of a text's characters, in one pass over a lent buffer: three words a token, the number of its kind, its start and its size.
+#![tactic(auto)]
+
 ghost use Rattle.std.specs.Prelude.{◌≡◌, ◌+◌, ◌*◌, ◌≤◌, ◌<◌, length, set};
 ghost use Rattle.sequences.specs.Buffers.{Overwritten};
 ghost use Rattle.tokens.specs.Classes.{name_spans};

@@ -1,4 +1,6 @@
 // The token at a place, in code: by what its first character says of it.
+#![tactic(auto)]
+
 ghost use Rattle.std.specs.Prelude.{◌≡◌, ◌≤◌, ◌<◌, length, get_or, drop};
 ghost use Rattle.tokens.specs.Classes.{name_spans};
 ghost use Rattle.tokens.specs.Tokens.{token_of, token_here};
@@ -14,7 +16,7 @@ use token_texts::text_of;
 use tokens::{Token, TokenKind};
 
 // What the first character of a token says of it, quotes aside.
-#[derive(Drop)]
+#[derive(Clone, Copy)]
 pub enum FirstCharacter {
     Bad,
     Backslash,

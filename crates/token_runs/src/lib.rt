@@ -1,4 +1,6 @@
 // Runs of characters from a place on, in code: blanks and comments, and the characters of a class.
+#![tactic(auto)]
+
 ghost use Rattle.std.specs.Prelude.{◌≡◌, false, ◌+◌, ◌≤◌, length, drop, get_or};
 ghost use Rattle.tokens.specs.Classes.{name_spans};
 ghost use Rattle.tokens.specs.Runs.{run_length, blanks_length};
@@ -12,14 +14,14 @@ use token_classes::{
 use token_letters::is_variable_character;
 
 // What a character makes of blanks and comments: whether a comment goes on behind it, or that it is not of them.
-#[derive(Drop)]
+#[derive(Clone, Copy)]
 pub enum BlankStep {
     Goes(bool),
     Stays,
 }
 
 // The classes that runs are of.
-#[derive(Drop)]
+#[derive(Clone, Copy)]
 pub enum RunClass {
     Word,
     Digit,

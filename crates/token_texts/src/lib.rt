@@ -1,4 +1,6 @@
 // Texts in quotes, from a place on, in code.
+#![tactic(auto)]
+
 ghost use Rattle.std.specs.Prelude.{◌≡◌, ◌&&◌, ◌||◌, not, ◌+◌, ◌-◌, ◌≤◌, ◌<◌, eqb, length, get_or, drop};
 ghost use Rattle.tokens.specs.Texts.{two_more, text_from, text_of};
 ghost use Rattle.token_texts.specs.TextSteps.{escape_step, text_step, text_end};
@@ -8,7 +10,7 @@ use token_runs::point_at;
 use tokens::{Token, TokenKind};
 
 // What ends a text.
-#[derive(Drop)]
+#[derive(Clone, Copy)]
 pub enum TextEnding {
     Closed,
     BadByte,
@@ -17,7 +19,7 @@ pub enum TextEnding {
 }
 
 // What a character makes of a text: how many characters it goes on, or how it ends.
-#[derive(Drop)]
+#[derive(Clone, Copy)]
 pub enum TextStep {
     Goes(usize),
     Ends(TextEnding),

@@ -1,8 +1,9 @@
 // Tokens of a query's text, over its code points: classes of characters, the terminals of SPARQL 1.1's grammar by number, all tokens of a text. The
 // definitions, and what a token is.
+#![tactic(auto)]
 
 // What a token is. The last four are wrong ones, which the grammar takes nowhere.
-#[derive(Drop)]
+#[derive(Clone, Copy)]
 pub enum TokenKind {
     End,
     Word,
@@ -23,7 +24,7 @@ pub enum TokenKind {
 }
 
 // A token: what it is, how many characters stand before it, and how many it has.
-#[derive(Drop)]
+#[derive(Clone, Copy)]
 pub struct Token {
     pub kind: TokenKind,
     pub start: usize,

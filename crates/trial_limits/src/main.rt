@@ -1,4 +1,6 @@
 // A program: the limits that the rules name, each tried on both sides by the compiled calls.
+#![tactic(auto)]
+
 mod plan;
 mod wood;
 

@@ -4,7 +4,7 @@ use words::{PlanWord, Term};
 pub const MOST: usize = 300;
 
 // A plan under way: its words so far.
-#[derive(Drop)]
+#[derive(Clone, Copy)]
 pub struct Draft {
     pub words: [u32; 300],
     pub used: usize,

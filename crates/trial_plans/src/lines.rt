@@ -11,7 +11,7 @@ pub const TOTALS_WIDTH: usize = 8;
 pub const MOST_GROUP_WIDTH: usize = 12;
 
 // What a plan's list holds, groups or rows, and the words of each.
-#[derive(Drop)]
+#[derive(Clone, Copy)]
 pub struct Form {
     pub groups: bool,
     pub width: usize,

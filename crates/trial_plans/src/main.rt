@@ -1,5 +1,7 @@
 // A program: stored plans over stored woods, each cut by several quanta, held to what a second SPARQL engine answered; tests/second_engine makes both
 // files.
+#![tactic(auto)]
+
 mod lines;
 mod playing;
 

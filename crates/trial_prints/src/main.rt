@@ -1,4 +1,6 @@
 // A program: the turn printer on each file that its arguments name, after a line with its name.
+#![tactic(auto)]
+
 use libc::STDOUT_FILENO;
 
 // The file that argument number `i` names.

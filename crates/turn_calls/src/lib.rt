@@ -1,4 +1,6 @@
 // The calls `open` and `turn`, which a service runs: opening a query, and one turn of it.
+#![tactic(auto)]
+
 mod opening;
 mod turning;
 

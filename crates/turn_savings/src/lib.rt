@@ -1,4 +1,6 @@
 // The state that a turn leaves, saved by how the turn ended.
+#![tactic(auto)]
+
 ghost use Rattle.std.specs.Prelude.{◌≡◌, ◌≤◌, ◌<◌, length};
 ghost use Rattle.words.specs.Words.{low_numbers};
 ghost use Rattle.sequences.specs.Sequences.{over};

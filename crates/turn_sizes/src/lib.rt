@@ -1,4 +1,6 @@
 // Tests 7 and 8 of a turn, 7 and 22 of an opening: the words of the buffers, the quantum, the survey's number.
+#![tactic(auto)]
+
 ghost use Rattle.std.specs.Prelude.{◌≡◌, true, ◌&&◌, leb, length};
 ghost use Rattle.plans.specs.Endings.{ending_form, ending_at};
 ghost use Rattle.steps.specs.Saved.{least_state_words, number_right};

@@ -77,7 +77,7 @@ module _ (i : TurnInput) (serve : Served i) where
   stands : pruned.PrunedOnTheRun i.survey.tables (given_plan i) i.threshold (state_in (given_state i)) (turn_of i).answer.steps
   stands =
       let v = plan_variables i.plan (given_plan i) (was_read (read_plan i.plan) (turn_passed i 5 serve)) (turn_passed i 6 serve) in
-      pruned.on-the-run i.survey.tables (given_plan i) (state_in (given_state i)) (turn_of i).answer.steps
+      pruned.on_the_run i.survey.tables (given_plan i) (state_in (given_state i)) (turn_of i).answer.steps
       (keys_among (given_plan i).branches (given_plan i).ending v.ending) i.threshold
 
   -- from any position of the uncut run at which its state is

@@ -1,8 +1,9 @@
 // Opening a query and a turn of it: what they answer. Their tests in order and their buffers at exit are defined in specs/; crate turn_calls has the
 // calls.
+#![tactic(auto)]
 
 // How a turn ended: done, spent, full, or refused with its number.
-#[derive(Drop)]
+#[derive(Clone, Copy)]
 pub enum TurnEnding {
     Done,
     Spent,
@@ -11,7 +12,7 @@ pub enum TurnEnding {
 }
 
 // What a turn answers: its steps, its ending, and the words written to the state and to the output.
-#[derive(Drop)]
+#[derive(Clone, Copy)]
 pub struct Turned {
     pub steps: u32,
     pub ending: TurnEnding,

@@ -1,4 +1,6 @@
 // The call `make`: tables from an upload, and the report of the rows that were dropped.
+#![tactic(auto)]
+
 mod within;
 
 ghost use Rattle.std.specs.Prelude.{◌≡◌};

@@ -1,4 +1,6 @@
 // The fates of an upload's rows, wrong kinds and then repeats, and the list of those of right kinds in the rows' own order.
+#![tactic(auto)]
+
 ghost use Rattle.std.specs.Prelude.{◌≡◌, true, ◌+◌, ◌*◌, ◌≤◌, length};
 ghost use Rattle.sequences.specs.Sequences.{all};
 ghost use Rattle.tables.specs.Tables.{column_count};

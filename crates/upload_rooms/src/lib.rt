@@ -1,4 +1,6 @@
 // Test 16: whether there is room for the tables of an upload and for the report.
+#![tactic(auto)]
+
 ghost use Rattle.std.specs.Prelude.{◌≡◌, ◌≤◌};
 ghost use Rattle.tables.specs.Tables.{most_rows};
 ghost use Rattle.upload_rooms.specs.Rooms.{make_room_for};

@@ -1,4 +1,6 @@
 // The tables of an upload's kept rows.
+#![tactic(auto)]
+
 ghost use Rattle.std.specs.Prelude.{◌≡◌, ◌+◌, ◌*◌, ◌≤◌, length};
 ghost use Rattle.sequences.specs.Sequences.{over};
 ghost use Rattle.tables.specs.Tables.{column_count, most_rows};

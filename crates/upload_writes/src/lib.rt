@@ -1,4 +1,6 @@
 // What the call writes of an upload, row by row: the words of its kept rows, and the report of the dropped ones.
+#![tactic(auto)]
+
 mod reports;
 mod rows;
 

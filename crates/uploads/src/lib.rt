@@ -1,7 +1,8 @@
 // Tables from an upload, whose rows come in the order in which they were measured: the fate of each row, what is made and reported, tests 15 and 16.
+#![tactic(auto)]
 
 // What making tables answers: the words written to each buffer, or the number of the test that refused it.
-#[derive(Drop)]
+#[derive(Clone, Copy)]
 pub enum Made {
     Words {
         rows: usize,

@@ -1,4 +1,6 @@
 // The call `view`: the tables that an adviser may see, the rows that are not hidden and both lists with their new numbers.
+#![tactic(auto)]
+
 mod within;
 mod writing;
 

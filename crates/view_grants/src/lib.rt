@@ -1,4 +1,6 @@
 // The grant of an adviser: names that ascend (test 20), and a search among them for words that do not fall.
+#![tactic(auto)]
+
 ghost use Rattle.std.specs.Prelude.{◌≡◌, true, ◌≤◌, ltb};
 ghost use Rattle.sequences.specs.Sequences.{all, neighbours, member};
 ghost use Rattle.views.specs.Viewing.{is_name, grant_right};
@@ -7,7 +9,7 @@ ghost use Rattle.view_grants.specs.Places.{first_from};
 use words::Term;
 
 // Where a word was looked for in a grant: the first place whose word is not less, and whether it is that word.
-#[derive(Drop)]
+#[derive(Clone, Copy)]
 pub struct Sought {
     pub at: usize,
     pub found: bool,

@@ -1,5 +1,7 @@
 // Which rows an adviser sees: each row marked with its number in the view, or as hidden. Subjects ascend in a year, so the grant is searched on from where
 // the one before was.
+#![tactic(auto)]
+
 ghost use Rattle.std.specs.Prelude.{◌≡◌, true, cond, ◌||◌, ◌+◌, ◌-◌, ◌*◌, ◌/◌, ◌≤◌, ◌<◌, eqb, ltb, length};
 ghost use Rattle.sequences.specs.Sequences.{neighbours, over};
 ghost use Rattle.tables.specs.Tables.{column_count, most_rows, year_column, subject_column, field_of};
@@ -18,7 +20,7 @@ use view_members::ADMITS;
 pub const HIDDEN: u32 = MOST_ROWS as u32;
 
 // Whether a row is visible, and how far the grant was walked for it.
-#[derive(Drop)]
+#[derive(Clone, Copy)]
 pub struct Seeing {
     pub seen: bool,
     pub from: usize,

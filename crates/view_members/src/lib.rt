@@ -1,5 +1,7 @@
 // Membership: which rows say of their subject that it belongs to something granted. In each year they are a range of POS where objects ascend, so the
 // grant is walked beside them once.
+#![tactic(auto)]
+
 ghost use Rattle.std.specs.Prelude.{◌≡◌, true, ltb};
 ghost use Rattle.sequences.specs.Sequences.{neighbours};
 ghost use Rattle.tables.specs.Tables.{tables_of};

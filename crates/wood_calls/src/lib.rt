@@ -1,4 +1,6 @@
 // The call `grow`: the tables of a wood.
+#![tactic(auto)]
+
 ghost use Rattle.std.specs.Prelude.{◌≡◌};
 ghost use Rattle.calls.specs.Calls.{AnswersRight};
 ghost use Rattle.table_answers.specs.Writing.{table_buffers};

@@ -1,4 +1,6 @@
 // The rows of a wood, drawn stem by stem.
+#![tactic(auto)]
+
 ghost use Rattle.std.specs.Prelude.{◌≡◌, ◌*◌, ◌≤◌, ◌<◌, length};
 ghost use mathlib.Core.List.{flatten};
 ghost use Rattle.words.specs.Words.{most_year};

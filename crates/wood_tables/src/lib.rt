@@ -1,4 +1,6 @@
 // The tables of a wood.
+#![tactic(auto)]
+
 ghost use Rattle.std.specs.Prelude.{◌≡◌, ◌+◌, ◌*◌, ◌≤◌, length};
 ghost use Rattle.words.specs.Words.{most_year};
 ghost use Rattle.sequences.specs.Sequences.{over};

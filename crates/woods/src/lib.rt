@@ -1,4 +1,5 @@
 // A wood made to measure: its draws, stems and rows by seed, count and year, tests 24 and 25, answer and buffers at exit.
+#![tactic(auto)]
 
 // How many stems a wood has at most.
 pub const MOST_STEMS: u32 = 32768;

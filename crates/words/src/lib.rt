@@ -1,5 +1,7 @@
 // The 32-bit words of rows, plans and saved states, a kind in the top bits and a value or number in the low ones; the order of keys, bindings, tests as
 // data.
+#![tactic(auto)]
+
 ghost use Rattle.std.specs.Prelude.{◌≡◌, ◌+◌, ◌%◌, ◌<◌, ◌≤◌, length};
 ghost use Rattle.std.proofs.Math.Seq.{paste};
 ghost use Rattle.sequences.specs.Sequences.{numbers};
@@ -10,19 +12,19 @@ ghost use Rattle.words.specs.Words.{or_kind, not_kind, comparison_kind, rows_kin
 ghost use Rattle.words.specs.Words.{survey_word, position_word, place_word, year_word, branch_of, depth_of};
 
 // A term: two bits of kind and a value of 30.
-#[derive(Drop)]
+#[derive(Clone, Copy)]
 pub struct Term(pub u32);
 
 // A word of a plan: four bits of kind, and a count or number of 28.
-#[derive(Drop)]
+#[derive(Clone, Copy)]
 pub struct PlanWord(pub u32);
 
 // A word of a saved state: four bits of kind, and a number of 28.
-#[derive(Drop)]
+#[derive(Clone, Copy)]
 pub struct StateWord(pub u32);
 
 // The answer of a call that writes to one buffer: how many words, or the number of the test that refused it.
-#[derive(Drop)]
+#[derive(Clone, Copy)]
 pub enum Written {
     Words(usize),
     Refused(u32),

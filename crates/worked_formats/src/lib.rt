@@ -1,1 +1,2 @@
 // The worked cases of kinds of words, of orders and of states.
+#![tactic(auto)]

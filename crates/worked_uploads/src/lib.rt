@@ -1,1 +1,2 @@
 // The worked cases of uploads, of views and of owners.
+#![tactic(auto)]

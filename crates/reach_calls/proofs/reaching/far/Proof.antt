@@ -46,7 +46,7 @@ returns c =
     let s = f.before.before.before.before.before.before.before in
     let rows = s.args.rows.now in
     let x = s.args.c in
-    r.far-is rows s.args.pos.now s.args.osp.now s.args.plan.now x s.requires.1.0.0 s.requires.1.1
+    r.far_is rows s.args.pos.now s.args.osp.now s.args.plan.now x s.requires.1.0.0 s.requires.1.1
     k.year-count.result n.year-number.result c.branch-count.result f.first_range.result.first.0 f.first_range.result.end.0
     f.before.outer.result.0 c.before.before.distance.result c.before.distance2.result
     (k.year-count.ensures ∙ ap (year_count (tables_of rows [] [])) k.before.years-in.ensures)

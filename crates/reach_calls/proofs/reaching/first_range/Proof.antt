@@ -14,7 +14,7 @@ branch-terms-requires c κs = search rules
 level-of-requires : tie.Need-level-of-requires
 level-of-requires c κs =
     let s = c.before.before.before.before.before.before in
-    r.first-inside s.args.plan.now s.args.branch s.requires.1.0 s.requires.1.1 _ c.before.branch-terms.ensures
+    r.first_inside s.args.plan.now s.args.branch s.requires.1.0 s.requires.1.1 _ c.before.branch-terms.ensures
 
 level-range-requires : tie.Need-level-range-requires
 level-range-requires c κs = search rules
@@ -24,7 +24,7 @@ returns c =
     let s = c.before.before.before.before.before.before.before.before in
     let t = tables_of s.args.rows.now s.args.pos.now s.args.osp.now in
     let x = section_of s.args.rows.now s.args.pos.now s.args.osp.now s.args.year in
-    let p = r.first-prefix x (branch_at (plan_of s.args.plan.now) s.args.branch).terms _ c.before.before.before.branch-terms.ensures
+    let p = r.first_prefix x (branch_at (plan_of s.args.plan.now) s.args.branch).terms _ c.before.before.before.branch-terms.ensures
     c.before.level-of.result c.before.level-of.ensures in
     (c.level-range.ensures.0 ∙ ap (range_start t) p, c.level-range.ensures.1 ∙ ap (range_end t) p)
 

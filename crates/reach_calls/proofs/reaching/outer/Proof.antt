@@ -7,7 +7,7 @@ use Rattle.reach_calls.proofs.Cases as r
 returns : tie.Need-returns
 returns c =
     let a = c.before.before.before.before.args.c in
-    r.outer-last a.upper a.level a.place.0 c.if1.true
+    r.outer_last a.upper a.level a.place.0 c.if1.true
 
 array-copy-out-result : tie.Need-array-copy-out-result
 array-copy-out-result c = search rules
@@ -15,7 +15,7 @@ array-copy-out-result c = search rules
 returns-2 : tie.Need-returns-2
 returns-2 c =
     let a = c.before.before.before.before.before.args.c in
-    r.outer-place a.upper a.level a.place.0 c.before.if1.false
+    r.outer_place a.upper a.level a.place.0 c.before.if1.false
 
 pub outer-spec : {M : Type 1} → statement M
 outer-spec = tie.close (tie.spec returns array-copy-out-result returns-2)

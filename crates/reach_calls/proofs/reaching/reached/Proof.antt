@@ -20,7 +20,7 @@ returns : tie.Need-returns
 returns c =
     let k = c.before in
     let s = k.before.before.before.before.before.before in
-    r.early-refused (lent s) s.args.plan.now s.args.state.now k.check.result k.check.ensures c.if1.true
+    r.early_refused (lent s) s.args.plan.now s.args.state.now k.check.result k.check.ensures c.if1.true
 
 load-requires : tie.Need-load-requires
 load-requires c κs =
@@ -35,7 +35,7 @@ returns-2 c =
     let k = l.before.before.before in
     let s = k.before.before.before.before.before.before in
     let z = sym k.check.ensures ∙ l.before.before.if1.false in
-    r.late-refused (lent s) s.args.plan.now s.args.state.now z l.load.result.refused l.load.ensures.0 c.if2.true
+    r.late_refused (lent s) s.args.plan.now s.args.state.now z l.load.result.refused l.load.ensures.0 c.if2.true
 
 far-requires : tie.Need-far-requires
 far-requires c κs =
@@ -53,7 +53,7 @@ returns-3 c =
     let s = k.before.before.before.before.before.before in
     let z = sym k.check.ensures ∙ l.before.before.if1.false in
     let plan = s.args.plan.now in
-    r.far-served (lent s) plan s.args.state.now z l.load.result.refused l.load.ensures.0 c.before.before.if2.false c.far.result
+    r.far_served (lent s) plan s.args.state.now z l.load.result.refused l.load.ensures.0 c.before.before.if2.false c.far.result
     (c.far.ensures ∙ ap (λ (x : State). as_answer (far_of (lent s).tables (plan_of plan) x)) (l.load.ensures.1.0 c.before.before.if2.false).0)
 
 pub reached-spec : {M : Type 1} → statement M

@@ -20,14 +20,14 @@ returns : tie.Need-returns
 returns c =
     let s = c.before.before.before.before.args in
     let t = tables_of s.rows.now [] [] in
-    r.begins-yes (begins_year t s.row) (year_at t s.row) s.year c.year-at.result
+    r.begins_yes (begins_year t s.row) (year_at t s.row) s.year c.year-at.result
     (sym c.before.before.begins-year.ensures ∙ c.before.if1.true) c.year-at.ensures
 
 returns-2 : tie.Need-returns-2
 returns-2 c =
     let s = c.before.before.before.args in
     let t = tables_of s.rows.now [] [] in
-    r.begins-no (begins_year t s.row) (ltb (year_at t s.row) s.year) (sym c.before.begins-year.ensures ∙ c.if1.false)
+    r.begins_no (begins_year t s.row) (ltb (year_at t s.row) s.year) (sym c.before.begins-year.ensures ∙ c.if1.false)
 
 pub begins-before-spec : {M : Type 1} → statement M
 begins-before-spec = tie.close (tie.spec begins-year-requires year-at-requires returns returns-2)

@@ -11,7 +11,7 @@ use Rattle.reach_calls.proofs.Cases as r
 
 returns : tie.Need-returns
 returns c =
-    let s = c.before.before.args in r.begins-first (tables_of s.rows.now [] []) s.row c.if1.true
+    let s = c.before.before.args in r.begins_first (tables_of s.rows.now [] []) s.row c.if1.true
 
 year-at-requires : tie.Need-year-at-requires
 year-at-requires c κs = search rules
@@ -26,7 +26,7 @@ returns-2 : tie.Need-returns-2
 returns-2 c =
     let s = c.before.before.before.before.args in
     ap₂ (λ x y. not (eqb x y)) c.before.year-at.ensures c.year-at2.ensures
-    ∙ r.begins-later (tables_of s.rows.now [] []) s.row c.before.before.if1.false
+    ∙ r.begins_later (tables_of s.rows.now [] []) s.row c.before.before.if1.false
 
 pub begins-year-spec : {M : Type 1} → statement M
 begins-year-spec =

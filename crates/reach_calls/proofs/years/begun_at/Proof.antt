@@ -9,10 +9,10 @@ begins-before-requires : tie.Need-begins-before-requires
 begins-before-requires c κs = search rules
 
 returns : tie.Need-returns
-returns c = r.begun-yes _ (sym c.before.begins-before.ensures ∙ c.if1.true)
+returns c = r.begun_yes _ (sym c.before.begins-before.ensures ∙ c.if1.true)
 
 returns-2 : tie.Need-returns-2
-returns-2 c = r.begun-no _ (sym c.before.begins-before.ensures ∙ c.if1.false)
+returns-2 c = r.begun_no _ (sym c.before.begins-before.ensures ∙ c.if1.false)
 
 pub begun-at-spec : {M : Type 1} → statement M
 begun-at-spec = tie.close (tie.spec begins-before-requires returns returns-2)

@@ -23,7 +23,7 @@ abbrev decreases-loop : tie.decreases-loop
 decreases-loop rows year count begun₀ row₀ begun row = count - row
 
 loop-holds : tie.Need-loop-init invariant-loop decreases-loop
-loop-holds c = (omega arith, omega arith, r.none-counted _)
+loop-holds c = (omega arith, omega arith, r.none_counted _)
 
 begun-at-requires : tie.Need-begun-at-requires invariant-loop decreases-loop
 begun-at-requires c κs = omega arith
@@ -58,7 +58,7 @@ returns c =
     let rows = s.rows.now in
     let f : ℕ → Bool = λ n. begins_year (tables_of rows [] []) n && ltb (year_at (tables_of rows [] []) n) s.year in
     let end : c.before.loop.row ≡ length rows / column_count = omega arith in
-    c.before.loop.invariant.2 ∙ ap (count_below f) end ∙ r.all-counted rows [] [] s.year
+    c.before.loop.invariant.2 ∙ ap (count_below f) end ∙ r.all_counted rows [] [] s.year
 
 pub years-before-spec : {M : Type 1} → statement M
 years-before-spec =
