@@ -39,6 +39,7 @@ first_fails n ((m, false) ∷ xs) e = let p : m ≡ n = cc in rw p here
 
 pub fails_first : (n : ℕ) (xs : List Test) → FirstFails n xs → first_failing xs ≡ some n
 unfolding first_failing
+fails_first n [] h = elim h [ ]
 fails_first n ((m, b) ∷ xs) here = refl
 fails_first n ((m, b) ∷ xs) (there h) = fails_first n xs h
 

@@ -1,0 +1,89 @@
+-- `merge_backwards` meets its contract: the words that are done and the untouched ones behind them make up the merged list.
+use Prim.Native.Nat.{ℕ, ◌+◌, ◌-◌, ◌≤◌}
+use native.Mathlib.Omega.{arith}
+use mathlib.Core.Path.{◌≡◌, refl, sym, ◌∙◌}
+use lib.ListN.{length}
+use Rattle.lists.specs.declared.Comes.{Comes}
+use Rattle.lists.specs.declared.Comes.TheVariants.{Before, Same, After}
+use Rattle.list_group_merges.proofs.WalkSteps.{old_left, new_left}
+use Rattle.list_group_merges.proofs.HalfMerges.{half_start, half_below, half_first, half_room, half_new, half_old, half_puts}
+use Rattle.list_group_merges.proofs.HalfMerges.{half_next, half_end}
+use Rattle.list_group_merges.proofs.merge_backwards.merge_backwards.Goals as goal
+use Rattle.list_group_merges.proofs.merge_backwards.merge_backwards.Goals.{After-put_record}
+
+-- the last record is put: the turn it is of, the arguments, and the side it came from
+abbrev Placed : Type 0
+Placed = After-put_record
+
+abbrev side : Placed → Comes
+side p = p.pick-side.result
+
+new_there : (p : Placed) (s : Comes) → side p ≡ s → p.args.g + 8 ≤ p.loop-y.y
+new_there p s told = half_new p.loop-y.inv (omega arith) s (sym p.pick-side.ensures ∙ told)
+
+old_there : (p : Placed) (s : Comes) → side p ≡ s → (s ≡ Before → ⊥) → p.args.g + 8 ≤ p.loop-y.x
+old_there p s told other = half_old p.loop-y.inv (omega arith) s (sym p.pick-side.ensures ∙ told) other
+
+-- the invariant of the next turn, by the side
+goes_on_fact : (p : Placed) (s : Comes) → side p ≡ s →
+    let a = p.args in
+    invariant-loop a.g a.kept.now a.used a.list.now a.words (a.g + 8) a.used (length a.list.now) a.words
+    p.put_record.last.1.0 (old_left a.g s p.loop-y.x) (new_left a.g s p.loop-y.y) (p.loop-y.to - (a.g + 8))
+goes_on_fact p s told = rw (sym told) (half_next p.loop-y.inv (omega arith) (side p) (sym p.pick-side.ensures) _ p.put_record.ensures)
+
+pub loop-y-init : goal.loop-y-init
+loop-y-init c =
+    half_start c.args.g c.args.kept.now c.args.list.now c.args.used c.args.words c.requires.2 c.requires.3 c.requires.6 c.requires.4
+    c.requires.5
+
+pub overflow_sub-to : goal.overflow_sub-to
+overflow_sub-to c = half_room c.loop-y.invariant (omega arith) _ refl
+
+pub pick-side-requires : goal.pick-side-requires
+pick-side-requires c =
+    let i = c.loop-y.invariant in
+    let b = half_below i in
+    let t = i.to_in in
+    let z = i.size in
+    (c.requires.0, omega arith, half_first i, i.y_in, half_new i (omega arith) _ refl)
+
+pub put_record-requires : goal.put_record-requires
+put_record-requires c =
+    let i = c.loop-y.invariant in
+    (c.requires.0, half_puts i (omega arith) c.pick-side.result (sym c.pick-side.ensures))
+
+pub overflow_sub-y : goal.overflow_sub-y
+overflow_sub-y c = new_there (goal.at.overflow_sub-y c).After-put_record Before c.in-Before.is
+
+pub loop-y-smaller-in-Before : goal.loop-y-smaller-in-Before
+loop-y-smaller-in-Before c = omega (arith, sub-y c)
+
+pub loop-y-preserved-in-Before : goal.loop-y-preserved-in-Before
+loop-y-preserved-in-Before c = goes_on_fact (goal.at.loop-y-preserved-in-Before c).After-put_record Before c.in-Before.is
+
+pub overflow_sub-x : goal.overflow_sub-x
+overflow_sub-x c = old_there (goal.at.overflow_sub-x c).After-put_record After c.in-After.is (λ p. let z : ◌≡◌ {A = ℕ} 0 1 = cc in omega arith)
+
+pub loop-y-smaller-in-After : goal.loop-y-smaller-in-After
+loop-y-smaller-in-After c = omega (arith, sub-x c)
+
+pub loop-y-preserved-in-After : goal.loop-y-preserved-in-After
+loop-y-preserved-in-After c = goes_on_fact (goal.at.loop-y-preserved-in-After c).After-put_record After c.in-After.is
+
+pub overflow_sub-x-in-Same : goal.overflow_sub-x-in-Same
+overflow_sub-x-in-Same c = old_there (goal.at.overflow_sub-x-in-Same c).After-put_record Same c.in-Same.is (λ p. let z : ◌≡◌ {A = ℕ} 0 1 = cc in omega arith)
+
+pub overflow_sub-y-in-Same : goal.overflow_sub-y-in-Same
+overflow_sub-y-in-Same c = new_there (goal.at.overflow_sub-y-in-Same c).After-put_record Same c.in-Same.is
+
+pub loop-y-smaller : goal.loop-y-smaller
+loop-y-smaller c = omega (arith, sub-y-2 c)
+
+pub loop-y-preserved : goal.loop-y-preserved
+loop-y-preserved c = goes_on_fact (goal.at.loop-y-preserved c).After-put_record Same c.in-Same.is
+
+pub shape_of-kept : goal.shape_of-kept
+shape_of-kept c = c.loop-y.invariant.size
+
+pub returns : goal.returns
+returns c = half_end c.loop-y.invariant (omega arith)

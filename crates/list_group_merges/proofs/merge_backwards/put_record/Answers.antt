@@ -1,0 +1,62 @@
+-- `put_record` meets its contract: one record is put, whichever list it comes from.
+use native.Mathlib.Omega.{arith}
+use Rattle.list_group_merges.proofs.PuttingRecords.{new_size, new_put, old_put, joined_put, joined_fits, same_old, after_old}
+use Rattle.list_group_merges.proofs.merge_backwards.put_record.Goals as goal
+
+pub overflow_sub-new : goal.overflow_sub-new
+overflow_sub-new c = let h = c.requires.1.new_there in omega arith
+
+pub copy_in-requires : goal.copy_in-requires
+copy_in-requires c =
+    let n = new_size c.args.g c.args.kept.now c.args.x c.args.list.now c.args.y c.args.to c.args.side c.requires.1 in
+    let r = c.requires.1.room in
+    omega arith
+
+pub overflow_sub-x : goal.overflow_sub-x
+overflow_sub-x c =
+    (same_old c.args.g c.args.kept.now c.args.x c.args.list.now c.args.y c.args.to c.args.side c.requires.1
+    c.in-Same.is).0
+
+pub merge_record-requires : goal.merge_record-requires
+merge_record-requires c =
+    let e = c.in-Same.is in (
+      c.requires.0,
+      (same_old c.args.g c.args.kept.now c.args.x c.args.list.now c.args.y c.args.to c.args.side c.requires.1
+          e).1,
+      c.requires.1.room,
+      new_size c.args.g c.args.kept.now c.args.x c.args.list.now c.args.y c.args.to c.args.side
+          c.requires.1,
+      joined_fits c.args.g c.args.kept.now c.args.x c.args.list.now c.args.y c.args.to c.args.side
+          c.requires.1 e,
+    )
+
+pub overflow_sub-x-in-After : goal.overflow_sub-x-in-After
+overflow_sub-x-in-After c =
+    (after_old c.args.g c.args.kept.now c.args.x c.args.list.now c.args.y c.args.to c.args.side c.requires.1
+    c.in-After.is).0
+
+pub move_record-requires : goal.move_record-requires
+move_record-requires c =
+     (
+      (after_old c.args.g c.args.kept.now c.args.x c.args.list.now c.args.y c.args.to c.args.side c.requires.1
+          c.in-After.is).1,
+      c.requires.1.room,
+    )
+
+pub returns-in-Before : goal.returns-in-Before
+returns-in-Before c =
+    let s = start (goal.at.returns-in-Before c).After-copy_in in
+    new_put s.args.g s.args.kept.now s.args.x s.args.list.now s.args.y s.args.to s.args.side s.pre.1
+    c.in-Before.is c.copy_in.new.0 c.copy_in.ensures
+
+pub returns-in-Same : goal.returns-in-Same
+returns-in-Same c =
+    let s = start-of-merge-record (goal.at.returns-in-Same c).After-merge_record in
+    joined_put s.args.g s.args.kept.now s.args.x s.args.list.now s.args.y s.args.to s.args.side s.pre.1
+    c.in-Same.is c.merge_record.new.1.0 c.merge_record.ensures
+
+pub returns-in-After : goal.returns-in-After
+returns-in-After c =
+    let s = start-of-kept3 (goal.at.returns-in-After c).After-kept-in-After-1 in
+    old_put s.args.g s.args.kept.now s.args.x s.args.list.now s.args.y s.args.to s.args.side s.pre.1
+    c.in-After.is c.move_record.new.0 c.move_record.ensures

@@ -1,0 +1,12 @@
+use Prim.Native.Nat.{◌-◌, ◌≤◌}
+use mathlib.Core.Path.{◌≡◌}
+use lib.ListN.{length, drop}
+use Rattle.sequences.specs.Sequences.{all}
+use Rattle.plan_ending_forms.specs.Wanting.{is_wanted}
+use Rattle.plan_ending_forms.proofs.searches.all_wanted.Given as goal
+
+abbrev pub invariant-loop-i : goal.invariant-loop-i
+invariant-loop-i l = (l.i ≤ length l.words) × (all (is_wanted l.wanted) l.words ≡ all (is_wanted l.wanted) (drop l.i l.words))
+
+abbrev pub decreases-loop-i : goal.decreases-loop-i
+decreases-loop-i l = length l.words - l.i

@@ -1,0 +1,50 @@
+-- `branch_words` meets its contract: the words before the condition, and the condition's.
+use mathlib.Core.Path.{sym, ◌∙◌}
+use native.Mathlib.Omega.{arith}
+use Rattle.plans.specs.Conditions.{read_condition, most_depth}
+use Rattle.plans.proofs.Trees.{bad_words, reads_words}
+use Rattle.plans.proofs.BranchRead.{branch_in_lem, branch_room, lent_condition, words_in_lem}
+use Rattle.plan_parts.proofs.branches.branch_words.Goals as goal
+
+pub slice_bounds-condition-count : goal.slice_bounds-condition-count
+slice_bounds-condition-count c =
+    let args = c.args in
+    let pre = c.requires in
+    omega (arith, branch_room args.p.now pre c.pattern_count.result c.pattern_count.ensures.0)
+
+pub slice_bounds-condition-start : goal.slice_bounds-condition-start
+slice_bounds-condition-start c =
+    let args = c.args in
+    let pre = c.requires in
+    omega (arith, branch_room args.p.now pre c.pattern_count.result c.pattern_count.ensures.0)
+
+pub overflow_add-result : goal.overflow_add-result
+overflow_add-result c =
+    let p = c.args.p.now in
+    let pre = c.requires in
+    omega (
+      arith,
+      (branch_in_lem p pre).fit,
+      words_in_lem p pre c.pattern_count.result c.pattern_count.ensures.0,
+      reads_words _ (read_condition most_depth (lent_condition c.pattern_count.result p)) _ _ _ (sym c.condition.ensures ∙ c.in-Reads.is),
+    )
+
+pub returns-in-Bad : goal.returns-in-Bad
+returns-in-Bad c =
+    let p = c.args.p.now in
+    let pre = c.requires in
+    omega (
+      arith,
+      words_in_lem p pre c.pattern_count.result c.pattern_count.ensures.0,
+      bad_words _ (read_condition most_depth (lent_condition c.pattern_count.result p)) (sym c.condition.ensures ∙ c.in-Bad.is),
+    )
+
+pub returns-in-Reads : goal.returns-in-Reads
+returns-in-Reads c =
+    let p = c.args.p.now in
+    let pre = c.requires in
+    omega (
+      arith,
+      words_in_lem p pre c.pattern_count.result c.pattern_count.ensures.0,
+      reads_words _ (read_condition most_depth (lent_condition c.pattern_count.result p)) _ _ _ (sym c.condition.ensures ∙ c.in-Reads.is),
+    )

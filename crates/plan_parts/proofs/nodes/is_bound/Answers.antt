@@ -1,0 +1,9 @@
+-- `is_bound_lem` meets its contract: only a variable is looked for.
+use Rattle.plan_parts.proofs.nodes.is_bound.Goals as goal
+
+pub returns-then-is_variable : goal.returns-then-is_variable
+returns-then-is_variable c =
+    rw (← c.is_variable.ensures, c.if-is_variable.true) c.among.ensures
+
+pub returns : goal.returns
+returns c = rw (← c.is_variable.ensures, c.if-is_variable.false)

@@ -1,0 +1,35 @@
+-- `last_right` meets its contract: from the first place of the range on, its end decides.
+use native.Mathlib.Omega.{arith}
+use mathlib.Core.Path.{◌≡◌, refl, sym, ap, ◌∙◌}
+use Rattle.tables.specs.declared.Prefix.{Prefix}
+use Rattle.tables.specs.Tables.{Tables, tables_of}
+use Rattle.tables.specs.Ranges.{range_start, range_end}
+use Rattle.steps.specs.Levels.{prefix_of, level_prefix}
+use Rattle.step_levels.proofs.LevelFields.{level_prefix_lem}
+use Rattle.state_saving.proofs.Restoring.{before_start, from_start}
+use Rattle.state_walks.proofs.last_right.Goals as goal
+use Rattle.state_walks.proofs.last_right.Goals.{After-level_range-range, Start}
+
+abbrev lent : Start → Tables
+lent s = tables_of s.args.rows.now s.args.pos.now s.args.osp.now
+
+abbrev selected : Start → Prefix
+selected s = level_prefix s.args.year s.args.terms.now s.args.level s.args.bound.now
+
+-- the bounds that were found are those of the level's range
+prefix_is : (r : After-level_range-range) → prefix_of r.level_of.result ≡ selected r.before.before.before.before.before.before
+prefix_is r =
+    let s = entry r in
+    sym (level_prefix_lem s.args.year s.args.terms.now s.args.level s.args.bound.now r.level_of.result r.level_of.ensures _ refl)
+
+first_is_lem : (r : After-level_range-range) → r.level_range-range.result.first.0 ≡ range_start (lent r.before.before.before.before.before.before) (selected r.before.before.before.before.before.before)
+first_is_lem r = r.level_range-range.ensures.first_value ∙ ap (range_start (lent r.before.before.before.before.before.before)) (prefix_is r)
+
+end_is : (r : After-level_range-range) → r.level_range-range.result.end.0 ≡ range_end (lent r.before.before.before.before.before.before) (selected r.before.before.before.before.before.before)
+end_is r = r.level_range-range.ensures.end_value ∙ ap (range_end (lent r.before.before.before.before.before.before)) (prefix_is r)
+
+pub returns-then-place-first : goal.returns-then-place-first
+returns-then-place-first c = let s = entry (goal.at.returns-then-place-first c).After-level_range-range in record { right_value = sym (before_start (lent s) (selected s) s.args.place.0 (omega (arith, first_is_lem (goal.at.returns-then-place-first c).After-level_range-range, c.if-place-first.true))); ends = end_is (goal.at.returns-then-place-first c).After-level_range-range }
+
+pub returns : goal.returns
+returns c = let s = entry (goal.at.returns c).After-level_range-range in record { right_value = from_start (lent s) (selected s) s.args.place.0 (omega (arith, first_is_lem (goal.at.returns c).After-level_range-range, c.if-place-first.false)) _ (end_is (goal.at.returns c).After-level_range-range); ends = end_is (goal.at.returns c).After-level_range-range }

@@ -1,0 +1,69 @@
+-- `write_lists` meets its contract: each list stands over the front of its buffer.
+use Prim.Native.Nat.{ℕ, ◌+◌, ◌*◌, ◌≤◌}
+use native.Mathlib.Omega.{arith}
+use mathlib.Core.Path.{◌≡◌, sym, ◌∙◌, ap}
+use mathlib.Core.List.{List, ◌++◌}
+use lib.ListN.{length, take, drop}
+use lib.Seq.{length-take-le}
+use Rattle.sequences.specs.Sequences.{over}
+use Rattle.tables.specs.declared.Order.{Order}
+use Rattle.tables.specs.declared.Order.TheVariants.{Pos, Osp}
+use Rattle.tables.specs.Tables.{column_count, most_rows}
+use Rattle.tables.specs.RowLists.{Room, row_numbers}
+use Rattle.tables.proofs.RowNumbers.{list_length}
+use Rattle.table_lists.proofs.write_lists.Goals as goal
+use Rattle.table_lists.proofs.write_lists.Goals.{After-write_list}
+
+module _ (rows : List ℕ) (count : ℕ) (there : count * column_count ≤ length rows) where
+  abbrev firsts : List ℕ
+  firsts = take (count * column_count) rows
+
+  -- the part of a buffer that is lent has room for the list
+  room : (part spare : ℕ) → part ≡ count → count ≤ most_rows → most_rows ≤ spare + spare → Room firsts part spare
+  room part spare e few spared =
+      let n = length-take-le (count * column_count) rows there in
+      record { whole = omega arith; few = omega arith; spared = omega arith }
+
+  -- the list over the front of its buffer
+  over_list : (o : Order) (part buffer : List ℕ) → part ≡ row_numbers o firsts → part ++ drop count buffer ≡ over (row_numbers o firsts) buffer
+  over_list o part buffer e =
+      let n : count ≡ length (row_numbers o firsts) = omega (arith, length-take-le (count * column_count) rows there, list_length o firsts) in
+      ap (λ l. l ++ drop count buffer) e ∙ ap (λ k. row_numbers o firsts ++ drop k buffer) n
+
+-- from `write-list-arg6` back to `write-list`
+abbrev at-write-list : After-write-list-arg6 → After-write_list
+at-write-list p = p.before.before.before.before.before.before.before
+
+pub slice_bounds-write_list-end : goal.slice_bounds-write_list-end
+slice_bounds-write_list-end c =
+    sym (length-take-le (c.args.count * column_count) c.args.rows.now c.requires.column_count_in_bounds.0)
+
+pub slice_bounds-write_list-end-3 : goal.slice_bounds-write_list-end-3
+slice_bounds-write_list-end-3 c =
+    sym (length-take-le c.args.count c.args.pos.now c.requires.column_count_in_bounds.1)
+
+pub write_list-requires : goal.write_list-requires
+write_list-requires c =
+    room c.args.rows.now c.args.count c.requires.column_count_in_bounds.0 _ _ (length-take-le c.args.count c.args.pos.now c.requires.column_count_in_bounds.1) c.requires.count_le_most_rows.0
+    c.requires.count_le_most_rows.1
+
+pub slice_bounds-write_list-end-4 : goal.slice_bounds-write_list-end-4
+slice_bounds-write_list-end-4 c =
+    let s = start (goal.at.slice_bounds-write_list-end-4 c).After-write_list-arg-2-1 in
+    sym (length-take-le (s.args.count * column_count) s.args.rows.now s.pre.1.0)
+
+pub slice_bounds-write_list-end-6 : goal.slice_bounds-write_list-end-6
+slice_bounds-write_list-end-6 c =
+    let s = start (goal.at.slice_bounds-write_list-end-6 c).After-write_list-arg-2-1 in
+    sym (length-take-le s.args.count s.args.osp.now s.pre.1.2)
+
+pub write_list-requires-2 : goal.write_list-requires-2
+write_list-requires-2 c =
+    let s = start (goal.at.write_list-requires-2 c).After-write_list-arg-2-1 in
+    room s.args.rows.now s.args.count s.pre.1.0 _ _ (length-take-le s.args.count s.args.osp.now s.pre.1.2) s.pre.0.0
+    (omega (arith, s.pre.0.1, c.write_list.auto.1))
+
+pub returns : goal.returns
+returns c = let q = at-write-list (goal.at.returns c).After-write_list-arg-4-1 in
+    let p = q.write-list in
+    let s = start q in record { pos_after = over_list s.args.rows.now s.args.count s.pre.1.0 Pos p.last.1.1.0 s.args.pos.now p.ensures; osp_after = over_list s.args.rows.now s.args.count s.pre.1.0 Osp c.write_list-2.new.1.1.0 s.args.osp.now c.write_list-2.ensures }

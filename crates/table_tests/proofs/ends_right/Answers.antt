@@ -1,0 +1,48 @@
+-- `table_tests::ends_right` meets its contract: the last row, and the rows that POS and OSP have last.
+use Prim.Native.Nat.{◌-◌}
+use mathlib.Core.Path.{◌≡◌, ◌∙◌, ap, ap₂}
+use native.Mathlib.Omega.{arith}
+use lib.ListN.{length}
+use Rattle.tables.specs.declared.Order.TheVariants.{Spo, Pos, Osp}
+use Rattle.tables.specs.Tables.{Tables, tables_of, row_count, row_at, field_of, year_column, subject_column, predicate_column, object_column}
+use Rattle.table_tests.specs.Ends.{bounds_fine, row_of_last}
+use Rattle.table_tests.proofs.ends_right.Goals as goal
+use Rattle.table_tests.proofs.ends_right.Goals.{After-number_at-by_object, After-number_at-by_predicate, After-own_row-own, Start}
+
+abbrev lent : Start → Tables
+lent s = tables_of s.args.rows.now s.args.pos.now s.args.osp.now
+
+-- the last place, by the length of a list
+last_is : (s : Start) → length s.args.pos.now - 1 ≡ row_count (lent s) - 1
+last_is s = let z = s.requires.sized.pos_length in omega arith
+
+own_last : (o : After-own_row-own) → o.own_row-own.result.0 ≡ row_of_last Spo (lent o.before.before.before.before)
+own_last o = o.own_row-own.ensures ∙ last_is o.before.before.before.before
+
+pos_last : (n : After-number_at-by_predicate) → n.number_at-by_predicate.result.0 ≡ row_of_last Pos (lent n.before.before.before.before.before)
+pos_last n = n.number_at-by_predicate.ensures ∙ ap (row_at Pos (lent n.before.before.before.before.before)) (last_is n.before.before.before.before.before)
+
+osp_last : (n : After-number_at-by_object) → n.number_at-by_object.result.0 ≡ row_of_last Osp (lent n.before.before.before.before.before.before)
+osp_last n = n.number_at-by_object.ensures ∙ ap (row_at Osp (lent n.before.before.before.before.before.before)) (last_is n.before.before.before.before.before.before)
+
+pub field-predicate-requires : goal.field-predicate-requires
+field-predicate-requires c =
+    let s = start (goal.at.field-predicate-requires c).After-own_row-own in
+    (omega (arith, pos_last (goal.at.field-predicate-requires c).After-number_at-by_predicate, s.pre.1.1 Pos, s.pre.0.whole), omega arith)
+
+pub field-object-requires : goal.field-object-requires
+field-object-requires c =
+    let s = start (goal.at.field-object-requires c).After-own_row-own in
+    (omega (arith, osp_last (goal.at.field-object-requires c).After-number_at-by_object, s.pre.1.1 Osp, s.pre.0.whole), omega arith)
+
+pub returns : goal.returns
+returns c =
+    let rows = c.args.rows.now in
+    let own = own_last (goal.at.returns c).After-own_row-own in
+    c.bounds_right.ensures
+    ∙ ap₂ (λ y u. bounds_fine y u c.field-predicate.result c.field-object.result) (c.field-year.ensures ∙ ap (λ k. field_of rows k year_column) own)
+    (c.field-subject.ensures ∙ ap (λ k. field_of rows k subject_column) own)
+    ∙ ap₂ (λ p o. bounds_fine (field_of rows (row_of_last Spo (lent (goal.at.returns c).Start)) year_column)
+    (field_of rows (row_of_last Spo (lent (goal.at.returns c).Start)) subject_column) p o)
+    (c.field-predicate.ensures ∙ ap (λ k. field_of rows k predicate_column) (pos_last (goal.at.returns c).After-number_at-by_predicate))
+    (c.field-object.ensures ∙ ap (λ k. field_of rows k object_column) (osp_last (goal.at.returns c).After-number_at-by_object))

@@ -1,0 +1,14 @@
+use lib.Seq.{take_all, length-take-le}
+use mathlib.Core.Path.{sym}
+use native.Mathlib.Omega.{arith}
+use Rattle.terminal_letters.proofs.front.Goals as goal
+
+-- src/lib.rt:25:9
+pub returns-then-s-n : goal.returns-then-s-n
+returns-then-s-n c = sym (take_all c.args.n c.args.s.now c.if-s-n.true)
+
+-- src/lib.rt:27:5
+pub slice_bounds-result-end : goal.slice_bounds-result-end
+slice_bounds-result-end c =
+    let a = c.args in
+    sym (length-take-le a.n a.s.now (omega arith))

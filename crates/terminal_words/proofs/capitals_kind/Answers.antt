@@ -1,0 +1,34 @@
+use Rattle.terminal_words.proofs.Spelled.{right_spellings, at_within, at_kind, absent_kind}
+use native.Mathlib.Omega.{arith}
+use Rattle.terminal_words.proofs.capitals_kind.Goals as goal
+
+-- src/lib.rt:50:9
+pub find-lookup-requires : goal.find-lookup-requires
+find-lookup-requires c =
+    let p = c.requires in
+    rw (p.0, p.1) right_spellings
+
+-- src/lib.rt:52:26
+pub offset_bounds-kinds-n : goal.offset_bounds-kinds-n
+offset_bounds-kinds-n c =
+    let h = at_within c.args.letters.now c.args.ends.now c.args.kinds.now c.args.capitals.now c.requires.0 c.requires.1 c.requires.2
+    c.find-lookup.result c.find-lookup.ensures c.in-At.n c.in-At.is in
+    omega (arith, h)
+
+-- src/lib.rt:52:26
+pub bounds-kinds-n : goal.bounds-kinds-n
+bounds-kinds-n c =
+    at_within c.args.letters.now c.args.ends.now c.args.kinds.now c.args.capitals.now c.requires.0 c.requires.1 c.requires.2
+    c.find-lookup.result c.find-lookup.ensures c.in-At.n c.in-At.is
+
+-- src/lib.rt:46:1
+pub returns-in-At : goal.returns-in-At
+returns-in-At c =
+    at_kind c.args.letters.now c.args.ends.now c.args.kinds.now c.args.capitals.now c.requires.0 c.requires.1 c.requires.2 c.find-lookup.result
+    c.find-lookup.ensures c.in-At.n c.in-At.is
+
+-- src/lib.rt:46:1
+pub returns-in-Absent : goal.returns-in-Absent
+returns-in-Absent c =
+    absent_kind c.args.letters.now c.args.ends.now c.args.kinds.now c.args.capitals.now c.requires.0 c.requires.1 c.requires.2
+    c.find-lookup.result c.find-lookup.ensures _ c.in-Absent.is

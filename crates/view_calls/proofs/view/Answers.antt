@@ -1,0 +1,44 @@
+-- `view` meets its contract: the tests of the tables, then 20, then the rest.
+use Prim.Native.Nat.{ℕ}
+use mathlib.Core.Path.{sym, ◌∙◌}
+use lib.ListN.{length-replicate}
+use borrow.Author.Tests.{not-true, not-false}
+use Rattle.calls.proofs.Refusals.{call_told}
+use Rattle.tables.specs.Tables.{Tables, tables_of, most_rows}
+use Rattle.tables.proofs.RightTables.{all_pass, checked}
+use Rattle.views.specs.Viewing.{ViewInput, view_input, view_schema}
+use Rattle.views.proofs.Refusals.{view_is_right}
+use Rattle.view_calls.proofs.Shown.{none_flagged}
+use Rattle.view_calls.proofs.Outcome.{wrong_tables, wrong_grant}
+use Rattle.view_calls.proofs.view.Goals as goal
+use Rattle.view_calls.proofs.view.Goals.{Start}
+
+abbrev tables : Start → Tables
+tables s = tables_of s.args.rows.now s.args.pos.now s.args.osp.now
+
+abbrev lent : Start → ViewInput
+lent s =
+    view_input s.args.rows.now s.args.pos.now s.args.osp.now s.args.grant.now s.args.membership
+    s.args.view-rows.now s.args.view-pos.now s.args.view-osp.now
+
+pub returns-then-refused-ne0 : goal.returns-then-refused-ne0
+returns-then-refused-ne0 c = let s = start-of-slice-known3 (goal.at.returns-then-refused-ne0 c).After-slice_known-3-1 in
+    let shown = call_told view_schema view_is_right (lent s) (wrong_tables (lent s) c.check-refused.result c.check-refused.ensures c.if-refused-ne0.true) in
+    record { view_osp_after = shown.0; number = shown.1 }
+
+pub returns-then-not-grant_right : goal.returns-then-not-grant_right
+returns-then-not-grant_right c = let s = start (goal.at.returns-then-not-grant_right c).After-grant_right in
+    let shown = call_told view_schema view_is_right (lent s)
+    (wrong_grant (lent s) (all_pass (tables s) (sym c.check-refused.ensures ∙ c.if-refused-ne0.false))
+    (sym c.grant_right.ensures ∙ not-true c.grant_right.result c.if-not-grant_right.true-raw)) in
+    record { view_osp_after = shown.0; number = shown.1 }
+
+pub view_within-requires : goal.view_within-requires
+view_within-requires c = let s = start (goal.at.view_within-requires c).After-grant_right in
+    let w = checked (tables s) (sym c.check-refused.ensures ∙ c.if-refused-ne0.false) in record { right = w; grant_value = sym c.grant_right.ensures ∙ not-false c.grant_right.result c.if-not-grant_right.false-raw; marks_len = length-replicate {A = ℕ} most_rows 0; unflagged = none_flagged s.args.rows.now most_rows w.sized.few }
+
+pub returns : goal.returns
+returns c = let w = at-view-within (goal.at.returns c).After-marks-2-1 in
+    let s = start w.before.before.before.before.before.before.before in
+    let shown = call_told view_schema view_is_right (lent s) w.view-within.ensures in
+    record { view_osp_after = shown.0; number = shown.1 }
