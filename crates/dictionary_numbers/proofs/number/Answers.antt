@@ -27,7 +27,7 @@ abbrev Roomy : Type 0
 Roomy = Else-not-has_room
 
 abbrev given : Roomy → NumberInput
-given r = lent r.before.before.before.before.before.before.before.before.before.before
+given r = (let a = r.args in number_input a.kind a.bytes.now a.ends.now (number_buffers a.out.now a.cuts.now a.numbers.now a.places.now))
 
 has : (r : Roomy) → number_room (length (given r).bytes) (length (given r).ends) (given r).buffers ≡ true
 has r = sym (room_is _ _ (given r).buffers) ∙ (sym r.has_room.ensures ∙ not-false _ r.if-not-has_room.false-raw)

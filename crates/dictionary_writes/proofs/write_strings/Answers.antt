@@ -3,7 +3,7 @@
 use Prim.Native.Nat.{ℕ, ◌+◌, ◌-◌, ◌≤◌, ◌<◌}
 use native.Mathlib.Omega.{arith}
 use mathlib.Core.Path.{◌≡◌, sym, ap, subst, subst⁻¹, ◌∙◌}
-use mathlib.Core.Bool.{true, ◌||◌}
+use mathlib.Core.Bool.{Bool, true, false, ◌||◌}
 use mathlib.Core.List.{List, [], ◌∷◌, flatten}
 use lib.Dec.{eqb}
 use lib.ListN.{length, get_or, set, drop, length-map}
@@ -21,115 +21,88 @@ use Rattle.dictionary_writes.proofs.Writing.{one_taken, one_left, none_left, las
 use Rattle.dictionary_writes.proofs.Writing.{StringsWritten, written_start, string_ends, string_fits, end_fits}
 use Rattle.dictionary_writes.proofs.Writing.{written_step, count_most, filled_end, bytes_end, ends_end, count_end}
 use Rattle.dictionary_writes.proofs.write_strings.Goals as goal
-use Rattle.dictionary_writes.proofs.write_strings.Goals.{After-is_last, After-slice_known-then-is_last-1, After-string-s, After-wide-place, At-loop-k, Else-is_last, Then-is_last}
+use Rattle.dictionary_writes.proofs.write_strings.Goals.{After-string-s}
 
--- ---- at a turn of the loop
-abbrev Loop : Type 0
-Loop = At-loop-k
+-- ---- entry `k` of the sorted places, in a turn of the loop
+module _ (bytes ends places : List ℕ) (k : ℕ) (sorted : places ≡ sorted_places bytes ends) (h : k < length places) where
+  listed : k < length (sorted_places bytes ends)
+  listed = omega (arith, ap length sorted)
 
-abbrev given : Loop → List ℕ
-given l = l.args.bytes.now
+  placed : (n : ℕ) → n ≡ get_or places k 0 → n ≡ get_or (sorted_places bytes ends) k 0
+  placed n e = e ∙ ap (λ ps. get_or ps k 0) sorted
 
-abbrev cut : Loop → List ℕ
-cut l = l.args.ends.now
+  within : (n : ℕ) → n ≡ get_or places k 0 → n < length ends
+  within n e =
+      let p = get_or (sorted_places bytes ends) k 0 in
+      omega (arith, placed n e, ltb-true p (length ends) (all_at_lem (has_string ends) (sorted_places bytes ends) k 0 (places_within bytes ends) listed))
 
-abbrev strings : Loop → List (List ℕ)
-strings l = sorted_strings (given l) (cut l)
+  long : k < length (sorted_strings bytes ends)
+  long = omega (arith, listed, length-map (sorted_places bytes ends) (λ p. get_or (strings_of bytes ends) p []))
 
-abbrev whole : Loop → List (List ℕ)
-whole l = last_of_each (strings l)
+  -- by whether the string is the last of its kind
+  module _ (last : Bool) (e : last ≡ eqb (k + 1) (length places) || place_before bytes ends (get_or places k 0) (get_or places (k + 1) 0)) where
+    told : eqb (k + 1) (length (sorted_strings bytes ends))
+        || string_before (get_or (sorted_strings bytes ends) k []) (get_or (sorted_strings bytes ends) (k + 1) []) ≡ last
+    told =
+        last_told bytes ends (sorted_places bytes ends) k listed
+        ∙ sym (e ∙ ap (λ ps. eqb (k + 1) (length ps) || place_before bytes ends (get_or ps k 0) (get_or ps (k + 1) 0)) sorted)
 
-abbrev rest : Loop → List (List ℕ)
-rest l = last_of_each (drop (l.loop-k.k + 1) (strings l))
+    taken : last ≡ true
+        → last_of_each (drop k (sorted_strings bytes ends)) ≡ get_or (sorted_strings bytes ends) k [] ∷ last_of_each (drop (k + 1) (sorted_strings bytes ends))
+    taken t = one_taken (sorted_strings bytes ends) k long (told ∙ t)
 
-abbrev Waits : Loop → List (List ℕ) → Type 0
-Waits l r = StringsWritten (whole l) r l.args.out.now l.loop-k.out l.args.cuts.now l.loop-k.cuts l.loop-k.filled l.loop-k.count
-
--- there is room for all of them
-bytes_room : (l : Loop) → length (flatten (whole l)) ≤ length l.args.out.now
-bytes_room l = omega (arith, once_bytes (given l) (cut l) l.requires.ends_value, l.requires.bytes_in_bounds.0)
-
-ends_room : (l : Loop) → length (whole l) ≤ length l.args.cuts.now
-ends_room l = omega (arith, once_strings (given l) (cut l) l.requires.ends_value, l.requires.bytes_in_bounds.1)
-
--- ---- with the place of entry `k`
-abbrev Placed : Type 0
-Placed = After-wide-place
-
-listed : (w : Placed) → w.loop-k.k < length (sorted_places (given w.before.before.before) (cut w.before.before.before))
-listed w = omega (arith, ap length w.requires.places_value, w.loop-k-test)
-
-placed : (w : Placed) → w.wide-place.result ≡ get_or (sorted_places (given w.before.before.before) (cut w.before.before.before)) w.loop-k.k 0
-placed w = w.wide-place.ensures ∙ ap (λ ps. get_or ps w.loop-k.k 0) w.requires.places_value
-
-within : (w : Placed) → w.wide-place.result < length (cut w.before.before.before)
-within w =
-    let bs = given w.before.before.before in
-    let es = cut w.before.before.before in
-    let n = get_or (sorted_places bs es) w.loop-k.k 0 in
-    omega (arith, placed w, ltb-true n (length es) (all_at_lem (has_string es) (sorted_places bs es) w.loop-k.k 0 (places_within bs es) (listed w)))
-
--- the word for its number is there
-numbered : (w : Placed) → w.wide-place.result < length w.loop-k.numbers
-numbered w = omega (arith, within w, w.loop-k.inv.2.long, w.requires.ends_len_bound.1)
-
-long : (w : Placed) → w.loop-k.k < length (strings w.before.before.before)
-long w =
-    let l = turn w in
-    omega (arith, listed w, length-map (sorted_places (given l.before.before.before) (cut l.before.before.before)) (λ p. get_or (strings_of (given l.before.before.before) (cut l.before.before.before)) p []))
-
--- ---- by whether the string is the last of its kind
-told : (i : After-is_last) → let l = turn i.before in
-    eqb (l.loop.k + 1) (length (strings l.before.before.before.before)) || string_before (get_or (strings l.before.before.before.before) l.loop.k []) (get_or (strings l.before.before.before.before) (l.loop.k + 1) []) ≡ i.is_last.result
-told i =
-    let l = turn i.before in
-    last_told (given l.before.before.before.before) (cut l.before.before.before.before) (sorted_places (given l.before.before.before.before) (cut l.before.before.before.before)) l.loop.k (listed i.before)
-    ∙ sym
-    (i.is_last.ensures
-    ∙ ap (λ ps. eqb (l.loop.k + 1) (length ps) || place_before (given l.before.before.before.before) (cut l.before.before.before.before) (get_or ps l.loop.k 0) (get_or ps (l.loop.k + 1) 0))
-    l.pre.1.0)
-
-taken : (t : Then-is_last) → let l = turn t.before.before in
-    last_of_each (drop l.loop.k (strings l.before.before.before.before.before)) ≡ get_or (strings l.before.before.before.before.before) l.loop.k [] ∷ rest l.before.before.before.before.before
-taken t =  one_taken (strings t.before.before.before.before.before) t.loop-k.k (long t.before.before) (told t.before ∙ t.if-is_last.true)
-
-left : (t : Else-is_last) → let l = turn t.before.before in last_of_each (drop l.loop.k (strings l.before.before.before.before.before)) ≡ rest l.before.before.before.before.before
-left t =  one_left (strings t.before.before.before.before.before) t.loop-k.k (long t.before.before) (told t.before ∙ t.if-is_last.false)
+    left : last ≡ false → last_of_each (drop k (sorted_strings bytes ends)) ≡ last_of_each (drop (k + 1) (sorted_strings bytes ends))
+    left t = one_left (sorted_strings bytes ends) k long (told ∙ t)
 
 -- ---- with the string
-abbrev Held : Type 0
-Held = After-string-s
+module _ (z : After-string-s) where
+  abbrev whole : List (List ℕ)
+  whole = last_of_each (sorted_strings z.args.bytes.now z.args.ends.now)
 
-abbrev own : Held → List ℕ
-own z = z.string-s.result.now
+  abbrev rest : List (List ℕ)
+  rest = last_of_each (drop (z.loop-k.k + 1) (sorted_strings z.args.bytes.now z.args.ends.now))
 
--- it is the next to be written
-waits : (z : Held) → Waits (turn z) (own z ∷ rest (turn z))
-waits z =
-    let l = turn z in
-    let is = z.string-s.ensures
-    ∙ (ap (λ p. get_or (strings_of (given l.before.before.before.before.before.before) (cut l.before.before.before.before.before.before)) p []) (placed z.before.before.before)
-    ∙ sym (string_at (given l.before.before.before.before.before.before) (cut l.before.before.before.before.before.before) (sorted_places (given l.before.before.before.before.before.before) (cut l.before.before.before.before.before.before)) l.loop.k (listed z.before.before.before))) in
-    subst (Waits l.before.before.before.before.before.before) (taken z.before ∙ ap (λ x. x ∷ rest l.before.before.before.before.before.before) (sym is)) l.loop.inv.1
+  taken_here : last_of_each (drop z.loop-k.k (sorted_strings z.args.bytes.now z.args.ends.now))
+      ≡ get_or (sorted_strings z.args.bytes.now z.args.ends.now) z.loop-k.k [] ∷ rest
+  taken_here =
+      taken z.args.bytes.now z.args.ends.now z.args.places.now z.loop-k.k z.requires.places_value z.loop-k-test.true z.is_last.result z.is_last.ensures
+      z.if-is_last.true
 
-fits : (z : Held) → (turn z).loop.filled + length (own z) ≤ length (turn z).loop.out
-fits z = let l = turn z in string_fits (whole l.before.before.before.before.before.before) (rest l.before.before.before.before.before.before) _ _ _ _ l.loop.filled l.loop.count (own z) (waits z) (bytes_room l.before.before.before.before.before.before) (ends_room l.before.before.before.before.before.before)
+  -- it is the next to be written
+  waits : StringsWritten whole (z.string-s.result.now ∷ rest) z.args.out.now z.loop-k.out z.args.cuts.now z.loop-k.cuts z.loop-k.filled z.loop-k.count
+  waits =
+      let bs = z.args.bytes.now in
+      let es = z.args.ends.now in
+      let ps = z.args.places.now in
+      let k = z.loop-k.k in
+      let sorted = z.requires.places_value in
+      let h = z.loop-k-test.true in
+      let is = z.string-s.ensures
+      ∙ (ap (λ p. get_or (strings_of bs es) p []) (placed bs es ps k sorted h z.wide-place.result z.wide-place.ensures)
+      ∙ sym (string_at bs es (sorted_places bs es) k (listed bs es ps k sorted h))) in
+      subst (λ r. StringsWritten whole r z.args.out.now z.loop-k.out z.args.cuts.now z.loop-k.cuts z.loop-k.filled z.loop-k.count)
+      (taken_here ∙ ap (λ x. x ∷ rest) (sym is))
+      z.loop-k.invariant.1
 
--- its end is below 2^32, as the end of all bytes is
-small : (z : Held) → (turn z).loop.filled + length (own z) < 4294967296
-small z =
-    let l = turn z in
-    let s = start l in
-    let e = string_ends (whole l.before.before.before.before.before.before) (rest l.before.before.before.before.before.before) _ _ _ _ l.loop.filled l.loop.count (own z) (waits z) (bytes_room l.before.before.before.before.before.before) (ends_room l.before.before.before.before.before.before) in
-    let known = l.before.before.before.before.before.shared-slice-known2.given in
-    let b = ends_below 4294967296 (length (given l.before.before.before.before.before.before)) 0 (cut l.before.before.before.before.before.before) s.pre.0 (omega arith) (λ i. omega (arith, known i)) in
-    omega (arith, e, b, once_bytes (given l.before.before.before.before.before.before) (cut l.before.before.before.before.before.before) s.pre.0)
+  -- there is room for all of them
+  bytes_room : length (flatten whole) ≤ length z.args.out.now
+  bytes_room = omega (arith, once_bytes z.args.bytes.now z.args.ends.now z.requires.ends_value, z.requires.bytes_in_bounds.0)
 
-free : (z : Held) → (turn z).loop.count < length (turn z).loop.cuts
-free z = let l = turn z in end_fits (whole l.before.before.before.before.before.before) (rest l.before.before.before.before.before.before) _ _ _ _ l.loop.filled l.loop.count (own z) (waits z) (bytes_room l.before.before.before.before.before.before) (ends_room l.before.before.before.before.before.before)
+  ends_room : length whole ≤ length z.args.cuts.now
+  ends_room = omega (arith, once_strings z.args.bytes.now z.args.ends.now z.requires.ends_value, z.requires.bytes_in_bounds.1)
 
-abbrev Copied : Type 0
-Copied = After-slice_known-then-is_last-1
+  fits : z.loop-k.filled + length z.string-s.result.now ≤ length z.loop-k.out
+  fits = string_fits whole rest _ _ _ _ z.loop-k.filled z.loop-k.count z.string-s.result.now waits bytes_room ends_room
+
+  -- its end is below 2^32, as the end of all bytes is
+  small : ((i : ℕ) → get_or z.args.ends.now i 0 < 4294967296) → z.loop-k.filled + length z.string-s.result.now < 4294967296
+  small known =
+      let e = string_ends whole rest _ _ _ _ z.loop-k.filled z.loop-k.count z.string-s.result.now waits bytes_room ends_room in
+      let b = ends_below 4294967296 (length z.args.bytes.now) 0 z.args.ends.now z.requires.ends_value (omega arith) (λ i. omega (arith, known i)) in
+      omega (arith, e, b, once_bytes z.args.bytes.now z.args.ends.now z.requires.ends_value)
+
+  free : z.loop-k.count < length z.loop-k.cuts
+  free = end_fits whole rest _ _ _ _ z.loop-k.filled z.loop-k.count z.string-s.result.now waits bytes_room ends_room
 
 pub loop-k-init : goal.loop-k-init
 loop-k-init c =
@@ -141,31 +114,38 @@ loop-k-init c =
 
 pub overflow_cast-numbers : goal.overflow_cast-numbers
 overflow_cast-numbers c =
-    let l = turn c in
-    let n = count_most (whole l) _ _ _ _ _ l.loop.filled l.loop.count l.loop.inv.1 in
-    omega (arith, n, once_strings (given l) (cut l) l.pre.0, l.pre.1.1.0.0)
-
-pub offset_bounds-numbers-place : goal.offset_bounds-numbers-place
-offset_bounds-numbers-place c = omega (arith, numbered c)
+    let n = count_most (last_of_each (sorted_strings c.args.bytes.now c.args.ends.now)) _ _ _ _ _ c.loop-k.filled c.loop-k.count c.loop-k.invariant.1 in
+    omega (arith, n, once_strings c.args.bytes.now c.args.ends.now c.requires.ends_value, c.requires.ends_len_bound.0)
 
 pub bounds-numbers-place : goal.bounds-numbers-place
-bounds-numbers-place c = numbered c
+bounds-numbers-place c =
+    let w = within c.args.bytes.now c.args.ends.now c.args.places.now c.loop-k.k c.requires.places_value c.loop-k-test.true c.wide-place.result c.wide-place.ensures in
+    omega (arith, w, c.loop-k.invariant.2.long, c.requires.ends_len_bound.1)
 
 pub is_last-requires : goal.is_last-requires
-is_last-requires c = let l = turn c in
-    let s = start l in record { ends_value = s.pre.0; places_value = subst⁻¹ (λ ps. all (has_string (cut l)) ps ≡ true) s.pre.1.0 (places_within (given l) (cut l)); k_in_bounds = omega arith }
+is_last-requires c =
+    record {
+      ends_value = c.requires.ends_value;
+      places_value = subst⁻¹ (λ ps. all (has_string c.args.ends.now) ps ≡ true) c.requires.places_value (places_within c.args.bytes.now c.args.ends.now);
+      k_in_bounds = omega arith;
+    }
 
 pub string-s-requires : goal.string-s-requires
-string-s-requires c =  record { ends_value = c.requires.ends_value; n_in_bounds = within (goal.at.string-s-requires c).After-wide-place }
+string-s-requires c =
+    record {
+      ends_value = c.requires.ends_value;
+      n_in_bounds = within c.args.bytes.now c.args.ends.now c.args.places.now c.loop-k.k c.requires.places_value c.loop-k-test.true c.wide-place.result
+          c.wide-place.ensures;
+    }
 
 pub copy_bytes-requires : goal.copy_bytes-requires
 copy_bytes-requires c = omega (arith, fits (goal.at.copy_bytes-requires c).After-string-s)
 
 pub overflow_add-filled : goal.overflow_add-filled
-overflow_add-filled c = omega (arith, small (goal.at.overflow_add-filled c).After-string-s)
+overflow_add-filled c = omega (arith, small (goal.at.overflow_add-filled c).After-string-s (λ i. omega (arith, c.type_inv.ends i)))
 
 pub overflow_cast-cuts : goal.overflow_cast-cuts
-overflow_cast-cuts c = omega (arith, small (goal.at.overflow_cast-cuts c).After-string-s)
+overflow_cast-cuts c = omega (arith, small (goal.at.overflow_cast-cuts c).After-string-s (λ i. omega (arith, c.type_inv.ends i)))
 
 pub bounds-cuts-count : goal.bounds-cuts-count
 bounds-cuts-count c = free (goal.at.bounds-cuts-count c).After-string-s
@@ -175,29 +155,36 @@ overflow_add-count c = omega (arith, free (goal.at.overflow_add-count c).After-s
 
 pub loop-k-preserved-then-is_last : goal.loop-k-preserved-then-is_last
 loop-k-preserved-then-is_last c =
-    let z = held c in
-    let w = put z in
-    let l = turn w in
-    let a = l.args in
-    let s = own z in (
+    let z = (goal.at.loop-k-preserved-then-is_last c).After-string-s in
+    let a = c.args in
+    let l = c.loop-k in
+    let s = c.string-s.result.now in
+    let w = within a.bytes.now a.ends.now a.places.now l.k c.requires.places_value c.loop-k-test.true c.wide-place.result c.wide-place.ensures in (
       omega arith,
       subst⁻¹
-          (λ o. StringsWritten (whole l) (rest l) a.out.now o a.cuts.now (set l.loop.cuts l.loop.count (l.loop.filled + length s))
-          (l.loop.filled + length s) (l.loop.count + 1))
+          (λ o. StringsWritten (whole z) (rest z) a.out.now o a.cuts.now (set l.cuts l.count (l.filled + length s)) (l.filled + length s) (l.count + 1))
           c.copy_bytes.ensures
-          (written_step (whole l) (rest l) a.out.now l.loop.out a.cuts.now l.loop.cuts l.loop.filled l.loop.count s (waits z)
-          (bytes_room l) (ends_room l)),
-      numbers_kept (given l) (cut l) a.numbers.now l.loop.numbers l.loop.count l.loop.k w.wide.result l.loop.inv.2 (listed w)
-          (placed w) (numbered w) _ (taken z.before),
+          (written_step (whole z) (rest z) a.out.now l.out a.cuts.now l.cuts l.filled l.count s (waits z) (bytes_room z) (ends_room z)),
+      numbers_kept a.bytes.now a.ends.now a.numbers.now l.numbers l.count l.k c.wide-place.result l.invariant.2
+          (listed a.bytes.now a.ends.now a.places.now l.k c.requires.places_value c.loop-k-test.true)
+          (placed a.bytes.now a.ends.now a.places.now l.k c.requires.places_value c.loop-k-test.true c.wide-place.result c.wide-place.ensures)
+          (omega (arith, w, l.invariant.2.long, c.requires.ends_len_bound.1)) _ (taken_here z),
     )
 
 pub loop-k-preserved : goal.loop-k-preserved
 loop-k-preserved c =
-    let l = turn (goal.at.loop-k-preserved c).After-wide-place in (
+    let a = c.args in
+    let l = c.loop-k in
+    let sorted = c.requires.places_value in
+    let h = c.loop-k-test.true in
+    let w = within a.bytes.now a.ends.now a.places.now l.k sorted h c.wide-place.result c.wide-place.ensures in
+    let e = left a.bytes.now a.ends.now a.places.now l.k sorted h c.is_last.result c.is_last.ensures c.if-is_last.false in (
       omega arith,
-      subst (Waits l) (left c) l.loop.inv.1,
-      numbers_left_lem (given l) (cut l) l.args.numbers.now l.loop.numbers l.loop.count l.loop.k c.wide-place.result l.loop.inv.2
-          (listed (goal.at.loop-k-preserved c).After-wide-place) (placed (goal.at.loop-k-preserved c).After-wide-place) (numbered (goal.at.loop-k-preserved c).After-wide-place) (left c),
+      subst (λ r. StringsWritten (last_of_each (sorted_strings a.bytes.now a.ends.now)) r a.out.now l.out a.cuts.now l.cuts l.filled l.count) e l.invariant.1,
+      numbers_left_lem a.bytes.now a.ends.now a.numbers.now l.numbers l.count l.k c.wide-place.result l.invariant.2
+          (listed a.bytes.now a.ends.now a.places.now l.k sorted h)
+          (placed a.bytes.now a.ends.now a.places.now l.k sorted h c.wide-place.result c.wide-place.ensures)
+          (omega (arith, w, l.invariant.2.long, c.requires.ends_len_bound.1)) e,
     )
 
 pub shape_of-out : goal.shape_of-out
@@ -210,14 +197,23 @@ pub shape_of-numbers : goal.shape_of-numbers
 shape_of-numbers c = c.loop-k.invariant.2.long
 
 pub returns : goal.returns
-returns c = let a = c.args in
-    let m = length-map (sorted_places (given (goal.at.returns c).At-loop-k) (cut (goal.at.returns c).At-loop-k)) (λ p. get_or (strings_of (given (goal.at.returns c).At-loop-k) (cut (goal.at.returns c).At-loop-k)) p []) in
+returns c =
+    let bs = c.args.bytes.now in
+    let es = c.args.ends.now in
+    let o = c.args.out.now in
+    let e = c.args.cuts.now in
+    let l = c.loop-k in
+    let every = last_of_each (sorted_strings bs es) in
+    let m = length-map (sorted_places bs es) (λ p. get_or (strings_of bs es) p []) in
     let n = ap length c.requires.places_value in
-    let v = subst (Waits (goal.at.returns c).At-loop-k) (none_left (strings (goal.at.returns c).At-loop-k) c.loop-k.k (omega arith)) c.loop-k.invariant.1 in
-    let o = a.out.now in
-    let e = a.cuts.now in
-    let once = sorted_strings_lem (given (goal.at.returns c).At-loop-k) (cut (goal.at.returns c).At-loop-k) in record { bytes_value = (
-        filled_end (whole (goal.at.returns c).At-loop-k) o c.loop-k.out e c.loop-k.cuts c.loop-k.filled c.loop-k.count v ∙ ap (λ ss. length (flatten ss)) once,
-        count_end (whole (goal.at.returns c).At-loop-k) o c.loop-k.out e c.loop-k.cuts c.loop-k.filled c.loop-k.count v ∙ ap length once,
-      ); bytes = bytes_end (whole (goal.at.returns c).At-loop-k) o c.loop-k.out e c.loop-k.cuts c.loop-k.filled c.loop-k.count v ∙ ap (λ ss. over (flatten ss) o) once; ends = ends_end (whole (goal.at.returns c).At-loop-k) o c.loop-k.out e c.loop-k.cuts c.loop-k.filled c.loop-k.count v ∙ ap (λ ss. over (ends_after 0 ss) e) once; numbers = numbers_end (given (goal.at.returns c).At-loop-k) (cut (goal.at.returns c).At-loop-k) a.numbers.now c.loop-k.numbers c.loop-k.count c.loop-k.k c.loop-k.invariant.2 (omega arith)
-              c.requires.ends_len_bound.1 }
+    let v = subst (λ r. StringsWritten every r o l.out e l.cuts l.filled l.count) (none_left (sorted_strings bs es) l.k (omega arith)) l.invariant.1 in
+    let once = sorted_strings_lem bs es in
+    record {
+      bytes_value = (
+        filled_end every o l.out e l.cuts l.filled l.count v ∙ ap (λ ss. length (flatten ss)) once,
+        count_end every o l.out e l.cuts l.filled l.count v ∙ ap length once,
+      );
+      bytes = bytes_end every o l.out e l.cuts l.filled l.count v ∙ ap (λ ss. over (flatten ss) o) once;
+      ends = ends_end every o l.out e l.cuts l.filled l.count v ∙ ap (λ ss. over (ends_after 0 ss) e) once;
+      numbers = numbers_end bs es c.args.numbers.now l.numbers l.count l.k l.invariant.2 (omega arith) c.requires.ends_len_bound.1;
+    }

@@ -60,9 +60,9 @@ all_places : (l : At-orders) → length l.args.pos.now ≡ row_count (lent l)
 all_places l = l.requires.sized.pos_length ∙ ap row_count (sym (is_given l))
 
 -- a place that the walk comes to is one of the tables'
-below : (c : In-places) → c.places.place < row_count (tables c.before)
+below : (c : In-places) → c.places.place < row_count ((lent (c.before.before.before.before.before).before.before))
 below c =
-    let l = (walked c.before).before.before in
+    let l = (c.before.before.before.before.before).before.before in
     let h : c.places.place < length l.args.pos.now = c.places-test.true in
     omega (arith, all_places l.before.before.before.before.before.before.before.before)
 
@@ -113,9 +113,9 @@ goes_on_fact n e =
 
 -- an order with a fault is where the walk stops
 stops : (c : After-order_at-order) →
-    order_right c.args.alike (lent c.before.before) c.order_at-order.result ≡ false → c.orders.turn ≡ right_orders c.args.alike (given c.before.before.before.before.before.before)
+    order_right c.args.alike ((cut (tables_of c.args.rows.now c.args.pos.now c.args.osp.now))) c.order_at-order.result ≡ false → c.orders.turn ≡ right_orders c.args.alike (tables_of c.args.rows.now c.args.pos.now c.args.osp.now)
 stops c e =
-    sym (orders_fault c.args.alike (lent c.before.before) c.orders.turn c.orders.invariant (omega arith) (rw c.order_at-order.ensures at e))
+    sym (orders_fault c.args.alike ((cut (tables_of c.args.rows.now c.args.pos.now c.args.osp.now))) c.orders.turn c.orders.invariant (omega arith) (rw c.order_at-order.ensures at e))
     ∙ ap (right_orders c.args.alike) (is_given c.before.before)
 
 descends : (n : After-next-1) → lex_before (last n) (next n) ≡ false
