@@ -12,7 +12,7 @@ use Rattle.table_walk_keys.proofs.Keys.{keys_length}
 use Rattle.table_walk_keys.proofs.Walking.{read_row, read_keys, read_none, upto_first, upto_next, unnamed_fault, descent_fault}
 use Rattle.table_walk_keys.proofs.Walking.{orders_none, orders_next, orders_fault, orders_all}
 use Rattle.table_walks.proofs.Columns.{column_says}
-use Rattle.table_walks.proofs.Cuts.{cut, cut_none}
+use Rattle.table_walks.proofs.Cuts.{cut_all, cut_all_none}
 use Rattle.table_walks.proofs.walk.Goals as goal
 use Rattle.table_walks.proofs.walk.Goals.{After-before_from-before, After-next-1, After-order_at-order, At-orders, At-places, In-places, Start, Then-column-eq0}
 
@@ -21,10 +21,10 @@ given s = tables_of s.args.rows.now s.args.pos.now s.args.osp.now
 
 -- the same cut to the lengths that they have
 abbrev lent : At-orders → Tables
-lent l = cut (given l.before.before.before.before)
+lent l = cut_all (given l.before.before.before.before)
 
 is_given : (l : At-orders) → lent l ≡ given l.before.before.before.before
-is_given l = cut_none (given l.before.before.before.before) l.requires.sized
+is_given l = cut_all_none (given l.before.before.before.before) l.requires.sized
 
 sized : (l : At-orders) → Sized (lent l)
 sized l = subst Sized (sym (is_given l)) l.requires.sized
@@ -113,9 +113,9 @@ goes_on_fact n e =
 
 -- an order with a fault is where the walk stops
 stops : (c : After-order_at-order) →
-    order_right c.args.alike ((cut (tables_of c.args.rows.now c.args.pos.now c.args.osp.now))) c.order_at-order.result ≡ false → c.orders.turn ≡ right_orders c.args.alike (tables_of c.args.rows.now c.args.pos.now c.args.osp.now)
+    order_right c.args.alike ((cut_all (tables_of c.args.rows.now c.args.pos.now c.args.osp.now))) c.order_at-order.result ≡ false → c.orders.turn ≡ right_orders c.args.alike (tables_of c.args.rows.now c.args.pos.now c.args.osp.now)
 stops c e =
-    sym (orders_fault c.args.alike ((cut (tables_of c.args.rows.now c.args.pos.now c.args.osp.now))) c.orders.turn c.orders.invariant (omega arith) (rw c.order_at-order.ensures at e))
+    sym (orders_fault c.args.alike ((cut_all (tables_of c.args.rows.now c.args.pos.now c.args.osp.now))) c.orders.turn c.orders.invariant (omega arith) (rw c.order_at-order.ensures at e))
     ∙ ap (right_orders c.args.alike) (is_given c.before.before)
 
 descends : (n : After-next-1) → lex_before (last n) (next n) ≡ false
@@ -149,7 +149,7 @@ slice_bounds-by_object-end c =
 
 pub orders-init : goal.orders-init
 orders-init c =
-    orders_none c.args.alike (cut (given (goal.at.orders-init c).Start))
+    orders_none c.args.alike (cut_all (given (goal.at.orders-init c).Start))
 
 pub read-first-requires : goal.read-first-requires
 read-first-requires c =  record { sized = sized (goal.at.read-first-requires c).At-orders; place_bound = some_rows (goal.at.read-first-requires c).At-orders }
