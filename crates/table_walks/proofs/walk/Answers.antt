@@ -1,16 +1,16 @@
 -- `table_walks::walk` meets its contract. The invariants: the orders before `turn` are right; of this order the places before
 -- `place` are, and `last` has the keys of the one before it; `before` says whether it comes before the next by the columns after `column`.
-use Rattle.std.proofs.Common.{◌≡◌, ℕ, ◌+◌, ◌-◌, ◌*◌, ◌<◌, ◌≤◌, Bool, true, false, cond, ltb, leb, List, length, get_or, drop, sym, ap, ◌∙◌, subst, ap₂, arith, length-take-le}
+use Rattle.std.proofs.Common.{◌≡◌, ℕ, ◌+◌, ◌-◌, ◌<◌, ◌≤◌, Bool, true, false, List, length, drop, sym, ap, ◌∙◌, subst, ap₂, arith}
 use borrow.Author.Tests.{not-true, not-false}
 use Rattle.sequences.specs.Sequences.{lex_before}
 use Rattle.tables.specs.declared.Order.{Order}
-use Rattle.tables.specs.Tables.{Tables, tables_of, column_count, row_count, row_at}
+use Rattle.tables.specs.Tables.{Tables, tables_of, row_count, row_at}
 use Rattle.tables.specs.Right.{Sized}
 use Rattle.tables.proofs.Sides.{from_end}
 use Rattle.table_walk_keys.specs.Walk.{key_count, keys_at, order_at, order_count, order_right, right_upto, right_orders}
 use Rattle.table_walk_keys.proofs.Keys.{keys_length}
 use Rattle.table_walk_keys.proofs.Walking.{RightBefore, read_row, read_keys, read_none, upto_first, upto_next, unnamed_fault, descent_fault}
-use Rattle.table_walk_keys.proofs.Walking.{orders_none, orders_next, orders_fault, orders_all}
+use Rattle.table_walk_keys.proofs.Walking.{orders_next, orders_fault, orders_all}
 use Rattle.table_walks.proofs.Columns.{column_says}
 use Rattle.table_walks.proofs.Cuts.{cut, cut_none}
 use Rattle.table_walks.proofs.walk.Goals as goal
@@ -109,19 +109,6 @@ all_say : (c : After-before_from-before) → length c.places.last ≡ key_count 
 all_say c l r e = says c l r ∙ ap (λ k. lex_before (drop k c.places.last) (drop k c.read-found.result.keys)) e
 
 -- ---- the goals
-pub slice_bounds-own-end : goal.slice_bounds-own-end
-slice_bounds-own-end c =
-    let z = c.requires.sized in
-    sym (length-take-le (length c.args.pos.now * column_count) c.args.rows.now (omega arith))
-
-pub orders-init : goal.orders-init
-orders-init c = orders_none c.args.alike (cut (tables_of c.args.rows.now c.args.pos.now c.args.osp.now))
-
-pub read-first-requires : goal.read-first-requires
-read-first-requires c =
-    let t = tables_of c.args.rows.now c.args.pos.now c.args.osp.now in
-    record { sized = sized t c.requires.sized; place_bound = some_rows t c.requires.sized c.requires.nonzero }
-
 pub places-init : goal.places-init
 places-init c =
     let t = cut (tables_of c.args.rows.now c.args.pos.now c.args.osp.now) in
@@ -134,12 +121,6 @@ places-init c =
       read_keys c.args.alike t o 0 r e n,
       upto_first c.args.alike t o (read_row c.args.alike t o 0 r e n),
     )
-
-pub read-found-requires : goal.read-found-requires
-read-found-requires c =
-    let t = tables_of c.args.rows.now c.args.pos.now c.args.osp.now in
-    let h : c.places.place < length c.args.pos.now = c.places-test.true in
-    record { sized = sized t c.requires.sized; place_bound = omega (arith, all_places t c.requires.sized) }
 
 pub columns-init : goal.columns-init
 columns-init c =
