@@ -47,7 +47,7 @@ module _ (v : Survey) (plan : List ℕ) (h : Phone) where
 
   merged : (behind : List ℕ) (waiting : List ServedTurn) → h.waiting ≡ waiting → Same h (after_merging plan h behind waiting)
   merged behind [] e = same
-  merged behind (x ∷ rest) e = merging x rest _ (merge_of (merge_input_of plan h behind x)).answer e
+  merged behind (x ∷ rest) e = merging x rest (merge_of (merge_input_of plan h behind x)) (merge_of (merge_input_of plan h behind x)).answer e
 
   joined : (waiting : List ServedTurn) → h.waiting ≡ waiting → Same h (after_joining plan h waiting)
   joined [] e = same

@@ -31,6 +31,7 @@ use Rattle.cuts.proofs.AfterDone.{merge_same, join_same}
 
 -- ---- no turn is refused by the number 0
 some_number : (n : ℕ) (xs : List Test) → FirstFails n xs → all (ltb 0) (map (λ (x : Test). x.0) xs) ≡ true → ltb 0 n ≡ true
+some_number n [] h p = elim h [ ]
 some_number n ((m, b) ∷ xs) here p = all_head (ltb 0) m (map (λ (x : Test). x.0) xs) p
 some_number n ((m, b) ∷ xs) (there f) p = some_number n xs f (all_tail (ltb 0) m (map (λ (x : Test). x.0) xs) p)
 

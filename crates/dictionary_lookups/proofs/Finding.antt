@@ -24,7 +24,7 @@ use Rattle.dictionaries.proofs.Ranking.{StandsAt, found, rank_tells}
 use Rattle.dictionaries.proofs.Checking.{tested}
 use Rattle.dictionary_lookups.specs.declared.StringFound.{StringFound}
 use Rattle.dictionary_lookups.specs.declared.StringFound.TheVariants.{At, Absent, Refused}
-use Rattle.dictionary_lookups.specs.Finding.{FindInput, dictionary_tests, found_string, found_refusal, found_lookup, find_schema, HoldsString, FindsRight}
+use Rattle.dictionary_lookups.specs.Finding.{FindInput, dictionary_tests, found_string, found_refusal, found_lookup, find_call, HoldsString, FindsRight}
 
 -- a call that leaves no buffer answers so, and the answer has its number and its values
 abbrev pub Equals : {I A E W : Type 0} → CallSchema I A E (Unit {0}) W → I → A → Type 0
@@ -42,7 +42,7 @@ tells_lookup : (l : Lookup) → found_lookup (found_string l) ≡ some l
 tells_lookup (lookup.At n) = refl
 tells_lookup (lookup.Absent n) = refl
 
-pub find_right : RightCall find_schema
+pub find_right : RightCall find_call
 find_right =
     record {
       order = λ i. refl;
@@ -54,8 +54,8 @@ find_right =
       counting = λ i h. tells_lookup (lookup_in (strings_of i.bytes i.ends) i.sought);
     }
 
-pub find_refusals : (i : FindInput) → CallRefusals find_schema i
-find_refusals i = call_refusals find_schema find_right i
+pub find_refusals : (i : FindInput) → CallRefusals find_call i
+find_refusals i = call_refusals find_call find_right i
 
 -- ---- by the one test
 module _ (k : StringKind) (bytes ends : List ℕ) where
@@ -71,22 +71,22 @@ module _ (k : StringKind) (bytes ends : List ℕ) where
   ascends e = neighbours_ascending before_ordered (strings_of bytes ends) ((tested k bytes ends).0 e).right.ascend
 
 -- ---- a result that the code has, by what it knows
-pub find_refused : (i : FindInput) → dictionary_right i.kind i.bytes i.ends ≡ false → Equals find_schema i (Refused 28)
-find_refused i e = call_told find_schema find_right i (sym (by_number_lem find_schema find_right i 28 (wrong_dictionary i.kind i.bytes i.ends e)))
+pub find_refused : (i : FindInput) → dictionary_right i.kind i.bytes i.ends ≡ false → Equals find_call i (Refused 28)
+find_refused i e = call_told find_call find_right i (sym (by_number_lem find_call find_right i 28 (wrong_dictionary i.kind i.bytes i.ends e)))
 
 pub find_served : (i : FindInput) → dictionary_right i.kind i.bytes i.ends ≡ true
-    → (l : Lookup) → l ≡ lookup_in (strings_of i.bytes i.ends) i.sought → Equals find_schema i (found_string l)
+    → (l : Lookup) → l ≡ lookup_in (strings_of i.bytes i.ends) i.sought → Equals find_call i (found_string l)
 find_served i r l e =
-    call_told find_schema find_right i
-    (ap (λ k. record { answer = found_string k; buffers = tt }) e ∙ sym (by_none find_schema find_right i (right_dictionary i.kind i.bytes i.ends r)))
+    call_told find_call find_right i
+    (ap (λ k. record { answer = found_string k; buffers = tt }) e ∙ sym (by_none find_call find_right i (right_dictionary i.kind i.bytes i.ends r)))
 
 -- ---- what the answers say
 module _ (i : FindInput) (r : dictionary_right i.kind i.bytes i.ends ≡ true) where
   abbrev strings : List (List ℕ)
   strings = strings_of i.bytes i.ends
 
-  answered : (result_of_call find_schema i).answer ≡ found_string (lookup_in (strings_of i.bytes i.ends) i.sought)
-  answered = ap (λ (o : CallResult StringFound (Unit {0})). o.answer) (by_none find_schema find_right i (right_dictionary i.kind i.bytes i.ends r))
+  answered : (result_of_call find_call i).answer ≡ found_string (lookup_in (strings_of i.bytes i.ends) i.sought)
+  answered = ap (λ (o : CallResult StringFound (Unit {0})). o.answer) (by_none find_call find_right i (right_dictionary i.kind i.bytes i.ends r))
 
   at_same : (l : Lookup) (n : ℕ) → found_string l ≡ At n → l ≡ lookup.At n
   at_same (lookup.At m) n e = let z : m ≡ n = cc in ap lookup.At z

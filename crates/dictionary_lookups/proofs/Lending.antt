@@ -16,7 +16,7 @@ use Rattle.dictionaries.proofs.Searching.{ends_bounds, strings_at_lem}
 use Rattle.dictionaries.proofs.Checking.{tested}
 use Rattle.dictionary_lookups.specs.declared.StringBounds.{StringBounds}
 use Rattle.dictionary_lookups.specs.declared.StringBounds.TheVariants.{Part, Past, Refused}
-use Rattle.dictionary_lookups.specs.Lending.{StringInput, bounds_in, bounded_refusal, string_schema, LentString, LendsRight}
+use Rattle.dictionary_lookups.specs.Lending.{StringInput, bounds_in, bounded_refusal, string_call, LentString, LendsRight}
 use Rattle.dictionary_lookups.proofs.Finding.{Equals, wrong_dictionary, right_dictionary}
 
 no_refusal : (b : Bool) (ends : List ℕ) (n x : ℕ) → ¬ (cond b (Part (get_or (0 ∷ ends) n 0) (get_or ends n 0)) Past ≡ Refused x)
@@ -27,7 +27,7 @@ tells_none : (b : Bool) (ends : List ℕ) (n : ℕ) → bounded_refusal (cond b 
 tells_none true ends n = refl
 tells_none false ends n = refl
 
-pub string_right_lem : RightCall string_schema
+pub string_right_lem : RightCall string_call
 string_right_lem =
     record {
       order = λ i. refl;
@@ -39,8 +39,8 @@ string_right_lem =
       counting = λ i h. refl;
     }
 
-pub string_refusals : (i : StringInput) → CallRefusals string_schema i
-string_refusals i = call_refusals string_schema string_right_lem i
+pub string_refusals : (i : StringInput) → CallRefusals string_call i
+string_refusals i = call_refusals string_call string_right_lem i
 
 -- the bounds of a number that there is, and past the last
 pub bounds_within : (ends : List ℕ) (n : ℕ) → n < length ends → bounds_in ends n ≡ Part (get_or (0 ∷ ends) n 0) (get_or ends n 0)
@@ -50,19 +50,19 @@ pub bounds_past : (ends : List ℕ) (n : ℕ) → length ends ≤ n → bounds_i
 bounds_past ends n h = rw (le-ltb n (length ends) h)
 
 -- ---- a result that the code has, by what it knows
-pub string_refused : (i : StringInput) → dictionary_right i.kind i.bytes i.ends ≡ false → Equals string_schema i (Refused 28)
-string_refused i e = call_told string_schema string_right_lem i (sym (by_number_lem string_schema string_right_lem i 28 (wrong_dictionary i.kind i.bytes i.ends e)))
+pub string_refused : (i : StringInput) → dictionary_right i.kind i.bytes i.ends ≡ false → Equals string_call i (Refused 28)
+string_refused i e = call_told string_call string_right_lem i (sym (by_number_lem string_call string_right_lem i 28 (wrong_dictionary i.kind i.bytes i.ends e)))
 
 pub string_served : (i : StringInput) → dictionary_right i.kind i.bytes i.ends ≡ true
-    → (b : StringBounds) → b ≡ bounds_in i.ends i.number → Equals string_schema i b
+    → (b : StringBounds) → b ≡ bounds_in i.ends i.number → Equals string_call i b
 string_served i r b e =
-    call_told string_schema string_right_lem i
-    (ap (λ k. record { answer = k; buffers = tt }) e ∙ sym (by_none string_schema string_right_lem i (right_dictionary i.kind i.bytes i.ends r)))
+    call_told string_call string_right_lem i
+    (ap (λ k. record { answer = k; buffers = tt }) e ∙ sym (by_none string_call string_right_lem i (right_dictionary i.kind i.bytes i.ends r)))
 
 module _ (i : StringInput) (r : dictionary_right i.kind i.bytes i.ends ≡ true) where
-  answered : (result_of_call string_schema i).answer ≡ bounds_in i.ends i.number
+  answered : (result_of_call string_call i).answer ≡ bounds_in i.ends i.number
   answered = ap (λ (o : CallResult StringBounds (Unit {0})). o.answer)
-      (by_none string_schema string_right_lem i (right_dictionary i.kind i.bytes i.ends r))
+      (by_none string_call string_right_lem i (right_dictionary i.kind i.bytes i.ends r))
 
   bounds_by : Decided (ltb i.number (length i.ends)) → (a e : ℕ) → bounds_in i.ends i.number ≡ Part a e → LentString i a e
   bounds_by (no f) a e p = absurd

@@ -44,8 +44,8 @@ found_lookup (Absent n) = some (lookup.Absent n)
 found_lookup (Refused x) = none
 
 -- ---- the call
-abbrev pub find_schema : CallSchema FindInput StringFound StringFound (Unit {0}) (Option Lookup)
-find_schema =
+abbrev pub find_call : CallSchema FindInput StringFound StringFound (Unit {0}) (Option Lookup)
+find_call =
     record {
       tests = λ i. dictionary_tests i.kind i.bytes i.ends;
       numbers = λ i. 28 ∷ [];
@@ -69,8 +69,8 @@ pub record HoldsString (bytes ends s : List ℕ) (n : ℕ) : Type 0 where
 
 pub record FindsRight (i : FindInput) : Type 0 where
   -- a number is answered exactly where the string stands there
-  pub at : (n : ℕ) → ((result_of_call find_schema i).answer ≡ At n) ↔ HoldsString i.bytes i.ends i.sought n
+  pub at : (n : ℕ) → ((result_of_call find_call i).answer ≡ At n) ↔ HoldsString i.bytes i.ends i.sought n
   -- a rank is answered where it stands nowhere, and those that come before it are those below the rank
-  pub nowhere : (n : ℕ) → (result_of_call find_schema i).answer ≡ Absent n → (m : ℕ) → ¬ HoldsString i.bytes i.ends i.sought m
-  pub rank : (n : ℕ) → (result_of_call find_schema i).answer ≡ Absent n → (m : ℕ) → m < length i.ends
+  pub nowhere : (n : ℕ) → (result_of_call find_call i).answer ≡ Absent n → (m : ℕ) → ¬ HoldsString i.bytes i.ends i.sought m
+  pub rank : (n : ℕ) → (result_of_call find_call i).answer ≡ Absent n → (m : ℕ) → m < length i.ends
       → string_before (get_or (strings_of i.bytes i.ends) m []) i.sought ≡ ltb m n

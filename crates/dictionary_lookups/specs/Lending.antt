@@ -28,8 +28,8 @@ bounded_refusal Past = 0
 bounded_refusal (Refused x) = x
 
 -- ---- the call. An answer counts no words
-abbrev pub string_schema : CallSchema StringInput StringBounds StringBounds (Unit {0}) (Unit {0})
-string_schema =
+abbrev pub string_call : CallSchema StringInput StringBounds StringBounds (Unit {0}) (Unit {0})
+string_call =
     record {
       tests = λ i. dictionary_tests i.kind i.bytes i.ends;
       numbers = λ i. 28 ∷ [];
@@ -54,5 +54,5 @@ pub record LentString (i : StringInput) (a e : ℕ) : Type 0 where
   pub is : byte_range i.bytes a e ≡ get_or (strings_of i.bytes i.ends) i.number []
 
 pub record LendsRight (i : StringInput) : Type 0 where
-  pub bounds : (a e : ℕ) → (result_of_call string_schema i).answer ≡ Part a e → LentString i a e
-  pub past : ((result_of_call string_schema i).answer ≡ Past) ↔ (length i.ends ≤ i.number)
+  pub bounds : (a e : ℕ) → (result_of_call string_call i).answer ≡ Part a e → LentString i a e
+  pub past : ((result_of_call string_call i).answer ≡ Past) ↔ (length i.ends ≤ i.number)

@@ -3,8 +3,8 @@
 
 ghost use Rattle.std.specs.Prelude.{◌≡◌};
 ghost use Rattle.calls.specs.Calls.{result_of_call, AnswersRight};
-ghost use Rattle.dictionary_lookups.specs.Finding.{find_input, find_schema};
-ghost use Rattle.dictionary_lookups.specs.Lending.{string_input, string_schema};
+ghost use Rattle.dictionary_lookups.specs.Finding.{find_input, find_call};
+ghost use Rattle.dictionary_lookups.specs.Lending.{string_input, string_call};
 
 use dictionaries::{Lookup, StringKind};
 use dictionary_searches::start_of;
@@ -32,8 +32,8 @@ pub enum StringBounds {
 // Looks for `sought` in a dictionary of names or of texts, as `kind` says.
 pub fn find(kind: StringKind, bytes: &[u8], ends: &[u32], sought: &[u8]) -> StringFound
     ensures tt_value { record { answer = result; buffers = tt }
-        ≡ result_of_call find_schema (find_input kind bytes.now ends.now sought.now) }
-    ensures number { AnswersRight find_schema (find_input kind bytes.now ends.now sought.now) result }
+        ≡ result_of_call find_call (find_input kind bytes.now ends.now sought.now) }
+    ensures number { AnswersRight find_call (find_input kind bytes.now ends.now sought.now) result }
 {
     if !dictionary_right(kind, bytes, ends) {
         return StringFound::Refused(DICTIONARY);
@@ -47,8 +47,8 @@ pub fn find(kind: StringKind, bytes: &[u8], ends: &[u32], sought: &[u8]) -> Stri
 
 // Where the string with the number `n` starts in `bytes`, and where it ends.
 pub fn string(kind: StringKind, bytes: &[u8], ends: &[u32], n: usize) -> StringBounds
-    ensures tt_value { record { answer = result; buffers = tt } ≡ result_of_call string_schema (string_input kind bytes.now ends.now n) }
-    ensures number { AnswersRight string_schema (string_input kind bytes.now ends.now n) result }
+    ensures tt_value { record { answer = result; buffers = tt } ≡ result_of_call string_call (string_input kind bytes.now ends.now n) }
+    ensures number { AnswersRight string_call (string_input kind bytes.now ends.now n) result }
 {
     if !dictionary_right(kind, bytes, ends) {
         return StringBounds::Refused(DICTIONARY);

@@ -19,7 +19,7 @@ use Rattle.dictionaries.proofs.Searching.{strings_length}
 use Rattle.dictionary_numberings.specs.declared.DictionaryWritten.{DictionaryWritten}
 use Rattle.dictionary_numberings.specs.declared.DictionaryWritten.TheVariants.{Sizes, Refused}
 use Rattle.dictionary_numberings.specs.Numbering.{insert_once, strings_once, ends_after}
-use Rattle.dictionary_numberings.specs.NumberCall.{NumberBuffers, number_buffers, NumberInput, number_input, given_right, number_room, number_schema}
+use Rattle.dictionary_numberings.specs.NumberCall.{NumberBuffers, number_buffers, NumberInput, number_input, given_right, number_room, number_call}
 
 unfoldable computing : Unit {0}
 unfolding result_of_call first_failing given_right number_room ends_right strings_from all member after_first formed_from code_points_from iri_character string_before
@@ -37,7 +37,7 @@ result answer buffers = record { answer = answer; buffers = buffers }
 abbrev five_texts : NumberBuffers → NumberInput
 five_texts b = number_input Texts (0x62 ∷ 0x61 ∷ 0x62 ∷ 0x61 ∷ 0x62 ∷ []) (1 ∷ 2 ∷ 3 ∷ 5 ∷ 5 ∷ []) b
 
-five_texts_lem : result_of_call number_schema (five_texts (sevens 6 6 6 6))
+five_texts_lem : result_of_call number_call (five_texts (sevens 6 6 6 6))
     ≡ result (Sizes 4 4)
     (number_buffers (0x61 ∷ 0x61 ∷ 0x62 ∷ 0x62 ∷ 7 ∷ 7 ∷ []) (0 ∷ 1 ∷ 3 ∷ 4 ∷ 7 ∷ 7 ∷ [])
     (3 ∷ 1 ∷ 3 ∷ 2 ∷ 0 ∷ 7 ∷ []) (4 ∷ 1 ∷ 3 ∷ 0 ∷ 2 ∷ 7 ∷ []))
@@ -45,23 +45,23 @@ unfolding computing
 five_texts_lem = refl
 
 -- room is asked for by lengths alone: five bytes, though four are written, and five of each of the words; with one less of any it is refused by 27
-exact_room : (result_of_call number_schema (five_texts (sevens 5 5 5 5))).answer ≡ Sizes 4 4
+exact_room : (result_of_call number_call (five_texts (sevens 5 5 5 5))).answer ≡ Sizes 4 4
 unfolding computing
 exact_room = refl
 
-short_bytes : result_of_call number_schema (five_texts (sevens 4 5 5 5)) ≡ result (Refused 27) (sevens 4 5 5 5)
+short_bytes : result_of_call number_call (five_texts (sevens 4 5 5 5)) ≡ result (Refused 27) (sevens 4 5 5 5)
 unfolding computing
 short_bytes = refl
 
-short_ends : result_of_call number_schema (five_texts (sevens 5 4 5 5)) ≡ result (Refused 27) (sevens 5 4 5 5)
+short_ends : result_of_call number_call (five_texts (sevens 5 4 5 5)) ≡ result (Refused 27) (sevens 5 4 5 5)
 unfolding computing
 short_ends = refl
 
-short_numbers : result_of_call number_schema (five_texts (sevens 5 5 4 5)) ≡ result (Refused 27) (sevens 5 5 4 5)
+short_numbers : result_of_call number_call (five_texts (sevens 5 5 4 5)) ≡ result (Refused 27) (sevens 5 5 4 5)
 unfolding computing
 short_numbers = refl
 
-short_places : result_of_call number_schema (five_texts (sevens 5 5 5 4)) ≡ result (Refused 27) (sevens 5 5 5 4)
+short_places : result_of_call number_call (five_texts (sevens 5 5 5 4)) ≡ result (Refused 27) (sevens 5 5 5 4)
 unfolding computing
 short_places = refl
 
@@ -69,24 +69,24 @@ short_places = refl
 abbrev four_names : NumberBuffers → NumberInput
 four_names b = number_input Names (0xF0 ∷ 0x9D ∷ 0x84 ∷ 0x9E ∷ 0xEF ∷ 0xBD ∷ 0x9E ∷ 0xC3 ∷ 0xA9 ∷ 0x7A ∷ []) (4 ∷ 7 ∷ 9 ∷ 10 ∷ []) b
 
-four_names_lem : result_of_call number_schema (four_names (sevens 10 4 4 4))
+four_names_lem : result_of_call number_call (four_names (sevens 10 4 4 4))
     ≡ result (Sizes 10 4)
     (number_buffers (0x7A ∷ 0xC3 ∷ 0xA9 ∷ 0xEF ∷ 0xBD ∷ 0x9E ∷ 0xF0 ∷ 0x9D ∷ 0x84 ∷ 0x9E ∷ []) (1 ∷ 3 ∷ 6 ∷ 10 ∷ [])
     (3 ∷ 2 ∷ 1 ∷ 0 ∷ []) (3 ∷ 2 ∷ 1 ∷ 0 ∷ []))
 unfolding computing
 four_names_lem = refl
 
-nine_bytes : result_of_call number_schema (four_names (sevens 9 4 4 4)) ≡ result (Refused 27) (sevens 9 4 4 4)
+nine_bytes : result_of_call number_call (four_names (sevens 9 4 4 4)) ≡ result (Refused 27) (sevens 9 4 4 4)
 unfolding computing
 nine_bytes = refl
 
-no_strings : result_of_call number_schema (number_input Names [] [] (sevens 1 0 0 0)) ≡ result (Sizes 0 0) (sevens 1 0 0 0)
+no_strings : result_of_call number_call (number_input Names [] [] (sevens 1 0 0 0)) ≡ result (Sizes 0 0) (sevens 1 0 0 0)
 unfolding computing
 no_strings = refl
 
 -- ---- 26: ends that fall, one past the bytes, bytes left over, no UTF-8; for names the empty one and a blank. Before 27, which the same buffers fail
 abbrev wrong : StringKind → List ℕ → List ℕ → Type 0
-wrong k bytes ends = result_of_call number_schema (number_input k bytes ends (sevens 0 0 0 0)) ≡ result (Refused 26) (sevens 0 0 0 0)
+wrong k bytes ends = result_of_call number_call (number_input k bytes ends (sevens 0 0 0 0)) ≡ result (Refused 26) (sevens 0 0 0 0)
 
 ends_fall : wrong Texts (0x61 ∷ 0x62 ∷ 0x63 ∷ []) (2 ∷ 1 ∷ 3 ∷ [])
 unfolding computing

@@ -61,8 +61,8 @@ written_sizes (Sizes bytes strings) = record { bytes = bytes; strings = strings 
 written_sizes (Refused x) = record { bytes = 0; strings = 0 }
 
 -- ---- the call: the dictionary of the strings and their numbers stand over the first words of the buffers, and the places sorted by their strings
-abbrev pub number_schema : CallSchema NumberInput DictionaryWritten DictionaryWritten NumberBuffers DictionarySizes
-number_schema =
+abbrev pub number_call : CallSchema NumberInput DictionaryWritten DictionaryWritten NumberBuffers DictionarySizes
+number_call =
     record {
       tests = numbering_tests;
       numbers = λ i. 26 ∷ 27 ∷ [];
@@ -81,13 +81,13 @@ number_schema =
 
 -- ---- what a call leaves: as many bytes and ends as it answers, and a number for each string
 abbrev pub bytes_left : NumberInput → List ℕ
-bytes_left i = take (written_sizes (result_of_call number_schema i).answer).bytes (result_of_call number_schema i).buffers.bytes
+bytes_left i = take (written_sizes (result_of_call number_call i).answer).bytes (result_of_call number_call i).buffers.bytes
 
 abbrev pub ends_left : NumberInput → List ℕ
-ends_left i = take (written_sizes (result_of_call number_schema i).answer).strings (result_of_call number_schema i).buffers.ends
+ends_left i = take (written_sizes (result_of_call number_call i).answer).strings (result_of_call number_call i).buffers.ends
 
 abbrev pub numbers_left : NumberInput → List ℕ
-numbers_left i = take (length i.ends) (result_of_call number_schema i).buffers.numbers
+numbers_left i = take (length i.ends) (result_of_call number_call i).buffers.numbers
 
 -- the dictionary of the strings given and their numbers
 abbrev pub NumbersRight : NumberInput → Type 0

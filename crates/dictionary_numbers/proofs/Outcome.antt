@@ -16,7 +16,7 @@ use Rattle.dictionaries.proofs.Searching.{strings_length}
 use Rattle.dictionary_numberings.specs.declared.DictionaryWritten.TheVariants.{Sizes, Refused}
 use Rattle.dictionary_numberings.specs.Numbering.{strings_once, bytes_once, ends_once, string_numbers}
 use Rattle.dictionary_numberings.specs.Sorted.{sorted_places}
-use Rattle.dictionary_numberings.specs.NumberCall.{NumberBuffers, number_buffers, NumberInput, given_strings, given_right, number_room, number_schema}
+use Rattle.dictionary_numberings.specs.NumberCall.{NumberBuffers, number_buffers, NumberInput, given_strings, given_right, number_room, number_call}
 use Rattle.dictionary_numberings.proofs.Places.{places_length}
 use Rattle.dictionary_numberings.proofs.NumberCall.{given_strings_lem}
 
@@ -47,7 +47,7 @@ module _ (bytes strings : ℕ) (b : NumberBuffers) where
 
 module _ (i : NumberInput) where
   pub wrong_strings : given_right i.kind i.bytes i.ends ≡ false
-      → record { answer = Refused 26; buffers = i.buffers } ≡ result_of_call number_schema i
+      → record { answer = Refused 26; buffers = i.buffers } ≡ result_of_call number_call i
   unfolding result_of_call first_failing
   wrong_strings e = rw e
 
@@ -61,13 +61,13 @@ module _ (i : NumberInput) where
         )
 
     pub no_room : number_room (length i.bytes) (length i.ends) i.buffers ≡ false
-        → record { answer = Refused 27; buffers = i.buffers } ≡ result_of_call number_schema i
+        → record { answer = Refused 27; buffers = i.buffers } ≡ result_of_call number_call i
     unfolding result_of_call first_failing
     no_room e = rw (g, e)
 
     -- a result with the dictionary, and with words of which only the first are lent
     module _ (r : number_room (length i.bytes) (length i.ends) i.buffers ≡ true) where
-      answered : record { answer = number_schema.serves i; buffers = number_schema.leaves i } ≡ result_of_call number_schema i
+      answered : record { answer = number_call.serves i; buffers = number_call.leaves i } ≡ result_of_call number_call i
       unfolding result_of_call first_failing
       answered = rw (g, r)
 
@@ -78,7 +78,7 @@ module _ (i : NumberInput) where
             answer = Sizes a b;
             buffers = number_buffers out cuts (ns ++ drop (length i.ends) i.buffers.numbers)
                 (ps ++ drop (length i.ends) i.buffers.places);
-          } ≡ result_of_call number_schema i
+          } ≡ result_of_call number_call i
       served a b out cuts ns ps c d e f n p =
           let l = sym (length-map (given_strings i) (string_rank (strings_once (given_strings i))) ∙ strings_length i.bytes 0 i.ends) in
           let m = sym (places_length i.bytes i.ends) in

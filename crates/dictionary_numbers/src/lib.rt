@@ -6,7 +6,7 @@ mod writing;
 
 ghost use Rattle.std.specs.Prelude.{◌≡◌};
 ghost use Rattle.calls.specs.Calls.{result_of_call, AnswersRight};
-ghost use Rattle.dictionary_numberings.specs.NumberCall.{number_buffers, number_input, number_schema};
+ghost use Rattle.dictionary_numberings.specs.NumberCall.{number_buffers, number_input, number_call};
 
 use dictionaries::StringKind;
 use dictionary_numberings::DictionaryWritten;
@@ -31,9 +31,9 @@ pub fn number(
     places: &mut [u32],
 ) -> DictionaryWritten
     ensures places_after { record { answer = result; buffers = number_buffers out.new cuts.new numbers.new places.new }
-        ≡ result_of_call number_schema (number_input kind bytes.now ends.now
+        ≡ result_of_call number_call (number_input kind bytes.now ends.now
         (number_buffers out.old cuts.old numbers.old places.old)) }
-    ensures number { AnswersRight number_schema (number_input kind bytes.now ends.now
+    ensures number { AnswersRight number_call (number_input kind bytes.now ends.now
         (number_buffers out.old cuts.old numbers.old places.old)) result }
 {
     if !given_right(kind, bytes, ends) {

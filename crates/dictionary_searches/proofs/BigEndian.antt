@@ -86,7 +86,7 @@ unfolding big_endian
 byte_none bs v = refl
 
 -- eight of them
-eight_bytes : (bs : List ℕ) (i a b c d e f g h : ℕ) → i + 8 ≤ length bs
+pub eight_bytes : (bs : List ℕ) (i a b c d e f g h : ℕ) → i + 8 ≤ length bs
     → a ≡ 0 * 256 + get_or bs i 0 → b ≡ a * 256 + get_or bs (i + 1) 0 → c ≡ b * 256 + get_or bs (i + 2) 0 → d ≡ c * 256 + get_or bs (i + 3) 0
     → e ≡ d * 256 + get_or bs (i + 4) 0 → f ≡ e * 256 + get_or bs (i + 5) 0 → g ≡ f * 256 + get_or bs (i + 6) 0 → h ≡ g * 256 + get_or bs (i + 7) 0
     → h ≡ big_endian 0 8 (drop i bs)

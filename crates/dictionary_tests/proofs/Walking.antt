@@ -4,7 +4,7 @@ use native.Mathlib.Omega.{arith}
 use native.Mathlib.Numerals.{add-one}
 use mathlib.Core.Path.{◌≡◌, refl, sym, ◌∙◌, ap}
 use mathlib.Core.Bool.{Bool, true, false, ◌&&◌, ◌||◌}
-use mathlib.Core.List.{List}
+use mathlib.Core.List.{List, ◌∷◌}
 use lib.Dec.{eqb}
 use lib.ListN.{length, get_or, drop, drop_of_length-le}
 use lib.Seq.{drop-cons}
@@ -87,3 +87,44 @@ module _ {A : Type 0} (g : A → A → Bool) (xs : List A) (d : A) (i : ℕ) whe
   pub next_ends : length xs ≤ i → neighbours g (drop i xs) ≡ true
   unfolding neighbours
   next_ends h = rw (drop_of_length-le xs {i = i} h) refl
+
+-- ---- each element passes, and each two neighbours do, from a place on
+abbrev pub both_from : {A : Type 0} → (A → Bool) → (A → A → Bool) → List A → ℕ → Bool
+both_from f g xs i = all f (drop i xs) && neighbours g (drop i xs)
+
+module _ {A : Type 0} (f : A → Bool) (g : A → A → Bool) (xs : List A) (d : A) (i : ℕ) where
+  -- an element, and where it is not the last the next one
+  both_by : i < length xs → f (get_or xs i d) ≡ true → eqb (suc i) (length xs) || g (get_or xs i d) (get_or xs (suc i) d) ≡ true
+      → Decided (eqb (suc i) (length xs)) → both_from f g xs i ≡ both_from f g xs (suc i)
+  unfolding all neighbours
+  both_by h e k (yes z) =
+      let l = eqb-true (suc i) (length xs) z in
+      rw (drop-cons xs i d h, drop_of_length-le xs {i = suc i} (omega arith), e) refl
+  both_by h e k (no z) =
+      let n = eqb-false (suc i) (length xs) z in
+      let s = or_rest (eqb (suc i) (length xs)) (g (get_or xs i d) (get_or xs (suc i) d)) z k in
+      rw (drop-cons xs i d h, drop-cons xs (suc i) d (omega arith), e, s) refl
+
+  pub both_step : i < length xs → f (get_or xs i d) ≡ true → eqb (i + 1) (length xs) || g (get_or xs i d) (get_or xs (i + 1) d) ≡ true
+      → both_from f g xs i ≡ both_from f g xs (i + 1)
+  both_step h e k = rw (add-one i) (both_by h e (rw (add-one i) at k) (decided (eqb (suc i) (length xs))))
+
+  pub both_wrong : i < length xs → f (get_or xs i d) ≡ false → both_from f g xs i ≡ false
+  unfolding all neighbours
+  both_wrong h e = rw (drop-cons xs i d h, e) refl
+
+  apart_by : i < length xs → f (get_or xs i d) ≡ true → eqb (suc i) (length xs) || g (get_or xs i d) (get_or xs (suc i) d) ≡ false
+      → both_from f g xs i ≡ false
+  unfolding all neighbours
+  apart_by h e k =
+      let n = eqb-false (suc i) (length xs) (or_left (eqb (suc i) (length xs)) _ k) in
+      let s = or_right (eqb (suc i) (length xs)) (g (get_or xs i d) (get_or xs (suc i) d)) k in
+      rw (drop-cons xs i d h, drop-cons xs (suc i) d (omega arith), e, s) (and-false (all f (get_or xs (suc i) d ∷ drop (suc (suc i)) xs)))
+
+  pub both_apart : i < length xs → f (get_or xs i d) ≡ true → eqb (i + 1) (length xs) || g (get_or xs i d) (get_or xs (i + 1) d) ≡ false
+      → both_from f g xs i ≡ false
+  both_apart h e k = apart_by h e (rw (add-one i) at k)
+
+  pub both_none : length xs ≤ i → both_from f g xs i ≡ true
+  unfolding all neighbours
+  both_none h = rw (drop_of_length-le xs {i = i} h) refl

@@ -4,15 +4,15 @@
 mod names;
 mod strings;
 
-ghost use Rattle.std.specs.Prelude.{◌≡◌, true, ◌||◌, ◌+◌, ◌<◌, eqb, length};
-ghost use Rattle.sequences.specs.Sequences.{neighbours};
+ghost use Rattle.std.specs.Prelude.{◌≡◌, true, ◌&&◌, ◌||◌, ◌+◌, ◌<◌, eqb, length};
+ghost use Rattle.sequences.specs.Sequences.{all, neighbours};
 ghost use Rattle.dictionaries.specs.Strings.{string_before};
 ghost use Rattle.dictionaries.specs.Dictionaries.{strings_of, ends_right, place_before};
-ghost use Rattle.dictionaries.specs.Checking.{dictionary_right};
+ghost use Rattle.dictionaries.specs.Checking.{string_right, dictionary_right};
 
 use dictionaries::StringKind;
-use dictionary_searches::is_before;
-pub use strings::each_right;
+use dictionary_searches::stands_before;
+pub use strings::{each_right, string_right};
 
 // The most strings of a dictionary, so that the number after the last is a value too.
 pub const MOST_STRINGS: usize = 0x3FFF_FFFF;
@@ -43,7 +43,7 @@ fn next_right(bytes: &[u8], ends: &[u32], i: usize) -> bool
     if i + 1 == ends.len() {
         return true;
     }
-    is_before(bytes, ends, i, i + 1)
+    stands_before(bytes, ends, i, i + 1)
 }
 
 // Whether each string comes before the next.
@@ -61,6 +61,19 @@ fn strings_ascend(bytes: &[u8], ends: &[u32]) -> bool
     true
 }
 
+// Whether each string is as `kind` wants it, and comes before the next.
+fn strings_right(kind: StringKind, bytes: &[u8], ends: &[u32]) -> bool
+    requires { ends_right (length bytes.now) 0 ends.now ≡ true }
+    ensures { result
+        ≡ (all (string_right kind) (strings_of bytes.now ends.now)
+        && neighbours string_before (strings_of bytes.now ends.now)) }
+{
+    if !each_right(kind, bytes, ends) {
+        return false;
+    }
+    strings_ascend(bytes, ends)
+}
+
 // Whether a dictionary is right for the strings that `kind` names.
 pub fn dictionary_right(kind: StringKind, bytes: &[u8], ends: &[u32]) -> bool
     ensures { result ≡ dictionary_right kind bytes.now ends.now }
@@ -71,8 +84,5 @@ pub fn dictionary_right(kind: StringKind, bytes: &[u8], ends: &[u32]) -> bool
     if !ends_right(bytes.len(), ends) {
         return false;
     }
-    if !each_right(kind, bytes, ends) {
-        return false;
-    }
-    strings_ascend(bytes, ends)
+    strings_right(kind, bytes, ends)
 }

@@ -12,7 +12,7 @@ use dictionary_checks::{is_ascii, well_formed};
 use dictionary_searches::string;
 
 // Whether `s` is a string as `kind` wants it.
-fn string_right(kind: StringKind, s: &[u8]) -> bool
+pub fn string_right(kind: StringKind, s: &[u8]) -> bool
     ensures { result ≡ string_right kind s.now }
 {
     if !well_formed(s) {

@@ -15,7 +15,7 @@ use Rattle.dictionaries.specs.Dictionaries.{strings_of}
 use Rattle.dictionaries.specs.Lookups.{lookup_in}
 use Rattle.dictionaries.proofs.Strings.{before_ordered}
 use Rattle.dictionaries.proofs.Searching.{lookup_at, strings_length}
-use Rattle.dictionary_numberings.specs.NumberCall.{NumberInput, given_strings, number_schema, bytes_left, ends_left, numbers_left}
+use Rattle.dictionary_numberings.specs.NumberCall.{NumberInput, given_strings, number_call, bytes_left, ends_left, numbers_left}
 use Rattle.dictionary_numberings.proofs.NumberCall.{bytes_left_lem, ends_left_lem, numbers_right}
 use Rattle.sparql.specs.Terms.{iri, text}
 use Rattle.sparql_strings.specs.Decoding.{term_decoded}
@@ -27,7 +27,7 @@ use Rattle.encodings.proofs.Encoded.{encoded}
 use Rattle.encodings.proofs.Gathered.{encodes}
 
 -- ---- the word of a string that a served call was given
-found_numbered : (i : NumberInput) → NotRefused number_schema i → (kind : ℕ → ℕ) (ss : List (List ℕ)) → given_strings i ≡ ss
+found_numbered : (i : NumberInput) → NotRefused number_call i → (kind : ℕ → ℕ) (ss : List (List ℕ)) → given_strings i ≡ ss
     → (k : ℕ) → k < length ss
     → found_word kind (lookup_in (strings_of (bytes_left i) (ends_left i)) (get_or ss k [])) ≡ some (kind (get_or (numbers_left i) k 0))
 found_numbered i h kind ss e k l =

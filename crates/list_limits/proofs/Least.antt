@@ -21,7 +21,7 @@ use Rattle.plans.specs.Reading.{ending_kind_in, variables_in, best_in}
 use Rattle.registers.specs.Registers.{register_count}
 use Rattle.lists.specs.Groups.{totals_width}
 use Rattle.lists.specs.Gathering.{least_output}
-use Rattle.list_limits.specs.PlanOutputs.{output_schema}
+use Rattle.list_limits.specs.PlanOutputs.{output_as, plan_output, output_schema}
 use Rattle.plans.proofs.EndingRead.{is_rows_lem, is_top, is_group, is_registers}
 use Rattle.plan_tests.proofs.Checked.{check_passes, check_refuses}
 use Rattle.list_limits.proofs.Refusals.{output_is_right}
@@ -77,9 +77,18 @@ top_fits ws vs k ev ek h =
 
 -- ---- what is answered of a plan
 module _ (plan : List ℕ) (n : ℕ) (e : n ≡ number_of (first_failing (plan_tests plan))) where
-  pub output_refused : (n ≡ 0 → ⊥) → record { answer = Refused n; buffers = tt } ≡ result_of_call output_schema plan
-  output_refused h = sym (by_number_lem output_schema output_is_right plan n (check_refuses plan n e h))
+  pub output_refused : (n ≡ 0 → ⊥) → Refused n ≡ plan_output plan
+  unfolding plan_output
+  output_refused h = sym (ap (output_as plan) (check_refuses plan n e h))
 
-  pub output_asked : n ≡ 0 → (w : ℕ) (x : Ending) → w ≡ least_output x → x ≡ (plan_of plan).ending
+  pub output_asked : n ≡ 0 → (w : ℕ) (x : Ending) → w ≡ least_output x → x ≡ (plan_of plan).ending → Words w ≡ plan_output plan
+  unfolding plan_output
+  output_asked z w x ew ex = rw (ew, ex) (sym (ap (output_as plan) (check_passes plan (sym e ∙ z))))
+
+  -- the same as a call
+  pub call_refused : (n ≡ 0 → ⊥) → record { answer = Refused n; buffers = tt } ≡ result_of_call output_schema plan
+  call_refused h = sym (by_number_lem output_schema output_is_right plan n (check_refuses plan n e h))
+
+  pub call_asked : n ≡ 0 → (w : ℕ) (x : Ending) → w ≡ least_output x → x ≡ (plan_of plan).ending
       → record { answer = Words w; buffers = tt } ≡ result_of_call output_schema plan
-  output_asked z w x ew ex = rw (ew, ex) (sym (by_none output_schema output_is_right plan (check_passes plan (sym e ∙ z))))
+  call_asked z w x ew ex = rw (ew, ex) (sym (by_none output_schema output_is_right plan (check_passes plan (sym e ∙ z))))

@@ -1,3 +1,4 @@
 pub mod Least
 pub mod ByKind
+pub mod OutputRefusals
 pub mod Refusals

@@ -19,5 +19,5 @@ output_is_right =
       counting = λ plan h. refl;
     }
 
-pub output_refusals : (plan : List ℕ) → CallRefusals output_schema plan
-output_refusals plan = call_refusals output_schema output_is_right plan
+pub output_call_refusals : (plan : List ℕ) → CallRefusals output_schema plan
+output_call_refusals plan = call_refusals output_schema output_is_right plan

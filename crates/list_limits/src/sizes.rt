@@ -3,7 +3,7 @@ ghost use Rattle.std.specs.Prelude.{◌≡◌, true};
 ghost use Rattle.plans.specs.Endings.{ending_form, ending_at};
 ghost use Rattle.lists.specs.Gathering.{least_output};
 ghost use Rattle.calls.specs.Calls.{result_of_call, AnswersRight};
-ghost use Rattle.list_limits.specs.PlanOutputs.{output_schema};
+ghost use Rattle.list_limits.specs.PlanOutputs.{plan_output, output_schema};
 
 use plans::EndingKind;
 use words::Written;
@@ -28,6 +28,7 @@ pub fn least_output(ending: &[u32]) -> usize
 
 // The fewest words that an output may have for `plan`, or the number of the test that refuses the plan.
 pub fn plan_output(plan: &[u32]) -> Written
+    ensures asked { result ≡ plan_output plan.now }
     ensures tt_value { record { answer = result; buffers = tt } ≡ result_of_call output_schema plan.now }
     ensures number { AnswersRight output_schema plan.now result }
 {

@@ -1,5 +1,4 @@
-// Entries of waiting queries in a lent list: looked over, read, settled by places. Few and thin functions, proved by hand: the borrow checker does not
-// cover a slice of structs.
+// Entries of waiting queries in a lent list: looked over, read, settled by places. Few and thin functions.
 #![tactic(auto)]
 
 ghost use Rattle.queues.specs.Lists.{lent_as, owners_in};

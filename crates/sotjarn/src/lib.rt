@@ -1,5 +1,5 @@
 // The calls for programs in other languages: an answer is a struct of numbers, and a buffer its address and its length in words, of strings in bytes.
-// bindings/c/sotjarn.h declares them for C. Those over lists of entries are walked by hand.
+// bindings/c/sotjarn.h declares them for C.
 #![tactic(auto)]
 
 ghost use Rattle.std.specs.Prelude.{◌≡◌};
@@ -17,9 +17,9 @@ ghost use Rattle.queues.specs.Joining.{join_queue_of};
 ghost use Rattle.queues.specs.Serving.{serve_of};
 ghost use Rattle.queues.specs.ToppingUp.{top_up_of};
 ghost use Rattle.calls.specs.Calls.{result_of_call};
-ghost use Rattle.dictionary_numberings.specs.NumberCall.{number_buffers, number_input, number_schema};
-ghost use Rattle.dictionary_lookups.specs.Finding.{find_input, find_schema};
-ghost use Rattle.dictionary_lookups.specs.Lending.{string_input, string_schema};
+ghost use Rattle.dictionary_numberings.specs.NumberCall.{number_buffers, number_input, number_call};
+ghost use Rattle.dictionary_lookups.specs.Finding.{find_input, find_call};
+ghost use Rattle.dictionary_lookups.specs.Lending.{string_input, string_call};
 ghost use Rattle.call_numbers.specs.Numbers.{written_numbers, turned_numbers, made_numbers, queued_numbers, service_numbers, tables_numbers};
 ghost use Rattle.call_numbers.specs.Numbers.{kind_of, numbered_numbers, found_numbers, bounds_numbers};
 
@@ -274,15 +274,15 @@ pub extern "C" fn sotjarn_number(
     numbers: &mut [u32],
     places: &mut [u32],
 ) -> NumberedNumbers
-    ensures answer { result ≡ numbered_numbers (result_of_call number_schema (number_input (kind_of kind) bytes.now ends.now
+    ensures answer { result ≡ numbered_numbers (result_of_call number_call (number_input (kind_of kind) bytes.now ends.now
         (number_buffers out.old cuts.old numbers.old places.old))).answer }
-    ensures bytes { out.new ≡ (result_of_call number_schema (number_input (kind_of kind) bytes.now ends.now
+    ensures bytes { out.new ≡ (result_of_call number_call (number_input (kind_of kind) bytes.now ends.now
         (number_buffers out.old cuts.old numbers.old places.old))).buffers.bytes }
-    ensures ends { cuts.new ≡ (result_of_call number_schema (number_input (kind_of kind) bytes.now ends.now
+    ensures ends { cuts.new ≡ (result_of_call number_call (number_input (kind_of kind) bytes.now ends.now
         (number_buffers out.old cuts.old numbers.old places.old))).buffers.ends }
-    ensures numbers { numbers.new ≡ (result_of_call number_schema (number_input (kind_of kind) bytes.now ends.now
+    ensures numbers { numbers.new ≡ (result_of_call number_call (number_input (kind_of kind) bytes.now ends.now
         (number_buffers out.old cuts.old numbers.old places.old))).buffers.numbers }
-    ensures places { places.new ≡ (result_of_call number_schema (number_input (kind_of kind) bytes.now ends.now
+    ensures places { places.new ≡ (result_of_call number_call (number_input (kind_of kind) bytes.now ends.now
         (number_buffers out.old cuts.old numbers.old places.old))).buffers.places }
 {
     numbered_numbers(dictionary_numbers::number(
@@ -299,7 +299,7 @@ pub extern "C" fn sotjarn_number(
 // The number of `sought` in a dictionary of names or of texts, or how many of its strings come before it; or refuses.
 #[unsafe(no_mangle)]
 pub extern "C" fn sotjarn_find(kind: u32, bytes: &[u8], ends: &[u32], sought: &[u8]) -> FoundNumbers
-    ensures { result ≡ found_numbers (result_of_call find_schema (find_input (kind_of kind) bytes.now ends.now
+    ensures { result ≡ found_numbers (result_of_call find_call (find_input (kind_of kind) bytes.now ends.now
         sought.now)).answer }
 {
     found_numbers(dictionary_lookups::find(kind_of(kind), bytes, ends, sought))
@@ -314,7 +314,7 @@ pub extern "C" fn sotjarn_string(
     number: usize,
 ) -> BoundsNumbers
     ensures { result
-        ≡ bounds_numbers (result_of_call string_schema (string_input (kind_of kind) bytes.now ends.now number)).answer }
+        ≡ bounds_numbers (result_of_call string_call (string_input (kind_of kind) bytes.now ends.now number)).answer }
 {
     bounds_numbers(dictionary_lookups::string(kind_of(kind), bytes, ends, number))
 }

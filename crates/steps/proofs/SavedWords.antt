@@ -74,7 +74,7 @@ unfolding upper_in upper_words
 upper_back w [] rest e = refl
 upper_back w (p ∷ upper) rest e =
     let f = ltb-true p low_numbers (all_head fits_low p upper e) in
-    rw (append_assoc (upper_words upper) (place_word p ∷ []) rest)
+    subst (λ ws. upper_in (w ∷ ws) (length (p ∷ upper)) ≡ p ∷ upper) (sym (append_assoc (upper_words upper) (place_word p ∷ []) rest))
     (ap₂ ◌∷◌ (ap low (word_behind w upper (place_word p) rest) ∙ low_place p f) (upper_back w upper (place_word p ∷ rest) (all_tail fits_low p upper e)))
 
 -- what reads back is the position

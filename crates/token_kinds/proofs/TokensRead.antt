@@ -16,7 +16,7 @@ use Rattle.tokens.specs.Classes.{is_one_of, is_ascii_letter, is_iri_character, i
 use Rattle.tokens.specs.Runs.{run_length, first_is, starts_with, dotted_end, name_item}
 use Rattle.tokens.specs.Numerals.{token}
 use Rattle.tokens.specs.Texts.{wrong_at}
-use Rattle.tokens.specs.Tokens.{angle_by, angle_of, prefixed_of, word_token, named_by, named_of, blank_of, tag_end, tag_by, tag_of}
+use Rattle.tokens.specs.Tokens.{angle_by, angle_of, prefixed_of, word_of, named_by, named_of, blank_of, tag_end, tag_by, tag_of}
 use Rattle.tokens.proofs.RunBounds.{dotted_shift, tag_shift}
 use Rattle.token_runs.specs.RunClasses.{past_end}
 use Rattle.token_runs.proofs.Advancing.{second_at, starts_at}
@@ -77,16 +77,16 @@ module _ (points : List ℕ) (from : ℕ) where
   -- ---- names
   pub named_read : (c end : ℕ) → from ≤ end → end ≡ dotted_end name_item 0 (drop from points) from from
       → named_of c (drop from points)
-      ≡ cond (eqb (get_or points end past_end) 0x3A) (prefixed_of (end - from + 1) (drop (end + 1) points)) (word_token c (drop from points))
+      ≡ cond (eqb (get_or points end past_end) 0x3A) (prefixed_of (end - from + 1) (drop (end + 1) points)) (word_of c (drop from points))
   named_read c end h e =
       let cs = drop from points in
       let d : dotted_end name_item 0 cs 0 0 ≡ end - from = omega (arith, e, h, dotted_place cs from 0) in
       let y : from + (end - from) ≡ end = omega (arith, h) in
       let z : from + (end - from + 1) ≡ end + 1 = omega (arith, h) in
       ap (λ m. named_by m c cs) d
-      ∙ ap (λ b. cond b (prefixed_of (end - from + 1) (drop (end - from + 1) cs)) (word_token c cs))
+      ∙ ap (λ b. cond b (prefixed_of (end - from + 1) (drop (end - from + 1) cs)) (word_of c cs))
       (ap (starts_with 0x3A) (drop-drop (end - from) from points ∙ ap (λ m. drop m points) y) ∙ starts_at points end 0x3A refl)
-      ∙ ap (λ l. cond (eqb (get_or points end past_end) 0x3A) (prefixed_of (end - from + 1) l) (word_token c cs))
+      ∙ ap (λ l. cond (eqb (get_or points end past_end) 0x3A) (prefixed_of (end - from + 1) l) (word_of c cs))
       (drop-drop (end - from + 1) from points ∙ ap (λ m. drop m points) z)
 
   pub blank_read : blank_of (drop from points)

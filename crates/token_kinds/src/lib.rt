@@ -4,7 +4,7 @@
 ghost use Rattle.std.specs.Prelude.{◌≡◌, ◌≤◌, ◌<◌, length, drop};
 ghost use Rattle.tokens.specs.Classes.{name_spans};
 ghost use Rattle.tokens.specs.Numerals.{token};
-ghost use Rattle.tokens.specs.Tokens.{marked_token, angle_of, prefixed_of, word_token, named_of, blank_of, tag_of, pair_or, sign_of};
+ghost use Rattle.tokens.specs.Tokens.{variable_of, angle_of, prefixed_of, word_of, named_of, blank_of, tag_of, pair_or, sign_of};
 ghost use Rattle.token_classes.specs.SpanWords.{spans_of};
 
 use token_classes::{either, is_ascii_letter, is_sign};
@@ -26,7 +26,7 @@ pub fn make_token(kind: TokenKind, size: usize) -> Token
 // A variable, or its sign alone, `c`, which stands before `from`.
 pub fn variable_of(points: &[u32], names: &[u32], c: u32, from: usize) -> Token
     requires { (from ≤ length points.now) × (spans_of names.now ≡ name_spans) }
-    ensures { result ≡ marked_token c (drop from points.now) }
+    ensures { result ≡ variable_of c (drop from points.now) }
 {
     if begins_variable(names, point_at(points, from)) {
         let n = run_length(points, names, RunClass::InVariable, from);
@@ -73,7 +73,7 @@ pub fn prefixed_of(points: &[u32], names: &[u32], n: usize, from: usize) -> Toke
 // A word, or nothing where `c`, which stands before `from`, is no ASCII letter.
 fn word_of(points: &[u32], names: &[u32], c: u32, from: usize) -> Token
     requires { (from ≤ length points.now) × (spans_of names.now ≡ name_spans) }
-    ensures { result ≡ word_token c (drop from points.now) }
+    ensures { result ≡ word_of c (drop from points.now) }
 {
     if is_ascii_letter(c) {
         let n = run_length(points, names, RunClass::Word, from);

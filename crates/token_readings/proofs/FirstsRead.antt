@@ -15,7 +15,7 @@ use Rattle.tokens.specs.declared.Token.{Token}
 use Rattle.tokens.specs.Classes.{is_one_of, is_digit, is_name_base}
 use Rattle.tokens.specs.Numerals.{token, is_plus_minus, number_or, signed_or}
 use Rattle.tokens.specs.Texts.{text_of}
-use Rattle.tokens.specs.Tokens.{marked_token, angle_of, prefixed_of, named_of, blank_of, tag_of, sign_of, token_of, token_here}
+use Rattle.tokens.specs.Tokens.{variable_of, angle_of, prefixed_of, named_of, blank_of, tag_of, sign_of, token_of, token_here}
 use Rattle.token_runs.proofs.Advancing.{points_next}
 use Rattle.token_kinds.proofs.TokensRead.{either_small}
 use Rattle.token_readings.specs.declared.FirstCharacter.{FirstCharacter}
@@ -25,7 +25,7 @@ use Rattle.token_readings.specs.Firsts.{first_character_of}
 unfoldable pub token_by : FirstCharacter → ℕ → List ℕ → Token
 token_by first.Bad c cs = token kind.BadByte 1
 token_by first.Backslash c cs = token kind.WrongEscape 1
-token_by first.Mark c cs = marked_token c cs
+token_by first.Mark c cs = variable_of c cs
 token_by first.Angle c cs = angle_of cs
 token_by first.Digit c cs = number_or (token kind.NoToken 1) (c ∷ cs)
 token_by first.Dot c cs = number_or (token kind.Sign 1) (c ∷ cs)

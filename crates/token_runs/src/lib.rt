@@ -2,7 +2,7 @@
 #![tactic(auto)]
 
 ghost use Rattle.std.specs.Prelude.{◌≡◌, false, ◌+◌, ◌≤◌, length, drop, get_or};
-ghost use Rattle.tokens.specs.Classes.{name_spans};
+ghost use Rattle.tokens.specs.Classes.{is_word_character, name_spans};
 ghost use Rattle.tokens.specs.Runs.{run_length, blanks_length};
 ghost use Rattle.token_classes.specs.SpanWords.{spans_of};
 ghost use Rattle.token_runs.specs.BlankSteps.{blank_step};
@@ -64,6 +64,21 @@ pub fn skip_blanks(points: &[u32], from: usize) -> usize
             }
             BlankStep::Stays => return at,
         }
+    }
+    at
+}
+
+// Where the characters of a word end, from `from` on.
+pub fn word_end(points: &[u32], from: usize) -> usize
+    requires { from ≤ length points.now }
+    ensures { (result ≡ from + run_length is_word_character (drop from points.now)) × (result ≤ length points.now) }
+{
+    let mut at = from;
+    while at < points.len() {
+        if !is_word_character(points[at]) {
+            return at;
+        }
+        at += 1;
     }
     at
 }

@@ -37,11 +37,8 @@ two_read points q at h =
 
 -- what stands behind a backslash
 pub escape_read : (points : List ℕ) (at : ℕ) → escape_step (get_or points at past_end)
-    ≡ cond (first_is is_text_escape (drop at points)) (Goes 2) (cond (starts_with no_point (drop at points)) (Goes 1) (Ends ending.WrongEscape))
-escape_read points at =
-    let z = get_or points at past_end in
-    ap (λ b. cond b (Goes 2) (cond (eqb z no_point) (Goes 1) (Ends ending.WrongEscape))) (sym (first_at points at is_text_escape refl))
-    ∙ ap (λ b. cond (first_is is_text_escape (drop at points)) (Goes 2) (cond b (Goes 1) (Ends ending.WrongEscape))) (sym (starts_at points at no_point refl))
+    ≡ cond (first_is is_text_escape (drop at points)) (Goes 2) (Ends ending.WrongEscape)
+escape_read points at = ap (λ b. cond b (Goes 2) (Ends ending.WrongEscape)) (sym (first_at points at is_text_escape refl))
 
 pub and_none : (b : Bool) → b && false ≡ false
 and_none true = refl
@@ -71,7 +68,7 @@ module _ (long : Bool) (q c : ℕ) (cs : List ℕ) where
                     | yes v ↦
                         elim (decided (first_is is_text_escape cs)) [
                           | yes w ↦ rw (t, u, v, w) (omega (arith, first_some is_text_escape cs w))
-                          | no w ↦ elim (decided (starts_with no_point cs)) [ yes x ↦ rw (t, u, v, w, x) (omega arith) | no x ↦ rw (t, u, v, w, x) tt ]
+                          | no w ↦ rw (t, u, v, w) tt
                         ]
                     | no v ↦
                         elim (decided (is_line_end c && not long)) [ yes w ↦ rw (t, u, v, w) tt | no w ↦ rw (t, u, v, w) (omega arith) ]
@@ -92,7 +89,7 @@ module _ (long : Bool) (q c : ℕ) (cs : List ℕ) where
                     | yes v ↦
                         elim (decided (first_is is_text_escape cs)) [
                           | yes w ↦ rw (t, u, v, w) refl
-                          | no w ↦ elim (decided (starts_with no_point cs)) [ yes x ↦ rw (t, u, v, w, x) refl | no x ↦ rw (t, u, v, w, x) refl ]
+                          | no w ↦ rw (t, u, v, w) refl
                         ]
                     | no v ↦ elim (decided (is_line_end c && not long)) [ yes w ↦ rw (t, u, v, w) refl | no w ↦ rw (t, u, v, w) refl ]
                   ]

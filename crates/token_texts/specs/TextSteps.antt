@@ -5,7 +5,7 @@ use Rattle.characters.specs.Escapes.{backslash}
 use Rattle.tokens.specs.declared.TokenKind.TheVariants as kind
 use Rattle.tokens.specs.declared.Token.{Token}
 use Rattle.tokens.specs.Classes.{is_line_end, is_text_escape}
-use Rattle.tokens.specs.Runs.{first_is, starts_with}
+use Rattle.tokens.specs.Runs.{first_is}
 use Rattle.tokens.specs.Numerals.{token}
 use Rattle.tokens.specs.Texts.{wrong_at, two_more}
 use Rattle.token_texts.specs.declared.TextEnding.{TextEnding}
@@ -15,13 +15,13 @@ use Rattle.token_texts.specs.declared.TextStep.TheVariants.{Goes, Ends}
 
 -- what stands behind a backslash makes of it
 abbrev pub escape_step : ℕ → TextStep
-escape_step c = cond (is_text_escape c) (Goes 2) (cond (eqb c no_point) (Goes 1) (Ends ending.WrongEscape))
+escape_step c = cond (is_text_escape c) (Goes 2) (Ends ending.WrongEscape)
 
 unfoldable pub text_step : Bool → ℕ → ℕ → List ℕ → TextStep
 text_step long q c cs =
     cond (eqb c q && (not long || two_more q cs)) (Ends ending.Closed)
     (cond (eqb c no_point) (Ends ending.BadByte)
-    (cond (eqb c backslash) (cond (first_is is_text_escape cs) (Goes 2) (cond (starts_with no_point cs) (Goes 1) (Ends ending.WrongEscape)))
+    (cond (eqb c backslash) (cond (first_is is_text_escape cs) (Goes 2) (Ends ending.WrongEscape))
     (cond (is_line_end c && not long) (Ends ending.Unended) (Goes 1))))
 
 -- the token of a text that ends so, of which n characters are read

@@ -50,15 +50,12 @@ fn two_more(points: &[u32], q: u32, at: usize) -> bool
     point_at(points, at + 1) == q
 }
 
-// What `next`, behind a backslash, makes of it: an escape, or a wrong one; a byte that is no UTF-8 is left to be told itself.
+// What `next`, behind a backslash, makes of it: an escape, or a wrong one.
 fn escape_step(next: u32) -> TextStep
     ensures { result ≡ escape_step next }
 {
     if is_text_escape(next) {
         return TextStep::Goes(2);
-    }
-    if next == 0x110000 {
-        return TextStep::Goes(1);
     }
     TextStep::Ends(TextEnding::WrongEscape)
 }

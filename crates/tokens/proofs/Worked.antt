@@ -269,9 +269,9 @@ plus_minus : TokensRead
 unfolding computing
 plus_minus = refl
 
--- a backslash before a byte that is no UTF-8, in a text: the byte is the token
+-- a backslash before a byte that is no UTF-8, in a text: a wrong escape, and behind it the byte
 text_bad_escape : TokensRead
     (0x27 ∷ 0x5C ∷ 0xFF ∷ [])
-    (at kind.BadByte 2 1 ∷ at kind.End 3 0 ∷ [])
+    (at kind.WrongEscape 1 1 ∷ at kind.BadByte 2 1 ∷ at kind.End 3 0 ∷ [])
 unfolding computing
 text_bad_escape = refl

@@ -18,7 +18,7 @@ abbrev pub two_more : ℕ → List ℕ → Bool
 two_more q cs = starts_with q cs && starts_with q (drop 1 cs)
 
 -- a text in quotes q, one or three (long), of which n characters are read and the next k are still of an escape.
--- A line ends no long one. A byte that is no UTF-8, behind a backslash too, or a backslash that begins no escape, is the token, where it stands;
+-- A line ends no long one. A byte that is no UTF-8, or a backslash that begins no escape, is the token, where it stands;
 -- a text without an end is one from its first quote on
 unfoldable pub text_from : Bool → ℕ → ℕ → List ℕ → ℕ → Token
 text_from long q k [] n = token kind.Unended n
@@ -26,9 +26,7 @@ text_from long q (suc k) (c ∷ cs) n = text_from long q k cs (n + 1)
 text_from long q zero (c ∷ cs) n =
     cond (eqb c q && (not long || two_more q cs)) (token kind.QuotedText (cond long (n + 3) (n + 1)))
     (cond (eqb c no_point) (wrong_at kind.BadByte n)
-    (cond (eqb c backslash)
-    (cond (first_is is_text_escape cs) (text_from long q 1 cs (n + 1))
-    (cond (starts_with no_point cs) (text_from long q 0 cs (n + 1)) (wrong_at kind.WrongEscape n)))
+    (cond (eqb c backslash) (cond (first_is is_text_escape cs) (text_from long q 1 cs (n + 1)) (wrong_at kind.WrongEscape n))
     (cond (is_line_end c && not long) (token kind.Unended n) (text_from long q 0 cs (n + 1)))))
 
 -- behind the first quote: three quotes begin a long text

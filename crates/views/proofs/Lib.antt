@@ -8,6 +8,6 @@ pub mod Refusals
 pub mod Writes
 pub mod Leaves
 pub mod Equal
-pub mod Hidden
+pub mod Hiding
 pub mod SameCalls
 pub mod Direct

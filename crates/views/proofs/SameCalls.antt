@@ -12,7 +12,7 @@ use Rattle.table_answers.specs.Writing.{TableBuffers, tables_room, TablesResult,
 use Rattle.views.specs.Views.{view_of}
 use Rattle.views.specs.Viewing.{grant_right, view_own_tests, view_schema, view_call_of}
 use Rattle.views.specs.Hidden.{DifferHidden, lending}
-use Rattle.views.proofs.Hidden.{same_view}
+use Rattle.views.proofs.Hiding.{same_view}
 
 module _ (grant : List ℕ) (membership : ℕ) (b : TableBuffers) where
   -- what a call with accepted tables answers and writes, by the view alone

@@ -5,29 +5,29 @@ use Rattle.constants.proofs.write_compared.Goals as goal
 pub returns-in-Term : goal.returns-in-Term
 returns-in-Term c =
     let a = c.args in
-    of_term a.out.now a.at a.unnamed a.unwritten a.o a.x a.c c.write_comparison.new.0 c.write_comparison.result
+    of_term a.out.now a.at a.unnamed a.unwritten a.o a.x a.c c.write_comparison.new.out c.write_comparison.result
     c.in-Term.w c.in-Term.is c.write_comparison.ensures
 
 pub returns-in-NoName : goal.returns-in-NoName
 returns-in-NoName c =
     let a = c.args in
-    of_no_name a.out.now a.at a.unnamed a.unwritten a.o a.x a.c c.write_comparison-in-NoName.new.0 c.write_comparison-in-NoName.result
+    of_no_name a.out.now a.at a.unnamed a.unwritten a.o a.x a.c c.write_comparison-in-NoName.new.out c.write_comparison-in-NoName.result
     c.in-NoName.is c.write_comparison-in-NoName.ensures
 
 pub returns-in-NoText : goal.returns-in-NoText
 returns-in-NoText c =
     let a = c.args in
-    of_no_text a.out.now a.at a.unnamed a.unwritten a.o a.x a.c c.write_no_text.new.0 c.write_no_text.result
+    of_no_text a.out.now a.at a.unnamed a.unwritten a.o a.x a.c c.write_no_text.new.out c.write_no_text.result
     c.in-NoText.ranked c.in-NoText.is c.write_no_text.ensures
 
 pub returns-in-Below : goal.returns-in-Below
 returns-in-Below c =
     let a = c.args in
-    of_below a.out.now a.at a.unnamed a.unwritten a.o a.x a.c c.write_below.new.0 c.write_below.result
+    of_below a.out.now a.at a.unnamed a.unwritten a.o a.x a.c c.write_below.new.out c.write_below.result
     c.in-Below.is c.write_below.ensures
 
 pub returns-in-Above : goal.returns-in-Above
 returns-in-Above c =
     let a = c.args in
-    of_above a.out.now a.at a.unnamed a.unwritten a.o a.x a.c c.write_above.new.0 c.write_above.result
+    of_above a.out.now a.at a.unnamed a.unwritten a.o a.x a.c c.write_above.new.out c.write_above.result
     c.in-Above.is c.write_above.ensures

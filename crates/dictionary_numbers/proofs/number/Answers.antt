@@ -5,7 +5,7 @@ use lib.ListN.{length}
 use lib.Seq.{length-take-le}
 use borrow.Author.Tests.{not-true, not-false}
 use Rattle.calls.proofs.Refusals.{call_told}
-use Rattle.dictionary_numberings.specs.NumberCall.{number_buffers, NumberInput, number_input, given_right, number_room, number_schema}
+use Rattle.dictionary_numberings.specs.NumberCall.{number_buffers, NumberInput, number_input, given_right, number_room, number_call}
 use Rattle.dictionary_numberings.proofs.NumberCall.{number_is_right, given_cut}
 use Rattle.dictionary_numbers.proofs.Outcome.{room_is, NumberFits, room_fits, few, wrong_strings, no_room, served}
 use Rattle.dictionary_numbers.proofs.number.Goals as goal
@@ -27,7 +27,7 @@ abbrev Roomy : Type 0
 Roomy = Else-not-has_room
 
 abbrev given : Roomy → NumberInput
-given r = lent r.before.before.before.before.before.before.before.before.before.before
+given r = (let a = r.args in number_input a.kind a.bytes.now a.ends.now (number_buffers a.out.now a.cuts.now a.numbers.now a.places.now))
 
 has : (r : Roomy) → number_room (length (given r).bytes) (length (given r).ends) (given r).buffers ≡ true
 has r = sym (room_is _ _ (given r).buffers) ∙ (sym r.has_room.ensures ∙ not-false _ r.if-not-has_room.false-raw)
@@ -37,12 +37,12 @@ fits r = room_fits _ _ (given r).buffers (has r)
 
 pub returns-then-not-given_right : goal.returns-then-not-given_right
 returns-then-not-given_right c = 
-    let shown = call_told number_schema number_is_right (lent (goal.at.returns-then-not-given_right c).Start) (wrong_strings (lent (goal.at.returns-then-not-given_right c).Start) (sym c.given_right.ensures ∙ not-true _ c.if-not-given_right.true-raw)) in
+    let shown = call_told number_call number_is_right (lent (goal.at.returns-then-not-given_right c).Start) (wrong_strings (lent (goal.at.returns-then-not-given_right c).Start) (sym c.given_right.ensures ∙ not-true _ c.if-not-given_right.true-raw)) in
     record { places_after = shown.0; number = shown.1 }
 
 pub returns-then-not-has_room : goal.returns-then-not-has_room
 returns-then-not-has_room c = let i = lent (goal.at.returns-then-not-has_room c).Start in
-    let shown = call_told number_schema number_is_right i
+    let shown = call_told number_call number_is_right i
     (no_room i (right (goal.at.returns-then-not-has_room c).Else-not-given_right) (sym (room_is _ _ i.buffers) ∙ (sym c.has_room.ensures ∙ not-true _ c.if-not-has_room.true-raw))) in
     record { places_after = shown.0; number = shown.1 }
 
@@ -70,6 +70,6 @@ write_dictionary-extent-requires c = let i = given (goal.at.write_dictionary-ext
 pub returns : goal.returns
 returns c = let i = given (goal.at.returns c).Else-not-has_room in
     let e = c.write_dictionary-extent.ensures in
-    let shown = call_told number_schema number_is_right i
+    let shown = call_told number_call number_is_right i
     (served i (right (goal.at.returns c).Else-not-given_right) (has (goal.at.returns c).Else-not-has_room) _ _ _ _ _ _ e.0.0 e.0.1 e.1.0 e.1.1.0 e.1.1.1.0 e.1.1.1.1) in
     record { places_after = shown.0; number = shown.1 }

@@ -10,4 +10,4 @@ returns-then-i-ends c = let a = c.args in rw (eq-eqb (a.i + 1) (length a.ends.no
 pub returns : goal.returns
 returns c =
     let a = c.args in
-    rw (ne_eqb (a.i + 1) (length a.ends.now) c.if-i-ends.false) c.is_before.ensures
+    rw (ne_eqb (a.i + 1) (length a.ends.now) c.if-i-ends.false) c.stands_before.ensures

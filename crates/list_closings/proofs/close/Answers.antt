@@ -22,7 +22,7 @@ pub returns-in-Group : goal.returns-in-Group
 returns-in-Group c =
     close_group (ending_at c.args.ending.now) c.args.out.now c.args.used c.requires.ending_in_bounds.1
     (sym c.ending_kind.ensures ∙ c.in-Group.is) c.variables-vars.result.now c.variables-vars.ensures
-    c.close_groups.new.1.0 c.close_groups.result c.close_groups.ensures
+    c.close_groups.new.out c.close_groups.result c.close_groups.ensures
 
 pub returns-in-Registers : goal.returns-in-Registers
 returns-in-Registers c =

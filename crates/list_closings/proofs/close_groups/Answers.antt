@@ -24,5 +24,5 @@ write_totals-requires c =
 
 pub returns : goal.returns
 returns c m =
-    closed_none c.args.vars.now c.args.out.now c.args.used m _ c.write_totals.new.0 c.if-vars-ne0.false c.if-used-ne0.false
+    closed_none c.args.vars.now c.args.out.now c.args.used m _ c.write_totals.new.s c.if-vars-ne0.false c.if-used-ne0.false
     (c.write_totals.ensures ∙ ap totals_words c.no_totals.ensures) refl

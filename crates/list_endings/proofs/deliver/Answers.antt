@@ -20,7 +20,7 @@ put_best-requires c =
     c.variables-vars.result.now c.variables-vars.ensures (sym c.ending_kind.ensures ∙ c.in-Top.is)
     c.best_count.result c.best_count.ensures c.keys.result.now c.keys.ensures
 
-pub measured-requires : goal.measured-requires
+pub measured-requires : goal.decreases-requires
 measured-requires c =
     (c.requires.ending_value, sym c.ending_kind.ensures ∙ c.in-Group.is)
 
@@ -43,27 +43,27 @@ pub returns-in-Rows : goal.returns-in-Rows
 returns-in-Rows c =
     rows_taken_lem (ending_at c.args.ending.now) c.args.threshold.now c.args.out.now c.args.used c.args.bound.now c.requires.receives
     c.variables-vars.result.now c.variables-vars.ensures (sym c.ending_kind.ensures ∙ c.in-Rows.is)
-    c.put_row.new.1.1.0 c.put_row.result c.put_row.ensures
+    c.put_row.new.out c.put_row.result c.put_row.ensures
 
 pub returns-in-Top : goal.returns-in-Top
 returns-in-Top c =
     top_taken (ending_at c.args.ending.now) c.args.threshold.now c.args.out.now c.args.used c.args.bound.now c.requires.receives
     c.variables-vars.result.now c.variables-vars.ensures (sym c.ending_kind.ensures ∙ c.in-Top.is)
     c.best_count.result c.best_count.ensures c.keys.result.now c.keys.ensures
-    c.put_best.new.1.1.1.1.1.0 c.put_best.result c.put_best.ensures
+    c.put_best.new.out c.put_best.result c.put_best.ensures
 
 pub returns-in-Group : goal.returns-in-Group
 returns-in-Group c =
     group_taken (ending_at c.args.ending.now) c.args.threshold.now c.args.out.now c.args.used c.args.bound.now c.requires.receives
     c.variables-vars.result.now c.variables-vars.ensures (sym c.ending_kind.ensures ∙ c.in-Group.is)
     c.measured.result c.measured.ensures
-    c.put_group.new.1.1.1.0 c.put_group.result c.put_group.ensures
+    c.put_group.new.out c.put_group.result c.put_group.ensures
 
 pub returns-in-Registers : goal.returns-in-Registers
 returns-in-Registers c =
     registers_taken (ending_at c.args.ending.now) c.args.threshold.now c.args.out.now c.args.used c.args.bound.now c.requires.receives
     (sym c.ending_kind.ensures ∙ c.in-Registers.is) c.counted.result c.counted.ensures
-    c.put_counted.new.1.1.0 c.put_counted.result c.put_counted.ensures
+    c.put_counted.new.out c.put_counted.result c.put_counted.ensures
 
 pub returns-in-Invalid : goal.returns-in-Invalid
 returns-in-Invalid c =

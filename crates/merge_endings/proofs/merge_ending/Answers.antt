@@ -15,18 +15,16 @@ best_count-requires c = (
 
 pub merge_top-requires : goal.merge_top-requires
 merge_top-requires c =
-    let s = start (goal.at.merge_top-requires c).After-ending_kind in
-    let is = top_of (ending_at s.args.e.now) c.ending_kind.ensures
+    let is = top_of (ending_at c.args.e.now) c.ending_kind.ensures
     c.in-Top.is c.best_count.ensures c.variables-vars.ensures
     c.keys-keys.ensures in
-    (subst PiecesRight is s.pre.1, s.pre.2)
+    (subst PiecesRight is c.requires.1, c.requires.2)
 
 pub merge_groups-requires : goal.merge_groups-requires
 merge_groups-requires c =
-    let s = start (goal.at.merge_groups-requires c).After-ending_kind in
-    let is = group_of (ending_at s.args.e.now) c.ending_kind.ensures c.in-Group.is
+    let is = group_of (ending_at c.args.e.now) c.ending_kind.ensures c.in-Group.is
     c.variables.ensures in
-    (subst PiecesRight is s.pre.1, s.pre.2)
+    (subst PiecesRight is c.requires.1, c.requires.2)
 
 pub returns-in-Rows : goal.returns-in-Rows
 returns-in-Rows c =
@@ -34,23 +32,20 @@ returns-in-Rows c =
 
 pub returns-in-Top : goal.returns-in-Top
 returns-in-Top c =
-    let s = start-of-variables (goal.at.returns-in-Top c).After-variables-vars in
-    let is = top_of (ending_at s.args.e.now) c.ending_kind.ensures
+    let is = top_of (ending_at c.args.e.now) c.ending_kind.ensures
     c.in-Top.is c.best_count.ensures
     c.variables-vars.ensures c.keys-keys.ensures in
     λ plan a. c.merge_top.ensures plan (subst (AcceptedPlan plan) is a)
 
 pub returns-in-Group : goal.returns-in-Group
 returns-in-Group c =
-    let s = start (goal.at.returns-in-Group c).After-ending_kind in
-    let is = group_of (ending_at s.args.e.now) c.ending_kind.ensures
+    let is = group_of (ending_at c.args.e.now) c.ending_kind.ensures
     c.in-Group.is c.variables.ensures in
     λ plan a. c.merge_groups.ensures _ _ refl plan (subst (AcceptedPlan plan) is a)
 
 pub returns-in-Registers : goal.returns-in-Registers
 returns-in-Registers c =
-    let s = start (goal.at.returns-in-Registers c).After-ending_kind in
-    let is = registers_of_lem (ending_at s.args.e.now) c.ending_kind.ensures
+    let is = registers_of_lem (ending_at c.args.e.now) c.ending_kind.ensures
     c.in-Registers.is in
     λ plan a. c.merge_registers.ensures _ plan (subst (AcceptedPlan plan) is a)
 

@@ -35,9 +35,8 @@ merge_groups-requires c =
 
 pub returns : goal.returns
 returns c =
-    let s = start (goal.at.returns c).After-merge_groups in
     λ vs m e plan a.
-    let p = goes_on_fact (right s vs m) (c.are_groups.ensures vs m e)
+    let p = goes_on_fact (right (goal.at.returns c).Start vs m) (c.are_groups.ensures vs m e)
     c.if-not-are_groups.false-raw in
     let g = c.merge_groups.ensures vs m e in
-    rw c.written.ensures (groups_merged _ a s.pre.1 p g.0 g.1)
+    rw c.written.ensures (groups_merged _ a c.requires.1 p g.0 g.1)

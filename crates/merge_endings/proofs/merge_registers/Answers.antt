@@ -34,8 +34,7 @@ merge_registers-requires c = let front = take c.args.given c.args.kept.now in
 
 pub returns : goal.returns
 returns c =
-    let s = start (goal.at.returns c).After-merge_registers-arg-1 in
     λ v plan a.
-    let p = goes_on_fact (right s v) (c.are_registers.ensures v)
+    let p = goes_on_fact (right (goal.at.returns c).Start v) (c.are_registers.ensures v)
     c.if-not-are_registers.false-raw in
-    registers_merged _ a s.pre p c.if-kept-lt-REGISTERS.false c.merge_registers.ensures
+    registers_merged _ a c.requires p c.if-kept-lt-REGISTERS.false c.merge_registers.ensures

@@ -54,28 +54,24 @@ returns-then-not-are_best c =
 
 pub has_best_room-requires : goal.has_best_room-requires
 has_best_room-requires c =
-    let s = start (goal.at.has_best_room-requires c).After-are_best in
-    let p = goes_on_fact (right s) c.are_best.ensures c.if-not-are_best.false-raw in
-    (s.pre.0.some, s.pre.0.narrow, s.pre.0.few, s.pre.1, (list_best s p).whole)
+    let p = goes_on_fact (right (goal.at.has_best_room-requires c).After-are_best) c.are_best.ensures c.if-not-are_best.false-raw in
+    (c.requires.0.some, c.requires.0.narrow, c.requires.0.few, c.requires.1, (list_best (goal.at.has_best_room-requires c).After-are_best p).whole)
 
 pub returns-then-not-has_best_room : goal.returns-then-not-has_best_room
 returns-then-not-has_best_room c =
-    let s = start (goal.at.returns-then-not-has_best_room c).After-are_best in
-    let p = goes_on_fact (right s) c.are_best.ensures c.if-not-are_best.false-raw in
-    let e = c.has_best_room.ensures s.args.keys.now (kept_best s p) in
-    λ plan a. top_no_room _ a s.pre.1 p (refuses (room s) e c.if-not-has_best_room.true-raw)
+    let p = goes_on_fact (right (goal.at.returns-then-not-has_best_room c).After-are_best) c.are_best.ensures c.if-not-are_best.false-raw in
+    let e = c.has_best_room.ensures c.args.keys.now (kept_best (goal.at.returns-then-not-has_best_room c).After-are_best p) in
+    λ plan a. top_no_room _ a c.requires.1 p (refuses (room (goal.at.returns-then-not-has_best_room c).After-are_best) e c.if-not-has_best_room.true-raw)
 
 pub merge_best-requires : goal.merge_best-requires
 merge_best-requires c =
-    let s = start (goal.at.merge_best-requires c).After-are_best in
-    let p = goes_on_fact (right s) c.are_best.ensures c.if-not-are_best.false-raw in
-    let e = c.has_best_room.ensures s.args.keys.now (kept_best s p) in
-    may_merge s p (goes_on_fact (room s) e c.if-not-has_best_room.false-raw)
+    let p = goes_on_fact (right (goal.at.merge_best-requires c).After-are_best) c.are_best.ensures c.if-not-are_best.false-raw in
+    let e = c.has_best_room.ensures c.args.keys.now (kept_best (goal.at.merge_best-requires c).After-are_best p) in
+    may_merge (goal.at.merge_best-requires c).After-are_best p (goes_on_fact (room (goal.at.merge_best-requires c).After-are_best) e c.if-not-has_best_room.false-raw)
 
 pub returns : goal.returns
 returns c =
-    let s = start (goal.at.returns c).After-are_best in
-    let p = goes_on_fact (right s) c.are_best.ensures
+    let p = goes_on_fact (right (goal.at.returns c).After-are_best) c.are_best.ensures
     c.if-not-are_best.false-raw in
-    let e = c.has_best_room.ensures s.args.keys.now (kept_best s p) in
-    λ plan a. top_merged _ a s.pre.1 p (goes_on_fact (room s) e c.if-not-has_best_room.false-raw) c.merge_best.ensures
+    let e = c.has_best_room.ensures c.args.keys.now (kept_best (goal.at.returns c).After-are_best p) in
+    λ plan a. top_merged _ a c.requires.1 p (goes_on_fact (room (goal.at.returns c).After-are_best) e c.if-not-has_best_room.false-raw) c.merge_best.ensures

@@ -27,7 +27,6 @@ variables_right-requires c =
 pub returns-then-not-variables_right : goal.returns-then-not-variables_right
 returns-then-not-variables_right c =
     let args = c.args in
-    
     let f = binds (branches_in args.count args.p.now) in let q = ending_at args.e.now in 
     rw (← c.ending_form.ensures, not-false c.ending_form.result c.if-not-ending_form.false-raw)
     (sym (wrong_variables f c.variables_right.result q (rw c.variables-list.ensures at c.variables_right.ensures) (not-true _ c.if-not-variables_right.true-raw)))
@@ -40,7 +39,7 @@ pub keys-requires : goal.keys-requires
 keys-requires c =
     sym c.ending_form.ensures ∙ not-false c.ending_form.result c.if-not-ending_form.false-raw
 
-pub measured-requires : goal.measured-requires
+pub measured-requires : goal.decreases-requires
 measured-requires c =
     (sym c.ending_form.ensures ∙ form_is (goal.at.measured-requires c).After-ending_kind, sym c.ending_kind.ensures ∙ c.in-Group.is)
 
@@ -51,8 +50,6 @@ some_binds-requires c =
 pub returns-in-Rows : goal.returns-in-Rows
 returns-in-Rows c =
     let args = c.args in
-    
-    
     let f = binds (branches_in args.count args.p.now) in let q = ending_at args.e.now in
     rw (← c.ending_form.ensures, form_is (goal.at.returns-in-Rows c).After-ending_kind)
     (sym (right_rows f c.variables_right.result q (rw c.variables-list.ensures at c.variables_right.ensures) (not-false _ c.if-not-variables_right.false-raw)
@@ -61,8 +58,6 @@ returns-in-Rows c =
 pub returns-in-Top : goal.returns-in-Top
 returns-in-Top c =
     let args = c.args in
-    
-    
     let f = binds (branches_in args.count args.p.now) in let q = ending_at args.e.now in
     rw (← c.ending_form.ensures, form_is (goal.at.returns-in-Top c).After-ending_kind)
     (rw (c.variables-list.ensures, c.keys.ensures) at c.keys_among.ensures
@@ -72,8 +67,6 @@ returns-in-Top c =
 pub returns-in-Group : goal.returns-in-Group
 returns-in-Group c =
     let args = c.args in
-    
-    
     let f = binds (branches_in args.count args.p.now) in let q = ending_at args.e.now in
     rw (← c.ending_form.ensures, form_is (goal.at.returns-in-Group c).After-ending_kind)
     (c.some_binds.ensures ∙ ap f c.measured.ensures
@@ -83,8 +76,6 @@ returns-in-Group c =
 pub returns-in-Registers : goal.returns-in-Registers
 returns-in-Registers c =
     let args = c.args in
-    
-    
     let f = binds (branches_in args.count args.p.now) in let q = ending_at args.e.now in
     rw (← c.ending_form.ensures, form_is (goal.at.returns-in-Registers c).After-ending_kind)
     (sym (right_registers f c.variables_right.result q (rw c.variables-list.ensures at c.variables_right.ensures) (not-false _ c.if-not-variables_right.false-raw)

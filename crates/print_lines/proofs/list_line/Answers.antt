@@ -11,25 +11,19 @@ put_bytes-next-requires c = let e = list_length c.args.list.now in omega arith
 
 pub put_numbers-end-requires : goal.put_numbers-end-requires
 put_numbers-end-requires c =
-    let s = start c in
-    let e = list_length s.args.list.now in
-    omega (arith, s.pre)
+    let e = list_length c.args.list.now in
+    omega (arith, c.requires)
 
 pub put_byte-requires : goal.put_byte-requires
 put_byte-requires c =
-    let s = start (goal.at.put_byte-requires c).After-put_numbers-arg-1 in
-    let e = list_length s.args.list.now in
-    omega (arith, s.pre)
+    let e = list_length c.args.list.now in
+    omega (arith, c.requires)
 
 pub returns : goal.returns
 returns c =
-    let s = start (goal.at.returns c).After-put_numbers-arg-1 in
-    let a = s.args in
-    
-    let e = list_length s.args.list.now in
+    let a = c.args in
+    let e = list_length c.args.list.now in
     rw (list_text a.list.now)
     (whole_line list_word (number_fields a.list.now)
-    c.put_bytes-next.result c.put_numbers-end.result c.put_byte.result a.line.now c.put_bytes-next.last.0 c.put_numbers-end.new.0 c.put_byte.new.0
-    (omega (arith, s.pre)) c.put_bytes-next.ensures c.put_numbers-end.ensures c.put_byte.ensures)
--- LOST slice-aggregate-put-bytes : tie.Need-slice-aggregate-put-bytes
--- LOST slice-aggregate-put-bytes c = search rules
+    c.put_bytes-next.result c.put_numbers-end.result c.put_byte.result a.line.now c.put_bytes-next.last.0 c.put_numbers-end.new.line c.put_byte.new.line
+    (omega (arith, c.requires)) c.put_bytes-next.ensures c.put_numbers-end.ensures c.put_byte.ensures)

@@ -6,9 +6,7 @@ use Rattle.print_lines.proofs.put_named.Goals as goal
 
 pub returns : goal.returns
 returns c =
-    let s = start (goal.at.returns c).After-put_number-arg-1 in
-    let a = s.args in
-    
+    let a = c.args in
     placed_then a.name.now (number_field a.x) a.at c.put_bytes-next.result c.put_number.result
-    a.line.now c.put_bytes-next.new.0 c.put_number.new.0 (omega arith) c.put_bytes-next.ensures
+    a.line.now c.put_bytes-next.new.line c.put_number.new.line (omega arith) c.put_bytes-next.ensures
     c.put_number.ensures

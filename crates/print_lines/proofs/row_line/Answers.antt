@@ -8,23 +8,17 @@ use Rattle.print_lines.proofs.row_line.Goals as goal
 
 pub put_terms-end-requires : goal.put_terms-end-requires
 put_terms-end-requires c =
-    let s = start c in
-    let e = terms_most s.args.row.now in
-    omega (arith, s.pre)
+    let e = terms_most c.args.row.now in
+    omega (arith, c.requires)
 
 pub put_byte-requires : goal.put_byte-requires
 put_byte-requires c =
-    let s = start (goal.at.put_byte-requires c).After-put_terms-arg-1 in
-    let e = terms_most s.args.row.now in
-    omega (arith, s.pre)
+    let e = terms_most c.args.row.now in
+    omega (arith, c.requires)
 
 pub returns : goal.returns
-returns c = let s = start (goal.at.returns c).After-put_terms-arg-1 in
-    let a = s.args in
-    
-    let e = terms_most s.args.row.now in record { line = rw (row_text a.row.now)
+returns c = let a = c.args in
+    let e = terms_most c.args.row.now in record { line = rw (row_text a.row.now)
           (whole_line row_word (term_fields a.row.now)
-          c.put_bytes-next.result c.put_terms-end.result c.put_byte.result a.line.now c.put_bytes-next.last.0 c.put_terms-end.new.0 c.put_byte.new.0
-          (omega (arith, s.pre)) c.put_bytes-next.ensures c.put_terms-end.ensures c.put_byte.ensures); room = omega (arith, s.pre, c.put_bytes-next.ensures.0, c.put_terms-end.ensures.0, c.put_byte.ensures.0) }
--- LOST slice-aggregate-put-bytes : tie.Need-slice-aggregate-put-bytes
--- LOST slice-aggregate-put-bytes c = search rules
+          c.put_bytes-next.result c.put_terms-end.result c.put_byte.result a.line.now c.put_bytes-next.last.0 c.put_terms-end.new.line c.put_byte.new.line
+          (omega (arith, c.requires)) c.put_bytes-next.ensures c.put_terms-end.ensures c.put_byte.ensures); room = omega (arith, c.requires, c.put_bytes-next.ensures.0, c.put_terms-end.ensures.0, c.put_byte.ensures.0) }

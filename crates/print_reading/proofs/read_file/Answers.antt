@@ -14,11 +14,9 @@ read_words-requires c =
 pub returns-in-Parts : goal.returns-in-Parts
 returns-in-Parts c =
     let a = c.args in
-    
-    read_as a.bytes.now a.words.now (Parts c.in-Parts.parts) (sym c.in-Parts.is ∙ c.layout_of-layout.ensures) c.read_words.new.1.0 c.read_words.ensures
+    read_as a.bytes.now a.words.now (Parts c.in-Parts.parts) (sym c.in-Parts.is ∙ c.layout_of-layout.ensures) c.read_words.new.words c.read_words.ensures
 
 pub returns-in-Refused : goal.returns-in-Refused
 returns-in-Refused c =
     let a = c.args in
-    
     read_as a.bytes.now a.words.now (Refused c.in-Refused.x) (sym c.in-Refused.is ∙ c.layout_of-layout.ensures) a.words.now refl

@@ -16,24 +16,23 @@ pub loop-made-init : goal.loop-made-init
 loop-made-init c = (omega arith, refl, refl, refl, rounds_none Merged _ _ _ _)
 
 pub print_step-went-requires : goal.print_step-went-requires
-print_step-went-requires c = let s = start (goal.at.print_step-went-requires c).At-loop-made in
-    let v = lent_survey s.args.rows.now s.args.pos.now s.args.osp.now in
-    let p = s.args.plan.now in
-    let st = s.args.state.now in
+print_step-went-requires c = let v = lent_survey c.args.rows.now c.args.pos.now c.args.osp.now in
+    let p = c.args.plan.now in
+    let st = c.args.state.now in
     let n = c.loop-made.made in
-    let started = s.pre.1.0 in
-    let here = stands_at Merged v p st s.args.opened started s.args.output.now s.args.kept.now s.args.quantum n c.loop-made.saved
+    let started = c.requires.started in
+    let here = stands_at Merged v p st c.args.opened started c.args.output.now c.args.kept.now c.args.quantum n c.loop-made.saved
     c.loop-made.used _ c.loop-made.invariant.4 in
-    let stands = subst⁻¹ (λ r. StandsAfter v p s.args.quantum r n c.loop-made.state c.loop-made.saved) here.1 here.0 in record { lists_of = s.pre.0; can_open = started_opens v p st s.args.opened started; made_lt_most_turns = (omega (arith, c.loop-made-test.true), stands); asks = (s.pre.1.1.0, c.loop-made.invariant.2 ∙ s.pre.1.1.1) }
+    let stands = subst⁻¹ (λ r. StandsAfter v p c.args.quantum r n c.loop-made.state c.loop-made.saved) here.1 here.0 in record { lists_of = c.requires.lists_of; can_open = started_opens v p st c.args.opened started; made_lt_most_turns = (omega (arith, c.loop-made-test.true), stands); asks = (c.requires.asks.0, c.loop-made.invariant.2 ∙ c.requires.asks.1) }
 
 pub loop-made-preserved : goal.loop-made-preserved
 loop-made-preserved c =
-    let e = rounds_next Merged _ _ _ _ c.loop-made.made c.loop-made.saved c.loop-made.used _ c.loop-made.inv.4 c.print_step-went.result _ c.print_step-went.ensures _
+    let e = rounds_next Merged _ _ _ _ c.loop-made.made c.loop-made.saved c.loop-made.used _ c.loop-made.invariant.4 c.print_step-went.result _ c.print_step-went.ensures _
     c.in-On.is in (
       omega arith,
-      c.state-1.given ∙ c.loop-made.inv.1,
-      c.output-1.given ∙ c.loop-made.inv.2,
-      c.kept-1.given ∙ c.loop-made.inv.3,
+      c.state-1.given ∙ c.loop-made.invariant.1,
+      c.output-1.given ∙ c.loop-made.invariant.2,
+      c.kept-1.given ∙ c.loop-made.invariant.3,
       e,
     )
 
@@ -48,7 +47,7 @@ shape_of-kept-in-Over c =  c.kept-1.given ∙ c.loop-made.invariant.3
 
 pub returns-in-Over : goal.returns-in-Over
 returns-in-Over c =
-    let e = rounds_next Merged _ _ _ _ c.loop-made.made c.loop-made.saved c.loop-made.used _ c.loop-made.inv.4 c.print_step-went.result _ c.print_step-went.ensures _
+    let e = rounds_next Merged _ _ _ _ c.loop-made.made c.loop-made.saved c.loop-made.used _ c.loop-made.invariant.4 c.print_step-went.result _ c.print_step-went.ensures _
     c.in-Over.is in
     sym (ap result_at (rounds_over Merged _ _ _ _ (c.loop-made.made + 1) _ (omega arith) _ _ e))
 
@@ -63,7 +62,7 @@ shape_of-kept-in-Stopped c =  c.kept-1.given ∙ c.loop-made.invariant.3
 
 pub returns-in-Stopped : goal.returns-in-Stopped
 returns-in-Stopped c =
-    let e = rounds_next Merged _ _ _ _ c.loop-made.made c.loop-made.saved c.loop-made.used _ c.loop-made.inv.4 c.print_step-went.result _ c.print_step-went.ensures _
+    let e = rounds_next Merged _ _ _ _ c.loop-made.made c.loop-made.saved c.loop-made.used _ c.loop-made.invariant.4 c.print_step-went.result _ c.print_step-went.ensures _
     c.in-Stopped.is in
     sym (ap result_at (rounds_stopped Merged _ _ _ _ (c.loop-made.made + 1) _ (omega arith) _ _ e))
 

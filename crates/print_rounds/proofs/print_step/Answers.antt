@@ -21,12 +21,10 @@ slice_bounds-print_shown-end-2 c =
     sym (length-take-le c.take_turn-step.result.turned.listed _ (list_room _ _ _ _ _ _ _ c.take_turn-step.ensures))
 
 pub print_shown-requires : goal.print_shown-requires
-print_shown-requires c = let t = at-take-turn (goal.at.print_shown-requires c).After-slice_known-6-1 in
-    let s = start t.before.before.before.before.before in
-    let a = s.args in
-    let asks = s.pre.1.1.1.0 in record { lists_of = file_lists a.bytes.now a.rows.now a.pos.now a.osp.now a.plan.now a.quantum asks a.lists s.pre.0; turn_shown = λ f. file_turn a.bytes.now a.rows.now a.pos.now a.osp.now a.plan.now a.quantum asks _ _ _ (length a.output.now)
-          s.pre.1.1.1.1
-          (turn_shown _ _ _ _ _ _ _ t.take-turn.ensures refl a.made s.pre.1.0 s.pre.1.1.0.1 f) }
+print_shown-requires c = let a = c.args in
+    let asks = c.requires.asks.0 in record { lists_of = file_lists a.bytes.now a.rows.now a.pos.now a.osp.now a.plan.now a.quantum asks a.lists c.requires.lists_of; turn_shown = λ f. file_turn a.bytes.now a.rows.now a.pos.now a.osp.now a.plan.now a.quantum asks _ _ _ (length a.output.now)
+          c.requires.asks.1
+          (turn_shown _ _ _ _ _ _ _ c.take_turn-step.ensures refl a.made c.requires.can_open c.requires.made_lt_most_turns.1 f) }
 
 pub returns : goal.returns
 returns c =

@@ -32,38 +32,34 @@ overflow_mul-room c =
 
 pub slice_bounds-output-end : goal.slice_bounds-output-end
 slice_bounds-output-end c =
-    let s = start (goal.at.slice_bounds-output-end c).After-struct_known-1 in
-    let v = lent_survey s.args.rows.now s.args.pos.now s.args.osp.now in
-    let p = s.args.plan.now in
-    let form = started_form v p s.args.state.now s.args.opened s.pre.0 in
+    let v = lent_survey c.args.rows.now c.args.pos.now c.args.osp.now in
+    let p = c.args.plan.now in
+    let form = started_form v p c.args.state.now c.args.opened c.requires.started in
     let h = some_words c.lists_of-lists.result.kind c.lists_of-lists.result.width (lists_width p c.lists_of-lists.result (form, c.lists_of-lists.ensures)) in
     search rules
 
 pub slice_bounds-go_on-end-2 : goal.slice_bounds-go_on-end-2
 slice_bounds-go_on-end-2 c =
-    let s = start (goal.at.slice_bounds-go_on-end-2 c).After-struct_known-1 in
-    let v = lent_survey s.args.rows.now s.args.pos.now s.args.osp.now in
-    let p = s.args.plan.now in
-    let form = started_form v p s.args.state.now s.args.opened s.pre.0 in
+    let v = lent_survey c.args.rows.now c.args.pos.now c.args.osp.now in
+    let p = c.args.plan.now in
+    let form = started_form v p c.args.state.now c.args.opened c.requires.started in
     let h = some_words c.lists_of-lists.result.kind c.lists_of-lists.result.width (lists_width p c.lists_of-lists.result (form, c.lists_of-lists.ensures)) in
     simp length-take (omega arith)
 
 pub go_on-played-requires : goal.go_on-played-requires
-go_on-played-requires c = let s = start (goal.at.go_on-played-requires c).After-struct_known-1 in
-    let v = lent_survey s.args.rows.now s.args.pos.now s.args.osp.now in
-    let p = s.args.plan.now in
-    let form = started_form v p s.args.state.now s.args.opened s.pre.0 in
+go_on-played-requires c = let v = lent_survey c.args.rows.now c.args.pos.now c.args.osp.now in
+    let p = c.args.plan.now in
+    let form = started_form v p c.args.state.now c.args.opened c.requires.started in
     let h = some_words c.lists_of-lists.result.kind c.lists_of-lists.result.width (lists_width p c.lists_of-lists.result (form, c.lists_of-lists.ensures)) in
-    let wide : c.lists_of-lists.result.width ≡ width (plan_of p).ending = ap (λ (x : Listing). x.width) c.lists_of-lists.ensures in record { lists_of = (form, c.lists_of-lists.ensures); started = s.pre.0; asks = (s.pre.1, simp length-take (omega arith)) }
+    let wide : c.lists_of-lists.result.width ≡ width (plan_of p).ending = ap (λ (x : Listing). x.width) c.lists_of-lists.ensures in record { lists_of = (form, c.lists_of-lists.ensures); started = c.requires.started; asks = (c.requires.asks, simp length-take (omega arith)) }
 
 pub print_played-requires : goal.print_played-requires
-print_played-requires c = let s = start (goal.at.print_played-requires c).After-struct_known-1 in
-    let a = s.args in
-    let v = lent_survey s.args.rows.now s.args.pos.now s.args.osp.now in
-    let p = s.args.plan.now in
-    let form = started_form v p s.args.state.now s.args.opened s.pre.0 in
+print_played-requires c = let a = c.args in
+    let v = lent_survey c.args.rows.now c.args.pos.now c.args.osp.now in
+    let p = c.args.plan.now in
+    let form = started_form v p c.args.state.now c.args.opened c.requires.started in
     let h = some_words c.lists_of-lists.result.kind c.lists_of-lists.result.width (lists_width p c.lists_of-lists.result (form, c.lists_of-lists.ensures)) in
     let wide : c.lists_of-lists.result.width ≡ width (plan_of p).ending = ap (λ (x : Listing). x.width) c.lists_of-lists.ensures in
-    let opens = started_opens v p s.args.state.now s.args.opened s.pre.0 in
-    let left = leaves_by Merged v p s.args.state.now s.args.opened s.pre.0 _ _ _ most_turns c.go_on-played.result _ c.go_on-played.ensures in record { lists_of = file_lists a.bytes.now a.rows.now a.pos.now a.osp.now p a.quantum s.pre.1 c.lists_of-lists.result (form, c.lists_of-lists.ensures); can_open = file_opens a.bytes.now a.rows.now a.pos.now a.osp.now p a.quantum s.pre.1 opens; left_to_show = file_left a.bytes.now a.rows.now a.pos.now a.osp.now p a.quantum s.pre.1 opens _ _ _ _ c.go_on-played.result left
+    let opens = started_opens v p c.args.state.now c.args.opened c.requires.started in
+    let left = leaves_by Merged v p c.args.state.now c.args.opened c.requires.started _ _ _ most_turns c.go_on-played.result _ c.go_on-played.ensures in record { lists_of = file_lists a.bytes.now a.rows.now a.pos.now a.osp.now p a.quantum c.requires.asks c.lists_of-lists.result (form, c.lists_of-lists.ensures); can_open = file_opens a.bytes.now a.rows.now a.pos.now a.osp.now p a.quantum c.requires.asks opens; left_to_show = file_left a.bytes.now a.rows.now a.pos.now a.osp.now p a.quantum c.requires.asks opens _ _ _ _ c.go_on-played.result left
             (simp length-take (omega arith)) (search rules) }

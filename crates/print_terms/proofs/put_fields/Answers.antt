@@ -31,8 +31,8 @@ loop-i-preserved c =
     let x = c.put_field-next.ensures in (
       omega arith,
       omega arith,
-      field_next (field_as a.shown) a.words.now i c.loop-i.next c.put_field-next.result c.loop-i.line c.put_field-next.new.0 h room x ∙ inv.2,
-      field_placed (field_as a.shown) a.words.now i c.loop-i.next c.put_field-next.result c.loop-i.line c.put_field-next.new.0 h room x ∙ inv.3,
+      field_next (field_as a.shown) a.words.now i c.loop-i.next c.put_field-next.result c.loop-i.line c.put_field-next.new.line h room x ∙ inv.2,
+      field_placed (field_as a.shown) a.words.now i c.loop-i.next c.put_field-next.result c.loop-i.line c.put_field-next.new.line h room x ∙ inv.3,
     )
 
 pub shape_of-line : goal.shape_of-line

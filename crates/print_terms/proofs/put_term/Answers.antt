@@ -8,7 +8,6 @@ use Rattle.print_terms.proofs.put_term.Goals as goal
 pub returns : goal.returns
 returns c =
     let a = c.args in
-    
     placed_then (blank ∷ []) (term_text a.word) a.at c.put_byte-next.result c.put_text.result a.line.now
-    c.put_byte-next.new.0 c.put_text.new.0 (omega arith) c.put_byte-next.ensures
+    c.put_byte-next.new.line c.put_text.new.line (omega arith) c.put_byte-next.ensures
     c.put_text.ensures

@@ -37,8 +37,7 @@ put_value-requires c =
 pub returns : goal.returns
 returns c =
     let a = c.args in
-    
     let e = ap length (text_of (goal.at.returns c).After-letter_of) in
     rw (text_of (goal.at.returns c).After-letter_of)
-    (placed_then (c.letter_of.result ∷ []) (value_text a.word) a.at c.put_byte-next.result c.put_value.result a.line.now c.put_byte-next.new.0
-    c.put_value.new.0 (omega arith) c.put_byte-next.ensures c.put_value.ensures)
+    (placed_then (c.letter_of.result ∷ []) (value_text a.word) a.at c.put_byte-next.result c.put_value.result a.line.now c.put_byte-next.new.line
+    c.put_value.new.line (omega arith) c.put_byte-next.ensures c.put_value.ensures)

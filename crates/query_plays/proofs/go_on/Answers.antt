@@ -12,11 +12,11 @@ loop-n-init c = (omega arith, refl, refl, refl, rounds_none All _ _ _ _)
 
 pub loop-n-preserved : goal.loop-n-preserved
 loop-n-preserved c =
-    let e = rounds_next All _ _ _ _ c.loop-n.n c.loop-n.saved c.loop-n.used _ c.loop-n.inv.4 c.advance-went.result _ c.advance-went.ensures _ c.in-On.is in (
+    let e = rounds_next All _ _ _ _ c.loop-n.n c.loop-n.saved c.loop-n.used _ c.loop-n.invariant.4 c.advance-went.result _ c.advance-went.ensures _ c.in-On.is in (
       omega arith,
-      c.state-1.given ∙ c.loop-n.inv.1,
-      c.output-1.given ∙ c.loop-n.inv.2,
-      c.kept-1.given ∙ c.loop-n.inv.3,
+      c.state-1.given ∙ c.loop-n.invariant.1,
+      c.output-1.given ∙ c.loop-n.invariant.2,
+      c.kept-1.given ∙ c.loop-n.invariant.3,
       e,
     )
 
@@ -32,7 +32,7 @@ shape_of-kept-in-Over c =  c.kept-1.given ∙ c.loop-n.invariant.3
 pub returns-in-Over : goal.returns-in-Over
 returns-in-Over c =
     let w = c.in-Over.is in
-    let e = rounds_next All _ _ _ _ c.loop-n.n c.loop-n.saved c.loop-n.used _ c.loop-n.inv.4 c.advance-went.result _ c.advance-went.ensures _ w in
+    let e = rounds_next All _ _ _ _ c.loop-n.n c.loop-n.saved c.loop-n.used _ c.loop-n.invariant.4 c.advance-went.result _ c.advance-went.ensures _ w in
     rw (c.play_answer.ensures ∙ ap play_answer w) (sym (ap result_at (rounds_over All _ _ _ _ (c.loop-n.n + 1) _ (omega arith) _ _ e)))
 
 pub shape_of-state-in-Stopped : goal.shape_of-state-in-Stopped
@@ -47,7 +47,7 @@ shape_of-kept-in-Stopped c =  c.kept-1.given ∙ c.loop-n.invariant.3
 pub returns-in-Stopped : goal.returns-in-Stopped
 returns-in-Stopped c =
     let w = c.in-Stopped.is in
-    let e = rounds_next All _ _ _ _ c.loop-n.n c.loop-n.saved c.loop-n.used _ c.loop-n.inv.4 c.advance-went.result _ c.advance-went.ensures _ w in
+    let e = rounds_next All _ _ _ _ c.loop-n.n c.loop-n.saved c.loop-n.used _ c.loop-n.invariant.4 c.advance-went.result _ c.advance-went.ensures _ w in
     rw (c.play_answer-in-Stopped.ensures ∙ ap play_answer w) (sym (ap result_at (rounds_stopped All _ _ _ _ (c.loop-n.n + 1) _ (omega arith) _ _ e)))
 
 pub shape_of-state : goal.shape_of-state

@@ -13,33 +13,28 @@ slice_bounds-take_list-end c =
 
 pub slice_bounds-take_list-end-then-is_served : goal.slice_bounds-take_list-end-then-is_served
 slice_bounds-take_list-end-then-is_served c =
-    let u = at_turn (goal.at.slice_bounds-take_list-end-then-is_served c).Then-is_served in
-    let e = u.turn.ensures.0 in
-    sym (length-take-le u.turn.result.listed _
-    (served_room _ u.turn.result _ (ap (λ (r : TurnResult). r.answer) e) (ap (λ (r : TurnResult). r.buffers.output) e)
+    let e = c.turn-turned.ensures.output_after in
+    sym (length-take-le c.turn-turned.result.listed _
+    (served_room _ c.turn-turned.result _ (ap (λ (r : TurnResult). r.answer) e) (ap (λ (r : TurnResult). r.buffers.output) e)
     (sym c.is_served.ensures ∙ c.if-is_served.true)))
 
 pub take_list-taken-requires : goal.take_list-taken-requires
 take_list-taken-requires c =
-    let u = at_turn (goal.at.take_list-taken-requires c).Then-is_served in
-    served_form _ u.turn.result (ap (λ (r : TurnResult). r.answer) u.turn.ensures.0)
+    served_form _ c.turn-turned.result (ap (λ (r : TurnResult). r.answer) c.turn-turned.ensures.output_after)
     (sym c.is_served.ensures ∙ c.if-is_served.true)
 
 pub returns-then-is_served : goal.returns-then-is_served
 returns-then-is_served c =
-    let u = at_turn (goal.at.returns-then-is_served c).Then-is_served in
-    let s = start u.before.before.before.before in
-    let e = u.turn.ensures.0 in
-    list_taken_lem s.args.keeping _ s.args.kept.now s.args.used u.turn.result _ _ (ap (λ (r : TurnResult). r.answer) e)
+    let e = c.turn-turned.ensures.output_after in
+    list_taken_lem c.args.keeping _ c.args.kept.now c.args.used c.turn-turned.result _ _ (ap (λ (r : TurnResult). r.answer) e)
     (ap (λ (r : TurnResult). r.buffers.state) e) (ap (λ (r : TurnResult). r.buffers.output) e)
-    (record { answer = c.take_list-taken.result; buffers = c.take_list-taken.new.1.0 })
+    (record { answer = c.take_list-taken.result; buffers = c.take_list-taken.new.kept })
     (sym c.is_served.ensures ∙ c.if-is_served.true)
     c.take_list-taken.ensures
 
 pub returns : goal.returns
 returns c =
-    let s = start (goal.at.returns c).After-slice_known-2-1 in
     let e = c.turn-turned.ensures.output_after in
-    none_taken s.args.keeping _ s.args.kept.now s.args.used c.turn-turned.result _ _ (ap (λ (r : TurnResult). r.answer) e)
+    none_taken c.args.keeping _ c.args.kept.now c.args.used c.turn-turned.result _ _ (ap (λ (r : TurnResult). r.answer) e)
     (ap (λ (r : TurnResult). r.buffers.state) e) (ap (λ (r : TurnResult). r.buffers.output) e)
     (sym c.is_served.ensures ∙ c.if-is_served.false)

@@ -10,15 +10,4 @@ abbrev NumberResult : Type 0
 NumberResult = CallResult DictionaryWritten NumberBuffers
 
 pub returns : goal.returns
-returns c = let n = c.number.ensures.places_after in
-    let shown = rw (sym c.kind_of.ensures) (
-      c.numbered_numbers.ensures ∙ ap (λ (x : NumberResult). numbered_numbers x.answer) n,
-      (
-        ap (λ (x : NumberResult). x.buffers.bytes) n,
-        (
-          ap (λ (x : NumberResult). x.buffers.ends) n,
-          (ap (λ (x : NumberResult). x.buffers.numbers) n, ap (λ (x : NumberResult). x.buffers.places) n),
-        ),
-      ),
-    ) in
-    record { answer = shown.0; bytes = shown.1.0; ends = shown.1.1.0; numbers = shown.1.1.1.0; places = shown.1.1.1.1 }
+returns c = let n = c.number.ensures.places_after in rw (sym c.kind_of.ensures) record { answer = c.numbered_numbers.ensures ∙ ap (λ (x : NumberResult). numbered_numbers x.answer) n; bytes = ap (λ (x : NumberResult). x.buffers.bytes) n; ends = ap (λ (x : NumberResult). x.buffers.ends) n; numbers = ap (λ (x : NumberResult). x.buffers.numbers) n; places = ap (λ (x : NumberResult). x.buffers.places) n }

@@ -17,12 +17,11 @@ lent s = tables_of s.args.rows.now s.args.pos.now s.args.osp.now
 abbrev asked : Start → Plan
 asked s = plan_of s.args.plan.now
 
-year_is : (c : After-year_read) → let s = entry c.before.before in
-    c.year_read.result ≡ is_year_read (lent s.before.before.before.before.before.before.before.before.before.before.before.before.before.before.before) (asked s.before.before.before.before.before.before.before.before.before.before.before.before.before.before.before).years (year_in s.args.state.now)
+year_is : (c : After-year_read) → 
+    c.year_read.result ≡ is_year_read (tables_of c.args.rows.now c.args.pos.now c.args.osp.now) (plan_of c.args.plan.now).years (year_in c.args.state.now)
 year_is c =
-    let s = entry c.before.before in
     c.year_read.ensures
-    ∙ year_told (lent s.before.before.before.before.before.before.before.before.before.before.before.before.before.before.before) s.args.plan.now s.args.state.now s.pre.1 c.years_in.result c.years_in.ensures
+    ∙ year_told (tables_of c.args.rows.now c.args.pos.now c.args.osp.now) c.args.plan.now c.args.state.now c.requires.plan_value c.years_in.result c.years_in.ensures
     c.number.result c.number.ensures
 
 pub returns-then-state-lt2 : goal.returns-then-state-lt2
@@ -38,18 +37,16 @@ returns-then-kind-ne-YEAR c =
     sym (form_yearless (lent (goal.at.returns-then-kind-ne-YEAR c).Start) (asked (goal.at.returns-then-kind-ne-YEAR c).Start) c.args.state.now (sym c.kind.ensures ∙ c.if-kind-ne-SURVEY.false) (λ e. c.if-kind-ne-YEAR.true (c.kind-2.ensures ∙ e)))
 
 pub year_read-requires : goal.year_read-requires
-year_read-requires c = let s = entry (goal.at.year_read-requires c).After-years_in in record { right = s.pre.0; year_lt_term_values = omega (arith, c.number.ensures) }
+year_read-requires c =  record { right = c.requires.right; year_lt_term_values = omega (arith, c.number.ensures) }
 
 pub returns-then-not-year_read : goal.returns-then-not-year_read
 returns-then-not-year_read c =
-    let s = entry (goal.at.returns-then-not-year_read c).After-years_in in
-    sym (form_unread (lent s) (asked s) s.args.state.now (sym c.kind.ensures ∙ c.if-kind-ne-SURVEY.false) (sym c.kind-2.ensures ∙ c.if-kind-ne-YEAR.false)
+    sym (form_unread (lent (goal.at.returns-then-not-year_read c).Start) (asked (goal.at.returns-then-not-year_read c).Start) c.args.state.now (sym c.kind.ensures ∙ c.if-kind-ne-SURVEY.false) (sym c.kind-2.ensures ∙ c.if-kind-ne-YEAR.false)
     c.year_read.result (year_is (goal.at.returns-then-not-year_read c).After-year_read) (not-true _ c.if-not-year_read.true-raw))
 
 pub returns : goal.returns
 returns c =
-    let s = entry (goal.at.returns c).After-years_in in
     c.has_shape.ensures
-    ∙ ap (shape_behind (asked s)) (rest_of s.args.state.now 2)
-    ∙ sym (form_behind (lent s) (asked s) s.args.state.now (sym c.kind.ensures ∙ c.if-kind-ne-SURVEY.false) (sym c.kind-2.ensures ∙ c.if-kind-ne-YEAR.false)
+    ∙ ap (shape_behind (asked (goal.at.returns c).Start)) (rest_of c.args.state.now 2)
+    ∙ sym (form_behind (lent (goal.at.returns c).Start) (asked (goal.at.returns c).Start) c.args.state.now (sym c.kind.ensures ∙ c.if-kind-ne-SURVEY.false) (sym c.kind-2.ensures ∙ c.if-kind-ne-YEAR.false)
     c.year_read.result (year_is (goal.at.returns c).After-year_read) (not-false _ c.if-not-year_read.false-raw))

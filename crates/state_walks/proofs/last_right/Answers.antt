@@ -17,19 +17,18 @@ abbrev selected : Start → Prefix
 selected s = level_prefix s.args.year s.args.terms.now s.args.level s.args.bound.now
 
 -- the bounds that were found are those of the level's range
-prefix_is : (r : After-level_range-range) → prefix_of r.level_of.result ≡ selected r.before.before.before.before.before.before
+prefix_is : (r : After-level_range-range) → prefix_of r.level_of.result ≡ (level_prefix r.args.year r.args.terms.now r.args.level r.args.bound.now)
 prefix_is r =
-    let s = entry r in
-    sym (level_prefix_lem s.args.year s.args.terms.now s.args.level s.args.bound.now r.level_of.result r.level_of.ensures _ refl)
+    sym (level_prefix_lem r.args.year r.args.terms.now r.args.level r.args.bound.now r.level_of.result r.level_of.ensures _ refl)
 
-first_is_lem : (r : After-level_range-range) → r.level_range-range.result.first.0 ≡ range_start (lent r.before.before.before.before.before.before) (selected r.before.before.before.before.before.before)
-first_is_lem r = r.level_range-range.ensures.first_value ∙ ap (range_start (lent r.before.before.before.before.before.before)) (prefix_is r)
+first_is_lem : (r : After-level_range-range) → r.level_range-range.result.first.0 ≡ range_start ((tables_of r.args.rows.now r.args.pos.now r.args.osp.now)) ((level_prefix r.args.year r.args.terms.now r.args.level r.args.bound.now))
+first_is_lem r = r.level_range-range.ensures.first_value ∙ ap (range_start ((tables_of r.args.rows.now r.args.pos.now r.args.osp.now))) (prefix_is r)
 
-end_is : (r : After-level_range-range) → r.level_range-range.result.end.0 ≡ range_end (lent r.before.before.before.before.before.before) (selected r.before.before.before.before.before.before)
-end_is r = r.level_range-range.ensures.end_value ∙ ap (range_end (lent r.before.before.before.before.before.before)) (prefix_is r)
+end_is : (r : After-level_range-range) → r.level_range-range.result.end.0 ≡ range_end ((tables_of r.args.rows.now r.args.pos.now r.args.osp.now)) ((level_prefix r.args.year r.args.terms.now r.args.level r.args.bound.now))
+end_is r = r.level_range-range.ensures.end_value ∙ ap (range_end ((tables_of r.args.rows.now r.args.pos.now r.args.osp.now))) (prefix_is r)
 
 pub returns-then-place-first : goal.returns-then-place-first
-returns-then-place-first c = let s = entry (goal.at.returns-then-place-first c).After-level_range-range in record { right_value = sym (before_start (lent s) (selected s) s.args.place.0 (omega (arith, first_is_lem (goal.at.returns-then-place-first c).After-level_range-range, c.if-place-first.true))); ends = end_is (goal.at.returns-then-place-first c).After-level_range-range }
+returns-then-place-first c =  record { right_value = sym (before_start (lent (goal.at.returns-then-place-first c).Start) (selected (goal.at.returns-then-place-first c).Start) c.args.place.0 (omega (arith, first_is_lem (goal.at.returns-then-place-first c).After-level_range-range, c.if-place-first.true))); ends = end_is (goal.at.returns-then-place-first c).After-level_range-range }
 
 pub returns : goal.returns
-returns c = let s = entry (goal.at.returns c).After-level_range-range in record { right_value = from_start (lent s) (selected s) s.args.place.0 (omega (arith, first_is_lem (goal.at.returns c).After-level_range-range, c.if-place-first.false)) _ (end_is (goal.at.returns c).After-level_range-range); ends = end_is (goal.at.returns c).After-level_range-range }
+returns c =  record { right_value = from_start (lent (goal.at.returns c).Start) (selected (goal.at.returns c).Start) c.args.place.0 (omega (arith, first_is_lem (goal.at.returns c).After-level_range-range, c.if-place-first.false)) _ (end_is (goal.at.returns c).After-level_range-range); ends = end_is (goal.at.returns c).After-level_range-range }

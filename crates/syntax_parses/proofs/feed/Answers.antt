@@ -58,13 +58,12 @@ shape_of-out-then-c-eq3 c =
 pub returns-then-c-eq3 : goal.returns-then-c-eq3
 returns-then-c-eq3 c =
     let a = c.args in
-    
-    let h = placed_from c.cell-c.result a.table.now (drop (c.loop-at.at + 1) c.loop-at.stack) (drop c.push-low.result c.push-low.new.0) c.requires.3 c.push-low.ensures.2 in (
+    let h = placed_from c.cell-c.result a.table.now (drop (c.loop-at.at + 1) c.loop-at.stack) (drop c.push-low.result c.push-low.new.stack) c.requires.3 c.push-low.ensures.2 in (
       c.push-low.ensures.1 ∙ c.loop-at.invariant.2,
       length-set c.loop-at.out c.loop-at.m a.token ∙ c.loop-at.invariant.3,
       (omega (arith, c.push-low.ensures), omega (arith, c.push-low.ensures, c.cell-c.ensures), omega (arith, c.push-low.ensures, c.cell-c.ensures)),
       feed_write (a.token % 128) a.token c.loop-at.at c.loop-at.m c.loop-at.stack c.loop-at.out (omega arith) c.cell-c.result (omega arith) c.cell-c.ensures.0
-          c.push-low.result c.push-low.new.0 h (omega arith) (omega arith) ∙ c.loop-at.invariant.5,
+          c.push-low.result c.push-low.new.stack h (omega arith) (omega arith) ∙ c.loop-at.invariant.5,
     )
 
 pub push-low-requires-then-c-eq2 : goal.push-low-requires-then-c-eq2
@@ -82,13 +81,12 @@ shape_of-out-then-c-eq2 c = c.loop-at.invariant.3
 pub returns-then-c-eq2 : goal.returns-then-c-eq2
 returns-then-c-eq2 c =
     let a = c.args in
-    
-    let h = placed_from c.cell-c.result a.table.now (drop (c.loop-at.at + 1) c.loop-at.stack) (drop c.push-low-then-c-eq2.result c.push-low-then-c-eq2.new.0) c.requires.3 c.push-low-then-c-eq2.ensures.2 in (
+    let h = placed_from c.cell-c.result a.table.now (drop (c.loop-at.at + 1) c.loop-at.stack) (drop c.push-low-then-c-eq2.result c.push-low-then-c-eq2.new.stack) c.requires.3 c.push-low-then-c-eq2.ensures.2 in (
       c.push-low-then-c-eq2.ensures.1 ∙ c.loop-at.invariant.2,
       c.loop-at.invariant.3,
       (omega (arith, c.push-low-then-c-eq2.ensures), omega (arith, c.push-low-then-c-eq2.ensures, c.cell-c.ensures), omega (arith, c.push-low-then-c-eq2.ensures, c.cell-c.ensures)),
       feed_shift (a.token % 128) a.token c.loop-at.at c.loop-at.m c.loop-at.stack c.loop-at.out (omega arith) c.cell-c.result (omega arith) c.cell-c.ensures.0
-          c.push-low-then-c-eq2.result c.push-low-then-c-eq2.new.0 h (omega arith) ∙ c.loop-at.invariant.5,
+          c.push-low-then-c-eq2.result c.push-low-then-c-eq2.new.stack h (omega arith) ∙ c.loop-at.invariant.5,
     )
 
 pub loop-at-preserved : goal.loop-at-preserved

@@ -44,7 +44,6 @@ returns-in-Off c =
 pub loop-i-preserved : goal.loop-i-preserved
 loop-i-preserved c =
     let a = c.args in
-    
     let w = rw c.in-On.is at c.feed-fed.ensures in (
       omega arith,
       omega (arith, w),
@@ -52,8 +51,8 @@ loop-i-preserved c =
       omega (arith, w),
       c.feed-fed.ensures.0 ∙ c.loop-i.invariant.4,
       c.feed-fed.ensures.1 ∙ c.loop-i.invariant.5,
-      parse_on a.tokens.now c.loop-i.i (omega arith) (drop c.loop-i.top c.loop-i.stack) (take c.loop-i.m c.loop-i.out) (drop c.in-On.a c.feed-fed.new.1.0)
-          (take c.in-On.b c.feed-fed.new.1.1.1.0) w.3 ∙ c.loop-i.invariant.6,
+      parse_on a.tokens.now c.loop-i.i (omega arith) (drop c.loop-i.top c.loop-i.stack) (take c.loop-i.m c.loop-i.out) (drop c.in-On.a c.feed-fed.new.stack)
+          (take c.in-On.b c.feed-fed.new.out) w.3 ∙ c.loop-i.invariant.6,
     )
 
 pub shape_of-stack-then-top-stack : goal.shape_of-stack-then-top-stack

@@ -11,13 +11,11 @@ use Rattle.tables.proofs.RowNumbers.{numbers_named}
 use Rattle.table_lists.proofs.write_list.Goals as goal
 
 pub sort-requires : goal.sort-requires
-sort-requires c = let s = start (goal.at.sort-requires c).After-slice_known-3-1 in record { list_value = rw c.count_up.ensures (numbers_named s.args.rows.now (length s.args.list.now) s.pre.whole); list_in_bounds = omega (arith, c.count_up.auto.0, s.pre.spared) }
+sort-requires c =  record { list_value = rw c.number.ensures (numbers_named c.args.rows.now (length c.args.list.now) c.requires.whole); list_in_bounds = omega (arith, c.number.auto.0, c.requires.spared) }
 
 pub returns : goal.returns
 unfolding row_numbers
 returns c =
-    let s = start (goal.at.returns c).After-slice_known-3-1 in
-    
-    let rows = s.args.rows.now in
-    let m : length s.args.list.now ≡ length rows / column_count = omega (arith, s.pre.whole) in
-    c.sort.ensures ∙ ap (sort_by (number_before s.args.order rows)) (c.count_up.ensures ∙ ap numbers m)
+    let rows = c.args.rows.now in
+    let m : length c.args.list.now ≡ length rows / column_count = omega (arith, c.requires.whole) in
+    c.sort.ensures ∙ ap (sort_by (number_before c.args.order rows)) (c.number.ensures ∙ ap numbers m)

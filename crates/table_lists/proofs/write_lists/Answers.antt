@@ -49,21 +49,18 @@ write_list-requires c =
 
 pub slice_bounds-write_list-end-4 : goal.slice_bounds-write_list-end-4
 slice_bounds-write_list-end-4 c =
-    let s = start (goal.at.slice_bounds-write_list-end-4 c).After-write_list-arg-2-1 in
-    sym (length-take-le (s.args.count * column_count) s.args.rows.now s.pre.1.0)
+    sym (length-take-le (c.args.count * column_count) c.args.rows.now c.requires.column_count_in_bounds.0)
 
 pub slice_bounds-write_list-end-6 : goal.slice_bounds-write_list-end-6
 slice_bounds-write_list-end-6 c =
-    let s = start (goal.at.slice_bounds-write_list-end-6 c).After-write_list-arg-2-1 in
-    sym (length-take-le s.args.count s.args.osp.now s.pre.1.2)
+    sym (length-take-le c.args.count c.args.osp.now c.requires.column_count_in_bounds.2)
 
 pub write_list-requires-2 : goal.write_list-requires-2
 write_list-requires-2 c =
-    let s = start (goal.at.write_list-requires-2 c).After-write_list-arg-2-1 in
-    room s.args.rows.now s.args.count s.pre.1.0 _ _ (length-take-le s.args.count s.args.osp.now s.pre.1.2) s.pre.0.0
-    (omega (arith, s.pre.0.1, c.write_list.auto.1))
+    room c.args.rows.now c.args.count c.requires.column_count_in_bounds.0 _ _ (length-take-le c.args.count c.args.osp.now c.requires.column_count_in_bounds.2) c.requires.count_le_most_rows.0
+    (omega (arith, c.requires.count_le_most_rows.1, c.write_list.auto.1))
 
 pub returns : goal.returns
 returns c = let q = at-write-list (goal.at.returns c).After-write_list-arg-4-1 in
     let p = q.write-list in
-    let s = start q in record { pos_after = over_list s.args.rows.now s.args.count s.pre.1.0 Pos p.last.1.1.0 s.args.pos.now p.ensures; osp_after = over_list s.args.rows.now s.args.count s.pre.1.0 Osp c.write_list-2.new.1.1.0 s.args.osp.now c.write_list-2.ensures }
+    let s = q in record { pos_after = over_list s.args.rows.now s.args.count s.pre.1.0 Pos p.last.1.1.0 s.args.pos.now p.ensures; osp_after = over_list s.args.rows.now s.args.count s.pre.1.0 Osp c.write_list-2.new.list s.args.osp.now c.write_list-2.ensures }

@@ -25,7 +25,7 @@ lent s = tables_of s.args.rows.now s.args.pos.now s.args.osp.now
 
 -- what is known after the test of the lengths
 abbrev checked : Else-not-lengths_right → Tables
-checked c = lent c.before.before.before.before.before
+checked c = (tables_of c.args.rows.now c.args.pos.now c.args.osp.now)
 
 lengths : (c : Else-not-lengths_right) → lengths_right (checked c) ≡ true
 lengths c = sym c.lengths_right.ensures ∙ not-false _ c.if-not-lengths_right.false-raw
@@ -38,7 +38,7 @@ fits c i = omega (arith, c.type_inv.rows i)
 
 -- what is known of the rows where they ascend: one year, if the first and the last have one
 abbrev looked : After-years_alike-alike → Tables
-looked f = checked f.before.before
+looked f = (tables_of f.args.rows.now f.args.pos.now f.args.osp.now)
 
 alike : (f : After-years_alike-alike) → ascends Spo (looked f) ≡ true → f.years_alike-alike.result ≡ true → OneYear (looked f).rows
 alike f u h =
@@ -47,10 +47,10 @@ alike f u h =
     one_year (looked f) u (eqb-true _ _ (rw (← n) (sym f.years_alike-alike.ensures ∙ h)))
 
 -- what the orders say where kinds and years are right
-by_orders : (w : After-walk-orders) → let t = looked w.before in
+by_orders : (w : After-walk-orders) → let t = (tables_of w.args.rows.now w.args.pos.now w.args.osp.now) in
     (kinds_right t ≡ true) × (years_right t ≡ true) → number_of (first_failing (table_tests t)) ≡ refusal_after w.walk-orders.result
 by_orders w p =
-    orders_say (looked w.before) (sized w.before.before.before) (fits w.before.before.before) p w.years_alike-alike.result (alike w.before)
+    orders_say ((tables_of w.args.rows.now w.args.pos.now w.args.osp.now)) (sized w.before.before.before) (fits w.before.before.before) p w.years_alike-alike.result (alike w.before)
     ∙ ap refusal_after (sym w.walk-orders.ensures)
 
 pub returns-then-not-lengths_right : goal.returns-then-not-lengths_right

@@ -19,21 +19,19 @@ last_is s = let z = s.requires.sized.pos_length in omega arith
 own_last : (o : After-own_row-own) → o.own_row-own.result.0 ≡ row_of_last Spo (lent o.before.before.before.before)
 own_last o = o.own_row-own.ensures ∙ last_is o.before.before.before.before
 
-pos_last : (n : After-number_at-by_predicate) → n.number_at-by_predicate.result.0 ≡ row_of_last Pos (lent n.before.before.before.before.before)
-pos_last n = n.number_at-by_predicate.ensures ∙ ap (row_at Pos (lent n.before.before.before.before.before)) (last_is n.before.before.before.before.before)
+pos_last : (n : After-number_at-by_predicate) → n.number_at-by_predicate.result.0 ≡ row_of_last Pos (tables_of n.args.rows.now n.args.pos.now n.args.osp.now)
+pos_last n = n.number_at-by_predicate.ensures ∙ ap (row_at Pos (tables_of n.args.rows.now n.args.pos.now n.args.osp.now)) (last_is n.before.before.before.before.before)
 
-osp_last : (n : After-number_at-by_object) → n.number_at-by_object.result.0 ≡ row_of_last Osp (lent n.before.before.before.before.before.before)
-osp_last n = n.number_at-by_object.ensures ∙ ap (row_at Osp (lent n.before.before.before.before.before.before)) (last_is n.before.before.before.before.before.before)
+osp_last : (n : After-number_at-by_object) → n.number_at-by_object.result.0 ≡ row_of_last Osp (tables_of n.args.rows.now n.args.pos.now n.args.osp.now)
+osp_last n = n.number_at-by_object.ensures ∙ ap (row_at Osp (tables_of n.args.rows.now n.args.pos.now n.args.osp.now)) (last_is n.before.before.before.before.before.before)
 
 pub field-predicate-requires : goal.field-predicate-requires
 field-predicate-requires c =
-    let s = start (goal.at.field-predicate-requires c).After-own_row-own in
-    (omega (arith, pos_last (goal.at.field-predicate-requires c).After-number_at-by_predicate, s.pre.1.1 Pos, s.pre.0.whole), omega arith)
+    (omega (arith, pos_last (goal.at.field-predicate-requires c).After-number_at-by_predicate, c.requires.last_named Pos, c.requires.sized.whole), omega arith)
 
 pub field-object-requires : goal.field-object-requires
 field-object-requires c =
-    let s = start (goal.at.field-object-requires c).After-own_row-own in
-    (omega (arith, osp_last (goal.at.field-object-requires c).After-number_at-by_object, s.pre.1.1 Osp, s.pre.0.whole), omega arith)
+    (omega (arith, osp_last (goal.at.field-object-requires c).After-number_at-by_object, c.requires.last_named Osp, c.requires.sized.whole), omega arith)
 
 pub returns : goal.returns
 returns c =

@@ -33,7 +33,6 @@ pub make_within-requires : goal.make_within-requires
 make_within-requires c = let n = length-replicate {A = ℕ} most_rows 0 in record { upload_value = upload_right_lem c.args.upload.now c.if-upload-ne0.false c.if-upload-gt-MOST_ROWS.false; list_len = (n, n, enough (length {A = ℕ} (replicate (most_rows / 2) 0)) (length-replicate {A = ℕ} (most_rows / 2) 0)) }
 
 pub returns : goal.returns
-returns c = let m = at-make-within (goal.at.returns c).After-report-1 in
-    let s = start m.before.before.before.before.before.before.before in
-    let shown = call_told make_schema make_is_right (lent s) m.make-within.ensures in
+returns c = 
+    let shown = call_told make_schema make_is_right (lent (goal.at.returns c).Start) c.make_within.ensures in
     record { report_after = shown.0; number = shown.1 }

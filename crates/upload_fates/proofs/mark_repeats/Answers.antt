@@ -23,7 +23,7 @@ named l i h = leb-true _ _ (all_at_lem (in_rows l.args.upload.now) (list l) i 0 
 
 -- a number that names a row has a fate
 judged : (l : Loop) (i : ℕ) → i < length (list l) → get_or (list l) i 0 < length l.loop-place.fates
-judged l i h = omega (arith, named l i h, l.requires.upload_in_bounds, l.loop-place.inv.2)
+judged l i h = omega (arith, named l i h, l.requires.upload_in_bounds, l.loop-place.invariant.2)
 
 pub loop-place-init : goal.loop-place-init
 loop-place-init c =

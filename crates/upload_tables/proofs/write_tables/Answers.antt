@@ -27,19 +27,15 @@ made_size : (s : Start) → length (made_rows s.args.upload.now) ≡ s.args.kept
 made_size s = omega (arith, made_length s.args.upload.now, s.requires.ready_to_write.counted)
 
 pub write_rows-end-requires : goal.write_rows-end-requires
-write_rows-end-requires c = let s = start c in
-    let up = s.args.upload.now in record { list_value = rw s.pre.0.listed (right_named up); upload_in_bounds = s.pre.0.long; list_in_bounds = omega (arith, ap length (words_made s), made_size s, s.pre.1.0.0) }
+write_rows-end-requires c = let up = c.args.upload.now in record { list_value = rw c.requires.ready_to_write.listed (right_named up); upload_in_bounds = c.requires.ready_to_write.long; list_in_bounds = omega (arith, ap length (words_made (goal.at.write_rows-end-requires c).Start), made_size (goal.at.write_rows-end-requires c).Start, c.requires.column_count_in_bounds.0) }
 
 pub write_lists-requires : goal.write_lists-requires
 write_lists-requires c =
-    let s = start (goal.at.write_lists-requires c).After-slice_known-4-1 in
-    let most = kept_most s.args.upload.now in
+    let most = kept_most c.args.upload.now in
     search rules
 
 pub returns : goal.returns
-returns c = let w = at-write-rows (goal.at.returns c).After-write_lists in
-    let s = start w.before in
-    let a = s.args in
-    let rows : w.write-rows.last.1.1.1.0 ≡ over (made_rows a.upload.now) a.rows.now =
-    w.write-rows.ensures.1 ∙ ap (λ ws. over ws a.rows.now) (words_made s) in
-    let first = ap₂ take (sym (made_size s)) rows ∙ take_over (made_rows a.upload.now) a.rows.now in record { value = w.write-rows.ensures.0 ∙ ap length (words_made s) ∙ made_size s; rows_after = rows; pos_after = c.write_lists.ensures.pos_after ∙ ap (λ rs. over (row_numbers Pos rs) a.pos.now) first; osp_after = c.write_lists.ensures.osp_after ∙ ap (λ rs. over (row_numbers Osp rs) a.osp.now) first }
+returns c = let a = c.args in
+    let rows : c.write_rows-end.last.1.1.1.0 ≡ over (made_rows a.upload.now) a.rows.now =
+    c.write_rows-end.ensures.rows_after ∙ ap (λ ws. over ws a.rows.now) (words_made (goal.at.returns c).Start) in
+    let first = ap₂ take (sym (made_size (goal.at.returns c).Start)) rows ∙ take_over (made_rows a.upload.now) a.rows.now in record { value = c.write_rows-end.ensures.value ∙ ap length (words_made (goal.at.returns c).Start) ∙ made_size (goal.at.returns c).Start; rows_after = rows; pos_after = c.write_lists.ensures.pos_after ∙ ap (λ rs. over (row_numbers Pos rs) a.pos.now) first; osp_after = c.write_lists.ensures.osp_after ∙ ap (λ rs. over (row_numbers Osp rs) a.osp.now) first }

@@ -56,7 +56,6 @@ one_more-number-requires c =
 
 pub loop-row-preserved : goal.loop-row-preserved
 loop-row-preserved c =
-    let s = start (goal.at.loop-row-preserved c).At-loop-row in
     let row = c.loop-row.row in
     let mark : c.mark_by.result ≡ mark_of (visible_at (goal.at.loop-row-preserved c).At-loop-row) row = c.mark_by.ensures ∙ ap₂ mark_by c.next_seen-this.ensures.0 c.loop-row.invariant.1 in
     let z : row ≡ row + 1 - 1 = omega arith in (
@@ -64,9 +63,9 @@ loop-row-preserved c =
       c.one_more-number.ensures ∙ rw (c.next_seen-this.ensures.0, c.loop-row.invariant.1) (number_next (visible_at (goal.at.loop-row-preserved c).At-loop-row) row),
       (simp length-set) ∙ c.loop-row.invariant.2,
       ap (λ n. set c.loop-row.marks n c.mark_by.result) c.wide.ensures
-          ∙ marks_over (visible_at (goal.at.loop-row-preserved c).At-loop-row) row s.args.marks.now c.loop-row.marks c.mark_by.result (omega (arith, s.pre.1.1.1)) c.loop-row.invariant.3 mark,
+          ∙ marks_over (visible_at (goal.at.loop-row-preserved c).At-loop-row) row c.args.marks.now c.loop-row.marks c.mark_by.result (omega (arith, c.requires.column_count_in_bounds.1)) c.loop-row.invariant.3 mark,
       λ h k₁ y.
-          let a = subjects_rise (rows (goal.at.loop-row-preserved c).At-loop-row) s.pre.0 row (row + 1) (omega arith) (omega arith) (ap (λ n. field_of (rows (goal.at.loop-row-preserved c).At-loop-row) n year_column) z ∙ y) in
+          let a = subjects_rise (rows (goal.at.loop-row-preserved c).At-loop-row) c.requires.rows_right row (row + 1) (omega arith) (omega arith) (ap (λ n. field_of (rows (goal.at.loop-row-preserved c).At-loop-row) n year_column) z ∙ y) in
           omega (
             arith,
             c.next_seen-this.ensures.1,

@@ -39,10 +39,10 @@ subject l = field_of (rows l) (row l) subject_column
 
 -- whether the next row is of them
 asks : (c : After-is_of) → 
-    c.is_of.result ≡ is_of (rows c.before.before) (year c.before.before) (subject c.before.before) c.loop-next.next
+    c.is_of.result ≡ is_of (c.args.rows.now) ((field_of (c.args.rows.now) (c.args.row) year_column)) ((field_of (c.args.rows.now) (c.args.row) subject_column)) c.loop-next.next
 asks c =
     c.is_of.ensures
-    ∙ ap₂ (λ y s. is_of (rows c.before.before) y s c.loop-next.next) c.field-year.ensures c.field-subject.ensures
+    ∙ ap₂ (λ y s. is_of (c.args.rows.now) y s c.loop-next.next) c.field-year.ensures c.field-subject.ensures
 
 pub field-year-requires : goal.field-year-requires
 field-year-requires c = let h = c.requires.first_of_subject.there in (omega arith, omega arith)
@@ -55,9 +55,8 @@ overflow_cast-count c = let h = c.requires.rows_right.few in omega arith
 
 pub loop-next-init : goal.loop-next-init
 loop-next-init c =
-    let s = start c in
-    let h = s.pre.1.0.there in
-    (omega arith, omega arith, told_before s.args.rows.now s.args.flags.now s.args.granted s.args.row s.pre.1.0)
+    let h = c.requires.first_of_subject.there in
+    (omega arith, omega arith, told_before c.args.rows.now c.args.flags.now c.args.granted c.args.row c.requires.first_of_subject)
 
 pub returns-then-not-is_of : goal.returns-then-not-is_of
 returns-then-not-is_of c =

@@ -35,12 +35,12 @@ year_word l = field_of (rows l) l.loop-place.place year_column
 abbrev end : Loop → ℕ
 end l = range_end (tables l.before.before.before.before.before.before) (year_prefix Spo (year_word l))
 
-there : (c : In-loop-place) → c.loop-place.place < row_count (tables c.before.before.before.before.before.before.before)
+there : (c : In-loop-place) → c.loop-place.place < row_count (tables_of c.args.rows.now c.args.pos.now c.args.osp.now)
 there c = omega arith
 
-ahead : (c : In-loop-place) → c.loop-place.place < end c.before
+ahead : (c : In-loop-place) → c.loop-place.place < (range_end (tables_of c.args.rows.now c.args.pos.now c.args.osp.now) (year_prefix Spo ((field_of (c.args.rows.now) c.loop-place.place year_column))))
 ahead c =
-    row_inside (tables c.before.before.before.before.before.before.before) c.requires.right (grant c.before) (membership c.before) c.loop-place.flags c.loop-place.place (there c)
+    row_inside (tables_of c.args.rows.now c.args.pos.now c.args.osp.now) c.requires.right (c.args.grant.now) (c.args.membership) c.loop-place.flags c.loop-place.place (there c)
 
 pub overflow_cast-count : goal.overflow_cast-count
 overflow_cast-count c = let h = c.requires.right.sized.few in omega arith
@@ -53,20 +53,20 @@ pub field-year-requires : goal.field-year-requires
 field-year-requires c = let h = there (goal.at.field-year-requires c).In-loop-place in (omega (arith, c.own_row.ensures), omega arith)
 
 -- the year that is read
-year_is : (c : After-field-year) → c.field-year.result ≡ year_word c.before.before.before
-year_is c = c.field-year.ensures ∙ ap (λ r. field_of (rows c.before.before.before) r year_column) c.own_row.ensures
+year_is : (c : After-field-year) → c.field-year.result ≡ (field_of (c.args.rows.now) c.loop-place.place year_column)
+year_is c = c.field-year.ensures ∙ ap (λ r. field_of (c.args.rows.now) r year_column) c.own_row.ensures
 
 pub flag_year-requires : goal.flag_year-requires
-flag_year-requires c = let s = start (goal.at.flag_year-requires c).At-loop-place in record { right = s.pre.0; grant_value = s.pre.1.0; flagged_as = subst (λ y. FlaggedAs (of_earlier (rows (goal.at.flag_year-requires c).At-loop-place) y) (rows (goal.at.flag_year-requires c).At-loop-place) (grant (goal.at.flag_year-requires c).At-loop-place) (membership (goal.at.flag_year-requires c).At-loop-place) c.loop-place.flags) (sym (year_is (goal.at.flag_year-requires c).After-field-year))
-            (walked_before (tables s) s.pre.0 (grant (goal.at.flag_year-requires c).At-loop-place) (membership (goal.at.flag_year-requires c).At-loop-place) c.loop-place.flags c.loop-place.place (there (goal.at.flag_year-requires c).In-loop-place) c.loop-place.invariant.2) }
+flag_year-requires c =  record { right = c.requires.right; grant_value = c.requires.grant_value; flagged_as = subst (λ y. FlaggedAs (of_earlier (rows (goal.at.flag_year-requires c).At-loop-place) y) (rows (goal.at.flag_year-requires c).At-loop-place) (grant (goal.at.flag_year-requires c).At-loop-place) (membership (goal.at.flag_year-requires c).At-loop-place) c.loop-place.flags) (sym (year_is (goal.at.flag_year-requires c).After-field-year))
+            (walked_before (tables (goal.at.flag_year-requires c).Start) c.requires.right (grant (goal.at.flag_year-requires c).At-loop-place) (membership (goal.at.flag_year-requires c).At-loop-place) c.loop-place.flags c.loop-place.place (there (goal.at.flag_year-requires c).In-loop-place) c.loop-place.invariant.2) }
 
 -- the prefix that the code asks for is that of the row's year
 asked : (c : After-field-year) → 
-    range_end (tables c.before.before.before.before.before.before.before.before.before) (year_prefix Spo c.field-year.result) ≡ end c.before.before.before
-asked c =  ap (λ y. range_end (tables c.before.before.before.before.before.before.before.before.before) (year_prefix Spo y)) (year_is c)
+    range_end (tables_of c.args.rows.now c.args.pos.now c.args.osp.now) (year_prefix Spo c.field-year.result) ≡ (range_end (tables_of c.args.rows.now c.args.pos.now c.args.osp.now) (year_prefix Spo ((field_of (c.args.rows.now) c.loop-place.place year_column))))
+asked c =  ap (λ y. range_end (tables_of c.args.rows.now c.args.pos.now c.args.osp.now) (year_prefix Spo y)) (year_is c)
 
 pub end_from-place-requires : goal.end_from-place-requires
-end_from-place-requires c = let s = start (goal.at.end_from-place-requires c).At-loop-place in record { right = s.pre.0; count_le_column_count = omega arith; from_bound = omega (arith, ahead (goal.at.end_from-place-requires c).In-loop-place, asked (goal.at.end_from-place-requires c).After-field-year) }
+end_from-place-requires c =  record { right = c.requires.right; count_le_column_count = omega arith; from_bound = omega (arith, ahead (goal.at.end_from-place-requires c).In-loop-place, asked (goal.at.end_from-place-requires c).After-field-year) }
 
 pub loop-place-smaller : goal.loop-place-smaller
 loop-place-smaller c =
@@ -74,17 +74,15 @@ loop-place-smaller c =
 
 pub loop-place-preserved : goal.loop-place-preserved
 loop-place-preserved c =
-    let s = start (goal.at.loop-place-preserved c).At-loop-place in
     let e : c.end_from-place.result.0 ≡ end (goal.at.loop-place-preserved c).At-loop-place = c.end_from-place.ensures ∙ asked (goal.at.loop-place-preserved c).After-field-year in
-    let flags = c.flag_year.new.1.1.1.1.1.1.0 in (
+    let flags = c.flag_year.new.flags in (
       omega arith,
-      omega (arith, e, end_le_count (tables s) (year_prefix Spo (year_word (goal.at.loop-place-preserved c).At-loop-place))),
-      subst (Walked (tables s) (grant (goal.at.loop-place-preserved c).At-loop-place) (membership (goal.at.loop-place-preserved c).At-loop-place) flags) (sym e)
-          (walked_after (tables s) s.pre.0 (grant (goal.at.loop-place-preserved c).At-loop-place) (membership (goal.at.loop-place-preserved c).At-loop-place) flags c.loop-place.place (there (goal.at.loop-place-preserved c).In-loop-place)
+      omega (arith, e, end_le_count (tables (goal.at.loop-place-preserved c).Start) (year_prefix Spo (year_word (goal.at.loop-place-preserved c).At-loop-place))),
+      subst (Walked (tables (goal.at.loop-place-preserved c).Start) (grant (goal.at.loop-place-preserved c).At-loop-place) (membership (goal.at.loop-place-preserved c).At-loop-place) flags) (sym e)
+          (walked_after (tables (goal.at.loop-place-preserved c).Start) c.requires.right (grant (goal.at.loop-place-preserved c).At-loop-place) (membership (goal.at.loop-place-preserved c).At-loop-place) flags c.loop-place.place (there (goal.at.loop-place-preserved c).In-loop-place)
           (subst (λ a. FlaggedAs (not_later (rows (goal.at.loop-place-preserved c).At-loop-place) a) (rows (goal.at.loop-place-preserved c).At-loop-place) (grant (goal.at.loop-place-preserved c).At-loop-place) (membership (goal.at.loop-place-preserved c).At-loop-place) flags) (year_is (goal.at.loop-place-preserved c).After-field-year) c.flag_year.ensures)),
     )
 
 pub returns : goal.returns
 returns c =
-    let s = start (goal.at.returns c).At-loop-place in
-    walked_all (tables s) s.pre.0 (grant (goal.at.returns c).At-loop-place) (membership (goal.at.returns c).At-loop-place) c.loop-place.flags c.loop-place.place (omega arith) c.loop-place.invariant.2
+    walked_all (tables (goal.at.returns c).Start) c.requires.right (grant (goal.at.returns c).At-loop-place) (membership (goal.at.returns c).At-loop-place) c.loop-place.flags c.loop-place.place (omega arith) c.loop-place.invariant.2

@@ -37,14 +37,14 @@ row l = row_at Pos (tables l.before.before.before.before.before.before.before.be
 most : (l : Loop) → range_end (tables l.before.before.before.before.before.before.before.before) (members_of (year l) (membership l)) ≤ row_count (tables l.before.before.before.before.before.before.before.before)
 most l = end_le_count (tables l.before.before.before.before.before.before.before.before) (members_of (year l) (membership l))
 
-inside : (c : In-loop-place) →  c.loop-place.place < range_end (tables c.before.before.before.before.before.before.before.before.before) (members_of (year c.before) (membership c.before))
+inside : (c : In-loop-place) →  c.loop-place.place < range_end (tables_of c.args.rows.now c.args.pos.now c.args.osp.now) (members_of (c.args.year) (c.args.membership))
 inside c = omega (arith, c.loop-place.invariant.3)
 
-there : (c : In-loop-place) → c.loop-place.place < row_count (tables c.before.before.before.before.before.before.before.before.before)
+there : (c : In-loop-place) → c.loop-place.place < row_count (tables_of c.args.rows.now c.args.pos.now c.args.osp.now)
 there c = omega (arith, inside c, most c.before)
 
 long : (l : Loop) → row_count (tables l.before.before.before.before.before.before.before.before) ≤ length l.loop-place.flags
-long l = omega (arith, l.requires.flagged_as.long, l.loop-place.inv.0)
+long l = omega (arith, l.requires.flagged_as.long, l.loop-place.invariant.0)
 
 pub halved-start-requires : goal.halved-start-requires
 halved-start-requires c =  record { right = c.requires.right; count_le_column_count = omega arith }
@@ -74,17 +74,17 @@ field-requires c = (c.row_at-row.ensures.column_count_in_bounds, omega arith)
 
 -- the object that is read
 object_is : (c : After-field) → 
-    c.field.result ≡ field_of c.args.rows.now (row c.before.before.before) object_column
+    c.field.result ≡ field_of c.args.rows.now ((row_at Pos (tables_of c.args.rows.now c.args.pos.now c.args.osp.now) c.loop-place.place)) object_column
 object_is c =
     c.field.ensures ∙ ap (λ r. field_of c.args.rows.now r object_column) c.row_at-row.ensures.result_value
 
 pub seek-sought-requires : goal.seek-sought-requires
-seek-sought-requires c = let s = start (goal.at.seek-sought-requires c).At-loop-place in record { grant_value = s.pre.1.0; from_bound = subst (λ w. c.loop-place.from ≤ first_from (grant (goal.at.seek-sought-requires c).At-loop-place) w) (sym (object_is c))
-          (sought_behind (tables s) s.pre.0 (grant (goal.at.seek-sought-requires c).At-loop-place) (year (goal.at.seek-sought-requires c).At-loop-place) (membership (goal.at.seek-sought-requires c).At-loop-place) c.loop-place.flags c.loop-place.place c.loop-place.from c.loop-place.invariant.4
+seek-sought-requires c =  record { grant_value = c.requires.grant_value; from_bound = subst (λ w. c.loop-place.from ≤ first_from (grant (goal.at.seek-sought-requires c).At-loop-place) w) (sym (object_is c))
+          (sought_behind (tables (goal.at.seek-sought-requires c).Start) c.requires.right (grant (goal.at.seek-sought-requires c).At-loop-place) (year (goal.at.seek-sought-requires c).At-loop-place) (membership (goal.at.seek-sought-requires c).At-loop-place) c.loop-place.flags c.loop-place.place c.loop-place.from c.loop-place.invariant.4
           c.loop-place.invariant.1 (inside (goal.at.seek-sought-requires c).In-loop-place) (there (goal.at.seek-sought-requires c).In-loop-place)) }
 
 -- where the flag is written
-written : (c : After-wide) → c.wide.result ≡ row c.before.before.before.before.before.before
+written : (c : After-wide) → c.wide.result ≡ (row_at Pos (tables_of c.args.rows.now c.args.pos.now c.args.osp.now) c.loop-place.place)
 written c = c.wide.ensures ∙ c.row_at-row.ensures.result_value
 
 pub bounds-flags-wide : goal.bounds-flags-wide
@@ -93,26 +93,24 @@ bounds-flags-wide c =
 
 pub loop-place-preserved : goal.loop-place-preserved
 loop-place-preserved c =
-    let s = start (goal.at.loop-place-preserved c).At-loop-place in
     let next = c.seek-sought.result.at in
     let flag = c.flag_by.result in
-    let n : next ≡ first_from (grant (goal.at.loop-place-preserved c).At-loop-place) (field_of s.args.rows.now (row (goal.at.loop-place-preserved c).At-loop-place) object_column) =
+    let n : next ≡ first_from (grant (goal.at.loop-place-preserved c).At-loop-place) (field_of c.args.rows.now (row (goal.at.loop-place-preserved c).At-loop-place) object_column) =
     c.seek-sought.ensures.0 ∙ ap (first_from (grant (goal.at.loop-place-preserved c).At-loop-place)) (object_is (goal.at.loop-place-preserved c).After-field) in
-    let g : flag ≡ flag_by (member (field_of s.args.rows.now (row (goal.at.loop-place-preserved c).At-loop-place) object_column) (grant (goal.at.loop-place-preserved c).At-loop-place)) =
+    let g : flag ≡ flag_by (member (field_of c.args.rows.now (row (goal.at.loop-place-preserved c).At-loop-place) object_column) (grant (goal.at.loop-place-preserved c).At-loop-place)) =
     c.flag_by.ensures ∙ ap flag_by (c.seek-sought.ensures.1 ∙ ap (λ w. member w (grant (goal.at.loop-place-preserved c).At-loop-place)) (object_is (goal.at.loop-place-preserved c).After-field)) in (
       (simp length-set) ∙ c.loop-place.invariant.0,
       omega (arith, c.loop-place.invariant.1),
       omega arith,
       c.loop-place.invariant.3,
-      subst (λ r. Upto (tables s) (grant (goal.at.loop-place-preserved c).At-loop-place) (year (goal.at.loop-place-preserved c).At-loop-place) (membership (goal.at.loop-place-preserved c).At-loop-place) (set c.loop-place.flags r flag) (c.loop-place.place + 1) next) (sym (written c))
-          (upto_next (tables s) s.pre.0 (grant (goal.at.loop-place-preserved c).At-loop-place) (year (goal.at.loop-place-preserved c).At-loop-place) (membership (goal.at.loop-place-preserved c).At-loop-place) c.loop-place.flags c.loop-place.place c.loop-place.from c.loop-place.invariant.4
+      subst (λ r. Upto (tables (goal.at.loop-place-preserved c).Start) (grant (goal.at.loop-place-preserved c).At-loop-place) (year (goal.at.loop-place-preserved c).At-loop-place) (membership (goal.at.loop-place-preserved c).At-loop-place) (set c.loop-place.flags r flag) (c.loop-place.place + 1) next) (sym (written c))
+          (upto_next (tables (goal.at.loop-place-preserved c).Start) c.requires.right (grant (goal.at.loop-place-preserved c).At-loop-place) (year (goal.at.loop-place-preserved c).At-loop-place) (membership (goal.at.loop-place-preserved c).At-loop-place) c.loop-place.flags c.loop-place.place c.loop-place.from c.loop-place.invariant.4
           c.loop-place.invariant.1 (inside (goal.at.loop-place-preserved c).In-loop-place) (there (goal.at.loop-place-preserved c).In-loop-place) (most (goal.at.loop-place-preserved c).At-loop-place) next flag n g
-          (omega (arith, s.pre.0.named Pos c.loop-place.place (there (goal.at.loop-place-preserved c).In-loop-place), long (goal.at.loop-place-preserved c).At-loop-place))),
+          (omega (arith, c.requires.right.named Pos c.loop-place.place (there (goal.at.loop-place-preserved c).In-loop-place), long (goal.at.loop-place-preserved c).At-loop-place))),
     )
 
 pub returns : goal.returns
 returns c =
-    let s = start (goal.at.returns c).At-loop-place in
-    let e : c.loop-place.place ≡ range_end (tables s) (members_of (year (goal.at.returns c).At-loop-place) (membership (goal.at.returns c).At-loop-place)) = omega (arith, c.loop-place.invariant.2, c.loop-place.invariant.3) in
-    upto_end (tables s) s.pre.0 (grant (goal.at.returns c).At-loop-place) (year (goal.at.returns c).At-loop-place) (membership (goal.at.returns c).At-loop-place) c.loop-place.flags c.loop-place.from (long (goal.at.returns c).At-loop-place)
-    (subst (λ p. Upto (tables s) (grant (goal.at.returns c).At-loop-place) (year (goal.at.returns c).At-loop-place) (membership (goal.at.returns c).At-loop-place) c.loop-place.flags p c.loop-place.from) e c.loop-place.invariant.4)
+    let e : c.loop-place.place ≡ range_end (tables (goal.at.returns c).Start) (members_of (year (goal.at.returns c).At-loop-place) (membership (goal.at.returns c).At-loop-place)) = omega (arith, c.loop-place.invariant.2, c.loop-place.invariant.3) in
+    upto_end (tables (goal.at.returns c).Start) c.requires.right (grant (goal.at.returns c).At-loop-place) (year (goal.at.returns c).At-loop-place) (membership (goal.at.returns c).At-loop-place) c.loop-place.flags c.loop-place.from (long (goal.at.returns c).At-loop-place)
+    (subst (λ p. Upto (tables (goal.at.returns c).Start) (grant (goal.at.returns c).At-loop-place) (year (goal.at.returns c).At-loop-place) (membership (goal.at.returns c).At-loop-place) c.loop-place.flags p c.loop-place.from) e c.loop-place.invariant.4)

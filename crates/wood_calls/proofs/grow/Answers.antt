@@ -43,7 +43,7 @@ few w = omega (arith, counted w, asked_few w.args.stems w.args.year (asked w))
 
 -- ---- past test 25
 has : (e : Else-not-has_room) →  let a = e.args in
-    tables_room_for (count e.before.before) (length a.rows.now) (length a.pos.now) (length a.osp.now) ≡ true
+    tables_room_for (e.wide-count.result * 2) (length a.rows.now) (length a.pos.now) (length a.osp.now) ≡ true
 has e = sym e.has_room.ensures ∙ not-false e.has_room.result e.if-not-has_room.false-raw
 
 pub returns-then-not-asked_right : goal.returns-then-not-asked_right
@@ -58,9 +58,9 @@ pub has_room-requires : goal.has_room-requires
 has_room-requires c = few c
 
 pub returns-then-not-has_room : goal.returns-then-not-has_room
-returns-then-not-has_room c = let s = start (goal.at.returns-then-not-has_room c).After-wide-count in
-    let shown = call_told grow_schema grow_is_right (lent s)
-    (no_room (lent s) (asked (goal.at.returns-then-not-has_room c).After-wide-count) (count (goal.at.returns-then-not-has_room c).After-wide-count) (counted (goal.at.returns-then-not-has_room c).After-wide-count)
+returns-then-not-has_room c = 
+    let shown = call_told grow_schema grow_is_right (lent (goal.at.returns-then-not-has_room c).Start)
+    (no_room (lent (goal.at.returns-then-not-has_room c).Start) (asked (goal.at.returns-then-not-has_room c).After-wide-count) (count (goal.at.returns-then-not-has_room c).After-wide-count) (counted (goal.at.returns-then-not-has_room c).After-wide-count)
     (sym c.has_room.ensures ∙ not-true c.has_room.result c.if-not-has_room.true-raw)) in
     record { osp_after = shown.0; number = shown.1 }
 
@@ -69,10 +69,9 @@ write_tables-end-requires c = let a = c.args in
     let r = room_parts (count (goal.at.write_tables-end-requires c).After-wide-count) (length a.rows.now) (length a.pos.now) (length a.osp.now) (has (goal.at.write_tables-end-requires c).Else-not-has_room) in record { stems_le_most_stems = (asked_few a.stems a.year (asked (goal.at.write_tables-end-requires c).After-wide-count), asked_ended a.stems a.year (asked (goal.at.write_tables-end-requires c).After-wide-count), counted (goal.at.write_tables-end-requires c).After-wide-count); column_count_in_bounds = (r.for_rows, r.for_pos, r.for_osp); most_rows_in_bounds = enough (length {A = ℕ} (replicate (most_rows / 2) 0)) (length-replicate {A = ℕ} (most_rows / 2) 0) }
 
 pub returns : goal.returns
-returns c = let s = start (goal.at.returns c).After-wide-count in
-    let g = c.write_tables-end.ensures in
-    let shown = call_told grow_schema grow_is_right (lent s)
-    (same_result (wood_in (lent s)) (lent s).buffers (rows_for (lent s).stems) (grow_counts (lent s)) c.write_tables-end.result (count (goal.at.returns c).After-wide-count) _ _ _
+returns c = let g = c.write_tables-end.ensures in
+    let shown = call_told grow_schema grow_is_right (lent (goal.at.returns c).Start)
+    (same_result (wood_in (lent (goal.at.returns c).Start)) (lent (goal.at.returns c).Start).buffers (rows_for (lent (goal.at.returns c).Start).stems) (grow_counts (lent (goal.at.returns c).Start)) c.write_tables-end.result (count (goal.at.returns c).After-wide-count) _ _ _
     (g.0 ∙ ap (λ n. n * column_count) (counted (goal.at.returns c).After-wide-count)) (counted (goal.at.returns c).After-wide-count) g.1.0 g.1.1.0 g.1.1.1
-    ∙ served (lent s) (asked (goal.at.returns c).After-wide-count) (count (goal.at.returns c).After-wide-count) (counted (goal.at.returns c).After-wide-count) (has (goal.at.returns c).Else-not-has_room)) in
+    ∙ served (lent (goal.at.returns c).Start) (asked (goal.at.returns c).After-wide-count) (count (goal.at.returns c).After-wide-count) (counted (goal.at.returns c).After-wide-count) (has (goal.at.returns c).Else-not-has_room)) in
     record { osp_after = shown.0; number = shown.1 }

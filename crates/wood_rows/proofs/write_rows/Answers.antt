@@ -46,14 +46,14 @@ loop-stem-preserved c =
     let n = rows_length a.seed j a.year in
     let counted : c.loop-stem.used ≡ length ws = omega (arith, c.loop-stem.invariant.2) in
     let fits : c.loop-stem.used + length x ≤ length a.rows.now = omega (arith, c.loop-stem.invariant.2, c.requires.column_count_in_bounds) in
-    let put : c.copy_in.new.0 ≡ paste c.loop-stem.rows c.loop-stem.used x (length x) =
+    let put : c.copy_in.new.buf ≡ paste c.loop-stem.rows c.loop-stem.used x (length x) =
     c.copy_in.ensures ∙ ap (λ z. paste c.loop-stem.rows c.loop-stem.used z (length z)) y in
     let z : 2 * j + 2 ≡ 2 * (j + 1) = omega arith in (
       omega arith,
-      grow_length ws x a.rows.now c.loop-stem.rows c.copy_in.new.0 c.loop-stem.used counted c.loop-stem.invariant.4 fits put,
+      grow_length ws x a.rows.now c.loop-stem.rows c.copy_in.new.buf c.loop-stem.used counted c.loop-stem.invariant.4 fits put,
       omega (arith, c.loop-stem.invariant.2),
       s ∙ ap (λ k. iterate next_draw k a.seed) z,
-      grow_whole ws x a.rows.now c.loop-stem.rows c.copy_in.new.0 c.loop-stem.used counted c.loop-stem.invariant.4 fits put
+      grow_whole ws x a.rows.now c.loop-stem.rows c.copy_in.new.buf c.loop-stem.used counted c.loop-stem.invariant.4 fits put
           ∙ sym (ap (λ ws. over ws a.rows.now) (next_stem a.seed a.year j)),
     )
 

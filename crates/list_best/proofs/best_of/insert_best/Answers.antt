@@ -18,27 +18,27 @@ overflow_mul-most c = omega (arith, most_words c.requires.parts)
 
 pub returns-then-most-at : goal.returns-then-most-at
 returns-then-most-at c =
-    left_out c.requires c.IsPlace-in.ensures refl c.if-most-at.true
+    left_out c.requires c.place_in-at.ensures refl c.if-most-at.true
 
 pub insert-requires : goal.insert-requires
 insert-requires c =
-    (at_used c.requires c.IsPlace-in.ensures refl, grown_fits c.requires c.IsPlace-in.ensures refl (omega arith) c.if-used-most.true)
+    (at_used c.requires c.place_in-at.ensures refl, grown_fits c.requires c.place_in-at.ensures refl (omega arith) c.if-used-most.true)
 
 pub returns-then-used-most : goal.returns-then-used-most
 returns-then-used-most c =
-    grows c.requires c.IsPlace-in.ensures refl (omega arith) c.if-used-most.true c.insert.ensures
+    grows c.requires c.place_in-at.ensures refl (omega arith) c.if-used-most.true c.insert.ensures
 
 pub overflow_sub-used : goal.overflow_sub-used
 overflow_sub-used c =
-    omega (arith, one_fits c.requires c.IsPlace-in.ensures refl (omega arith))
+    omega (arith, one_fits c.requires c.place_in-at.ensures refl (omega arith))
 
 pub insert-requires-2 : goal.insert-requires-2
 insert-requires-2 c =
-    let o = one_fits c.requires c.IsPlace-in.ensures refl (omega arith) in
+    let o = one_fits c.requires c.place_in-at.ensures refl (omega arith) in
     let f = c.requires.fit in
     let w = c.requires.width in
     (omega arith, omega arith)
 
 pub returns : goal.returns
 returns c =
-    falls c.requires c.IsPlace-in.ensures refl (omega arith) (omega arith) c.insert-2.ensures
+    falls c.requires c.place_in-at.ensures refl (omega arith) (omega arith) c.insert-2.ensures

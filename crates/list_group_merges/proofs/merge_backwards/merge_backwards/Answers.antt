@@ -19,17 +19,17 @@ abbrev side : Placed → Comes
 side p = p.pick-side.result
 
 new_there : (p : Placed) (s : Comes) → side p ≡ s → p.args.g + 8 ≤ p.loop-y.y
-new_there p s told = half_new p.loop-y.inv (omega arith) s (sym p.pick-side.ensures ∙ told)
+new_there p s told = half_new p.loop-y.invariant (omega arith) s (sym p.pick-side.ensures ∙ told)
 
 old_there : (p : Placed) (s : Comes) → side p ≡ s → (s ≡ Before → ⊥) → p.args.g + 8 ≤ p.loop-y.x
-old_there p s told other = half_old p.loop-y.inv (omega arith) s (sym p.pick-side.ensures ∙ told) other
+old_there p s told other = half_old p.loop-y.invariant (omega arith) s (sym p.pick-side.ensures ∙ told) other
 
 -- the invariant of the next turn, by the side
 goes_on_fact : (p : Placed) (s : Comes) → side p ≡ s →
     let a = p.args in
     invariant-loop a.g a.kept.now a.used a.list.now a.words (a.g + 8) a.used (length a.list.now) a.words
     p.put_record.last.1.0 (old_left a.g s p.loop-y.x) (new_left a.g s p.loop-y.y) (p.loop-y.to - (a.g + 8))
-goes_on_fact p s told = rw (sym told) (half_next p.loop-y.inv (omega arith) (side p) (sym p.pick-side.ensures) _ p.put_record.ensures)
+goes_on_fact p s told = rw (sym told) (half_next p.loop-y.invariant (omega arith) (side p) (sym p.pick-side.ensures) _ p.put_record.ensures)
 
 pub loop-y-init : goal.loop-y-init
 loop-y-init c =

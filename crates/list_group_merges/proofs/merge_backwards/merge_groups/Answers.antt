@@ -19,30 +19,27 @@ union_of-requires c =
 
 pub returns-then-kept-w : goal.returns-then-kept-w
 returns-then-kept-w c =
-    let s = start (goal.at.returns-then-kept-w c).In-Records in
-    λ vs m e. merge_small s.args.g s.args.kept.now s.args.used s.args.list.now s.pre.1 s.pre.2
+    λ vs m e. merge_small c.args.g c.args.kept.now c.args.used c.args.list.now c.requires.1 c.requires.2
     c.type_inv.kept
     c.type_inv.list vs m e c.in-Records.n
     (sym c.union_of.ensures ∙ c.in-Records.is) c.if-kept-w.true
 
 pub overflow_mul-words : goal.overflow_mul-words
 overflow_mul-words c =
-    let s = start (goal.at.overflow_mul-words c).In-Records in
-    let r = room_for (length s.args.kept.now) (s.args.g + 8) c.in-Records.n c.if-kept-w.false in
+    let r = room_for (length c.args.kept.now) (c.args.g + 8) c.in-Records.n c.if-kept-w.false in
     omega arith
 
 pub merge_backwards-requires : goal.merge_backwards-requires
 merge_backwards-requires c =
-    let s = start (goal.at.merge_backwards-requires c).In-Records in
     let n = c.in-Records.n in (
-      s.pre.0,
-      s.pre.1,
-      kept_whole s.args.g s.args.kept.now s.args.used s.args.list.now s.pre.1 s.pre.2,
-      list_whole s.args.g s.args.kept.now s.args.used s.args.list.now s.pre.1 s.pre.2,
-      room_for (length s.args.kept.now) (s.args.g + 8) n c.if-kept-w.false,
+      c.requires.0,
+      c.requires.1,
+      kept_whole c.args.g c.args.kept.now c.args.used c.args.list.now c.requires.1 c.requires.2,
+      list_whole c.args.g c.args.kept.now c.args.used c.args.list.now c.requires.1 c.requires.2,
+      room_for (length c.args.kept.now) (c.args.g + 8) n c.if-kept-w.false,
       sym c.union_of.ensures ∙ c.in-Records.is
           ∙ ap Records (sym (mul-div_cancel n (omega arith))),
-      mul-mod_left n (s.args.g + 8),
+      mul-mod_left n (c.args.g + 8),
     )
 
 pub returns-in-Overflows : goal.returns-in-Overflows
@@ -53,12 +50,11 @@ returns-in-Overflows c =
 
 pub returns-else-kept-w : goal.returns-else-kept-w
 returns-else-kept-w c =
-    let s = start (goal.at.returns-else-kept-w c).In-Records in
     λ vs m e.
-    merge_words s.args.g s.args.kept.now s.args.used s.args.list.now s.pre.1 s.pre.2
+    merge_words c.args.g c.args.kept.now c.args.used c.args.list.now c.requires.1 c.requires.2
     c.type_inv.kept
     c.type_inv.list vs m e
     c.in-Records.n
     (sym c.union_of.ensures
     ∙ c.in-Records.is) c.if-kept-w.false
-    c.merge_backwards.new.1.0 c.merge_backwards.ensures
+    c.merge_backwards.new.kept c.merge_backwards.ensures

@@ -45,18 +45,15 @@ move_record-requires c =
 
 pub returns-in-Before : goal.returns-in-Before
 returns-in-Before c =
-    let s = start (goal.at.returns-in-Before c).After-copy_in in
-    new_put s.args.g s.args.kept.now s.args.x s.args.list.now s.args.y s.args.to s.args.side s.pre.1
-    c.in-Before.is c.copy_in.new.0 c.copy_in.ensures
+    new_put c.args.g c.args.kept.now c.args.x c.args.list.now c.args.y c.args.to c.args.side c.requires.1
+    c.in-Before.is c.copy_in.new.buf c.copy_in.ensures
 
 pub returns-in-Same : goal.returns-in-Same
 returns-in-Same c =
-    let s = start-of-merge-record (goal.at.returns-in-Same c).After-merge_record in
-    joined_put s.args.g s.args.kept.now s.args.x s.args.list.now s.args.y s.args.to s.args.side s.pre.1
-    c.in-Same.is c.merge_record.new.1.0 c.merge_record.ensures
+    joined_put c.args.g c.args.kept.now c.args.x c.args.list.now c.args.y c.args.to c.args.side c.requires.1
+    c.in-Same.is c.merge_record.new.kept c.merge_record.ensures
 
 pub returns-in-After : goal.returns-in-After
 returns-in-After c =
-    let s = start-of-kept3 (goal.at.returns-in-After c).After-kept-in-After-1 in
-    old_put s.args.g s.args.kept.now s.args.x s.args.list.now s.args.y s.args.to s.args.side s.pre.1
-    c.in-After.is c.move_record.new.0 c.move_record.ensures
+    old_put c.args.g c.args.kept.now c.args.x c.args.list.now c.args.y c.args.to c.args.side c.requires.1
+    c.in-After.is c.move_record.new.kept c.move_record.ensures

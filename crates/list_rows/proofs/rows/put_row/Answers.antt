@@ -9,5 +9,5 @@ returns-then-out-used c =
 
 pub returns : goal.returns
 returns c =
-    room c.args.vars.now c.args.bound.now c.args.out.now c.args.used c.requires (omega arith) c.write_row.new.1.1.0
+    room c.args.vars.now c.args.bound.now c.args.out.now c.args.used c.requires (omega arith) c.write_row.new.buf
     c.write_row.ensures

@@ -6,4 +6,4 @@ use Rattle.list_rows.proofs.rows.row_of.Goals as goal
 pub returns : goal.returns
 returns c =
     let a = c.args in
-    row_over a.vars.now a.bound.now nothing_bound c.write_row.new.1.1.0 c.write_row.ensures
+    row_over a.vars.now a.bound.now nothing_bound c.write_row.new.buf c.write_row.ensures

@@ -10,26 +10,19 @@ use Rattle.print_lines.proofs.groups.group_line.Goals as goal
 
 pub put_fields-end-requires : goal.put_fields-end-requires
 put_fields-end-requires c =
-    let s = start c in
-    let a = s.args in
-    let e = group_fields_most a.keys a.group.now (omega (arith, s.pre)) (omega (arith, s.pre)) (λ i. (word i).fits) in
-    (omega arith, omega (arith, s.pre))
+    let a = c.args in
+    let e = group_fields_most a.keys a.group.now (omega (arith, c.requires)) (omega (arith, c.requires)) (λ i. (word i).fits) in
+    (omega arith, omega (arith, c.requires))
 
 pub put_byte-requires : goal.put_byte-requires
 put_byte-requires c =
-    let s = start (goal.at.put_byte-requires c).After-put_fields-arg-1 in
-    let a = s.args in
-    let e = group_fields_most a.keys a.group.now (omega (arith, s.pre)) (omega (arith, s.pre)) (λ i. (word i).fits) in
-    omega (arith, s.pre)
+    let a = c.args in
+    let e = group_fields_most a.keys a.group.now (omega (arith, c.requires)) (omega (arith, c.requires)) (λ i. (word i).fits) in
+    omega (arith, c.requires)
 
 pub returns : goal.returns
-returns c = let s = start (goal.at.returns c).After-put_fields-arg-1 in
-    
-    
-    let a = s.args in
-    let e = group_fields_most a.keys a.group.now (omega (arith, s.pre)) (omega (arith, s.pre)) (λ i. (word i).fits) in record { line = rw (group_text (group_in a.keys a.group.now))
+returns c = let a = c.args in
+    let e = group_fields_most a.keys a.group.now (omega (arith, c.requires)) (omega (arith, c.requires)) (λ i. (word i).fits) in record { line = rw (group_text (group_in a.keys a.group.now))
           (whole_line group_word (group_fields (group_in a.keys a.group.now))
-          c.put_bytes-next.result c.put_fields-end.result c.put_byte.result a.line.now c.put_bytes-next.last.0 c.put_fields-end.new.0 c.put_byte.new.0
-          (omega (arith, s.pre)) c.put_bytes-next.ensures c.put_fields-end.ensures c.put_byte.ensures); room = omega (arith, c.put_bytes-next.ensures.0, c.put_fields-end.ensures.0, c.put_byte.ensures.0) }
--- LOST slice-aggregate-put-bytes : tie.Need-slice-aggregate-put-bytes
--- LOST slice-aggregate-put-bytes c = search rules
+          c.put_bytes-next.result c.put_fields-end.result c.put_byte.result a.line.now c.put_bytes-next.last.0 c.put_fields-end.new.line c.put_byte.new.line
+          (omega (arith, c.requires)) c.put_bytes-next.ensures c.put_fields-end.ensures c.put_byte.ensures); room = omega (arith, c.put_bytes-next.ensures.0, c.put_fields-end.ensures.0, c.put_byte.ensures.0) }

@@ -35,30 +35,27 @@ put_totals-after_totals-requires c =
 
 pub put_terms-requires : goal.put_terms-requires
 put_terms-requires c =
-    let s = start (goal.at.put_terms-requires c).After-slice_known-2-1 in
-    let a = s.args in
+    let a = c.args in
     let g = a.group.now in
     let k = a.keys in
-    let pre = s.pre in
+    let pre = c.requires in
     let e = fields_length k g in
     rw (last_two k g (omega (arith, pre))) (omega arith)
 
 pub returns : goal.returns
 returns c =
-    let s = start-of-put-totals (goal.at.returns c).After-put_totals-after_totals in
-    let a = s.args in
+    let a = c.args in
     let g = a.group.now in
     let k = a.keys in
-    let pre = s.pre in
+    let pre = c.requires in
     let e = fields_length k g in
     let keys = term_fields (take k g) in
     let totals = totals_text k g in
     let ends = term_fields (get_or g (k + 6) 0 ∷ get_or g (k + 7) 0 ∷ []) in
     let n = length-append keys totals in
-    
     let z = rw (last_two k g (omega (arith, pre))) at c.put_terms.ensures in
     rw (fields_of_lem k g)
-    (placed_then (keys ++ totals) ends a.at c.put_totals-after_totals.result c.put_terms.result a.line.now c.put_totals-after_totals.new.0 c.put_terms.new.0 (omega arith)
-    (placed_then keys totals a.at c.put_terms-after_keys.result c.put_totals-after_totals.result a.line.now c.put_terms-after_keys.last.0 c.put_totals-after_totals.new.0 (omega arith)
+    (placed_then (keys ++ totals) ends a.at c.put_totals-after_totals.result c.put_terms.result a.line.now c.put_totals-after_totals.new.line c.put_terms.new.line (omega arith)
+    (placed_then keys totals a.at c.put_terms-after_keys.result c.put_totals-after_totals.result a.line.now c.put_terms-after_keys.last.0 c.put_totals-after_totals.new.line (omega arith)
     c.put_terms-after_keys.ensures c.put_totals-after_totals.ensures)
     z)

@@ -36,16 +36,14 @@ put_group_sum-requires c =
 
 pub returns : goal.returns
 returns c =
-    let s = start (goal.at.returns c).After-put_total-arg-2-1 in
-    let a = s.args in
+    let a = c.args in
     let g = a.group.now in
     let x = number_field (pair_at g a.keys) in
     let y = number_field (pair_at g (a.keys + 2)) in
     let z = integer_field (sum_in (pair_at g (a.keys + 4))) in
-    
     let e = three_length x y z in
     let n = length-append x y in
-    placed_then (x ++ y) z a.at c.put_total-after_numbers.result c.put_group_sum.result a.line.now c.put_total-after_numbers.new.0 c.put_group_sum.new.0 (omega arith)
-    (placed_then x y a.at c.put_total-after_rows.result c.put_total-after_numbers.result a.line.now c.put_total-after_rows.last.0 c.put_total-after_numbers.new.0 (omega arith)
+    placed_then (x ++ y) z a.at c.put_total-after_numbers.result c.put_group_sum.result a.line.now c.put_total-after_numbers.new.line c.put_group_sum.new.line (omega arith)
+    (placed_then x y a.at c.put_total-after_rows.result c.put_total-after_numbers.result a.line.now c.put_total-after_rows.last.0 c.put_total-after_numbers.new.line (omega arith)
     c.put_total-after_rows.ensures c.put_total-after_numbers.ensures)
     c.put_group_sum.ensures

@@ -12,7 +12,6 @@ put_signed-requires c = (omega arith, omega arith)
 pub returns : goal.returns
 returns c =
     let a = c.args in
-    
     placed_then (blank ∷ []) (integer_text (sum_in a.bits)) a.at c.put_byte-next.result c.put_signed.result a.line.now
-    c.put_byte-next.new.0 c.put_signed.new.0 (omega arith) c.put_byte-next.ensures
+    c.put_byte-next.new.line c.put_signed.new.line (omega arith) c.put_byte-next.ensures
     c.put_signed.ensures

@@ -12,4 +12,4 @@ list_line-n-requires c =
 pub write_list-requires : goal.write_list-requires
 write_list-requires c =
     let e = list_most c.args.list.now (λ i. (word i).fits) in
-    line_is _ (replicate 256 0) c.list_line-n.new.0 c.list_line-n.result c.list_line-n.ensures (omega (arith, e, c.requires, c.list_line-n.ensures.0))
+    line_is _ (replicate 256 0) c.list_line-n.new.line c.list_line-n.result c.list_line-n.ensures (omega (arith, e, c.requires, c.list_line-n.ensures.0))

@@ -58,7 +58,7 @@ returns c =
     ∙ (λ i. number_of (first_failing (queue_tests_by (c.lists_right.ensures i) (c.room_right-room.ensures i) (not (eqb a.seen.waiting 0))))) in
     let p = passed entries room a.seen.waiting a.quantum c.list_number-late.result c.quantum_number.result late c.quantum_number.ensures
     (sym c.first_of.ensures ∙ c.if-first_of-ne0.false) in
-    let o = c.turn_entry.new.1.1.1.1.1.1.1.0 in
+    let o = c.turn_entry.new.output in
     λ line aside seen its.
     subst (λ (d : ServeChanges). DecidesServing (lent_as line a.given aside a.kept) d o (serve_of v (lent_as line a.given aside a.kept) s))
     (sym c.turn_outcome.ensures)

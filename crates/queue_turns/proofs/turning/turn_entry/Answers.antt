@@ -23,8 +23,7 @@ slice_bounds-turn-end c =
 
 pub overflow_cast-turned : goal.overflow_cast-turned
 overflow_cast-turned c =
-    let s = start (goal.at.overflow_cast-turned c).After-state-1 in
-    let a = s.args in
+    let a = c.args in
     let i = turn_input a.rows.now a.pos.now a.osp.now a.survey (take c.planned-count.result a.e.plan) a.e.state a.e.saved a.steps
     a.threshold.now
     a.output.now in
@@ -37,15 +36,14 @@ overflow_cast-turned c =
 
 pub entry_with-requires : goal.entry_with-requires
 entry_with-requires c =
-    let s = start (goal.at.entry_with-requires c).After-state-1 in
-    let a = s.args in
+    let a = c.args in
     let i = turn_input a.rows.now a.pos.now a.osp.now a.survey (take c.planned-count.result a.e.plan) a.e.state a.e.saved a.steps
     a.threshold.now
     a.output.now in
     let e = c.turn-turned.ensures.output_after in
     let b = bounded i in
     let f = ap (λ (r : TurnResult). r.answer.steps) e in
-    let h = b.steps in let w = s.pre in
+    let h = b.steps in let w = c.requires in
     omega arith
 
 pub returns : goal.returns

@@ -29,66 +29,56 @@ shape : (c : After-shared_slice_known-6-1) → shape_behind (asked c.before.befo
 shape c = c.requires.state_value
 
 -- the terms of the branch that the first word names
-terms_are : (c : After-terms-terms) → let s = entry c.before.before.before.before in
-    c.terms-terms.result.now ≡ (branch_at (asked s.before.before.before.before.before.before.before.before.before.before) (branch_of (get_or (words s.before.before.before.before.before.before.before.before.before.before) 0 0))).terms
+terms_are : (c : After-terms-terms) → 
+    c.terms-terms.result.now ≡ (branch_at (plan_of c.args.plan.now) (branch_of (get_or (c.args.state.now) 0 0))).terms
 terms_are c =
-    let s = entry c.before.before.before.before in
     c.terms-terms.ensures
     ∙ ap (λ (x : Branch). x.terms)
-    (given_is _ no_branch _ c.branch_part-part.ensures.branch ∙ ap (branch_at (asked s.before.before.before.before.before.before.before.before.before.before)) c.branch.ensures)
+    (given_is _ no_branch _ c.branch_part-part.ensures.branch ∙ ap (branch_at (plan_of c.args.plan.now)) c.branch.ensures)
 
 pub bounds-state-0 : goal.bounds-state-0
 bounds-state-0 c = let p = placed (asked (goal.at.bounds-state-0 c).Start) (words (goal.at.bounds-state-0 c).Start) (shape c) in omega (arith, p.long)
 
 pub branch_part-part-requires : goal.branch_part-part-requires
 branch_part-part-requires c =
-    let s = entry (goal.at.branch_part-part-requires c).After-shared_slice_known-6-1 in
-    let p = placed (asked s) (words s) (shape (goal.at.branch_part-part-requires c).After-shared_slice_known-6-1) in
-    (s.pre.1.0, omega (arith, p.branch, c.branch.ensures))
+    let p = placed (asked (goal.at.branch_part-part-requires c).Start) (words (goal.at.branch_part-part-requires c).Start) (shape (goal.at.branch_part-part-requires c).After-shared_slice_known-6-1) in
+    (c.requires.plan_value, omega (arith, p.branch, c.branch.ensures))
 
 pub overflow_sub-plan : goal.overflow_sub-plan
 overflow_sub-plan c =
-    let s = entry (goal.at.overflow_sub-plan c).After-shared_slice_known-6-1 in
-    omega (arith, ap length c.branch_part-part.ensures.start, length-drop (branch_start c.branch.result s.args.plan.now) s.args.plan.now)
+    omega (arith, ap length c.branch_part-part.ensures.start, length-drop (branch_start c.branch.result c.args.plan.now) c.args.plan.now)
 
 pub cursor_in-from-requires : goal.cursor_in-from-requires
 cursor_in-from-requires c =
-    let s = entry (goal.at.cursor_in-from-requires c).After-shared_slice_known-6-1 in
-    whole s.args.plan.now (words s) s.pre.1.0 (shape (goal.at.cursor_in-from-requires c).After-shared_slice_known-6-1)
+    whole c.args.plan.now (words (goal.at.cursor_in-from-requires c).Start) c.requires.plan_value (shape (goal.at.cursor_in-from-requires c).After-shared_slice_known-6-1)
 
 pub terms-terms-requires : goal.terms-terms-requires
 terms-terms-requires c = given_read _ _ c.branch_part-part.ensures.branch
 
 pub places_right-walk-requires : goal.places_right-walk-requires
-places_right-walk-requires c = let s = entry (goal.at.places_right-walk-requires c).After-shared_slice_known-6-1 in
-    let e = c.cursor_in-from.ensures in record { right = s.pre.0; inside = level_there s.args.plan.now (words s) s.pre.1.0 (shape (goal.at.places_right-walk-requires c).After-shared_slice_known-6-1) c.cursor_in-from.result e.0 e.2 _ (terms_are (goal.at.places_right-walk-requires c).After-terms-terms) }
+places_right-walk-requires c = let e = c.cursor_in-from.ensures in record { right = c.requires.right; inside = level_there c.args.plan.now (words (goal.at.places_right-walk-requires c).Start) c.requires.plan_value (shape (goal.at.places_right-walk-requires c).After-shared_slice_known-6-1) c.cursor_in-from.result e.0 e.2 _ (terms_are (goal.at.places_right-walk-requires c).After-terms-terms) }
 
 pub level_of-requires : goal.level_of-requires
 level_of-requires c =
-    let s = entry (goal.at.level_of-requires c).After-shared_slice_known-5-1 in
     let e = c.cursor_in-from.ensures in
-    (level_there s.args.plan.now (words s) s.pre.1.0 (shape (goal.at.level_of-requires c).After-shared_slice_known-6-1) c.cursor_in-from.result e.0 e.2 _ (terms_are (goal.at.level_of-requires c).After-terms-terms)).0
+    (level_there c.args.plan.now (words (goal.at.level_of-requires c).Start) c.requires.plan_value (shape (goal.at.level_of-requires c).After-shared_slice_known-6-1) c.cursor_in-from.result e.0 e.2 _ (terms_are (goal.at.level_of-requires c).After-terms-terms)).0
 
 pub returns-then-walk : goal.returns-then-walk
 returns-then-walk c = let passes = c.if-walk.true in
-    
-    
-    let s = entry (goal.at.returns-then-walk c).After-shared_slice_known-5-1 in
-    let ws = words s in
+    let ws = words (goal.at.returns-then-walk c).Start in
     let e = c.cursor_in-from.ensures in
-    let plan = s.args.plan.now in
+    let plan = c.args.plan.now in
     let from = c.cursor_in-from.result in
     let g = c.branch_part-part.ensures in
-    let k = c.places_right-walk.ensures.ends passes in record { refused_value = sym (loads plan ws s.pre.1.0 (shape (goal.at.returns-then-walk c).After-shared_slice_known-6-1) from e.0 e.2 _ (terms_are (goal.at.returns-then-walk c).After-terms-terms) (lent s) _ c.places_right-walk.ensures.right_value passes); from_value = λ z. (
+    let k = c.places_right-walk.ensures.ends passes in record { refused_value = sym (loads plan ws c.requires.plan_value (shape (goal.at.returns-then-walk c).After-shared_slice_known-6-1) from e.0 e.2 _ (terms_are (goal.at.returns-then-walk c).After-terms-terms) (lent (goal.at.returns-then-walk c).Start) _ c.places_right-walk.ensures.right_value passes); from_value = λ z. (
           e.0,
-          loads_held plan ws s.pre.1.0 (shape (goal.at.returns-then-walk c).After-shared_slice_known-6-1) from e.0 e.2 _ (terms_are (goal.at.returns-then-walk c).After-terms-terms) (lent s) _ c.places_right-walk.ensures.right_value
+          loads_held plan ws c.requires.plan_value (shape (goal.at.returns-then-walk c).After-shared_slice_known-6-1) from e.0 e.2 _ (terms_are (goal.at.returns-then-walk c).After-terms-terms) (lent (goal.at.returns-then-walk c).Start) _ c.places_right-walk.ensures.right_value
               passes (begins plan c.branch_part-part.result.now c.branch.result _ (branch_start c.branch.result plan) from.at g.0 g.1
               c.branch.ensures e.1) e.3 _ (c.places_right-walk.ensures.bound_after passes) _ c.level_of.ensures _ _,
-        ); ends = λ z. loads_ends plan ws s.pre.1.0 (shape (goal.at.returns-then-walk c).After-shared_slice_known-6-1) from e.0 e.2 _ (terms_are (goal.at.returns-then-walk c).After-terms-terms) (lent s) _ (c.places_right-walk.ensures.bound_after passes)
+        ); ends = λ z. loads_ends plan ws c.requires.plan_value (shape (goal.at.returns-then-walk c).After-shared_slice_known-6-1) from e.0 e.2 _ (terms_are (goal.at.returns-then-walk c).After-terms-terms) (lent (goal.at.returns-then-walk c).Start) _ (c.places_right-walk.ensures.bound_after passes)
             c.level_of.result _ _ k.0 k.1 k.2 }
 
 pub returns : goal.returns
-returns c = let s = entry (goal.at.returns c).After-shared_slice_known-6-1 in
-    let e = c.cursor_in-from.ensures in
-    let n = c.refused.ensures in record { refused_value = n ∙ sym (loads_not s.args.plan.now (words s) s.pre.1.0 (shape (goal.at.returns c).After-shared_slice_known-6-1) c.cursor_in-from.result e.0 e.2 _
-          (terms_are (goal.at.returns c).After-terms-terms) (lent s) _ c.places_right-walk.ensures.right_value c.if-walk.false); from_value = λ z. absurd (omega (arith, z, n)); ends = λ z. absurd (omega (arith, z, n)) }
+returns c = let e = c.cursor_in-from.ensures in
+    let n = c.refused.ensures in record { refused_value = n ∙ sym (loads_not c.args.plan.now (words (goal.at.returns c).Start) c.requires.plan_value (shape (goal.at.returns c).After-shared_slice_known-6-1) c.cursor_in-from.result e.0 e.2 _
+          (terms_are (goal.at.returns c).After-terms-terms) (lent (goal.at.returns c).Start) _ c.places_right-walk.ensures.right_value c.if-walk.false); from_value = λ z. absurd (omega (arith, z, n)); ends = λ z. absurd (omega (arith, z, n)) }

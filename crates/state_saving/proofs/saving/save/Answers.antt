@@ -32,7 +32,7 @@ returns c =
     let survey = c.survey.ensures ∙ ap survey_word (kept c.args.survey c.requires.1) in
     let year = c.year.ensures ∙ ap year_word (ap (λ n. n % low_numbers) c.value.ensures ∙ kept (year_of c.args.c) c.requires.0.year) in (
       omega (arith, e.0),
-      ap₂ (λ w y. set (set (put_mid 2 (length buffer - 2) buffer c.save_behind-behind.new.1.0) 0 w) 1 y) survey year
-          ∙ both_first (survey_word c.args.survey) (year_word (year_of c.args.c)) (position_words (position_of c.args.c)) c.save_behind-behind.new.1.0
+      ap₂ (λ w y. set (set (put_mid 2 (length buffer - 2) buffer c.save_behind-behind.new.state) 0 w) 1 y) survey year
+          ∙ both_first (survey_word c.args.survey) (year_word (year_of c.args.c)) (position_words (position_of c.args.c)) c.save_behind-behind.new.state
           buffer (omega (arith, c.requires.2)) e.1,
     )

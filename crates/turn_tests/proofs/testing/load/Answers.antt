@@ -11,47 +11,42 @@ use Rattle.turn_sizes.proofs.Sizing.{not_given, state_fails, threshold_passes_le
 use Rattle.turn_tests.proofs.testing.load.Goals as goal
 
 pub returns-then-given-state : goal.returns-then-given-state
-returns-then-given-state c = let s = start (goal.at.returns-then-given-state c).After-shared_slice_known-6-1 in
-    let t = tables_of s.args.rows.now s.args.pos.now s.args.osp.now in
-    let q = plan_of s.args.plan.now in
-    let ws = take s.args.given s.args.state.now in record { refused_value = c.refused.ensures ∙ not_given s.args.given (length s.args.state.now) (shape_right t q ws) (survey_right s.args.survey ws)
-          (places_right t q ws) (threshold_right q.ending s.args.threshold.now) c.if-given-state.true; from_value = λ z. absurd (omega arith); ends = λ z. absurd (omega arith) }
+returns-then-given-state c = let t = tables_of c.args.rows.now c.args.pos.now c.args.osp.now in
+    let q = plan_of c.args.plan.now in
+    let ws = take c.args.given c.args.state.now in record { refused_value = c.refused.ensures ∙ not_given c.args.given (length c.args.state.now) (shape_right t q ws) (survey_right c.args.survey ws)
+          (places_right t q ws) (threshold_right q.ending c.args.threshold.now) c.if-given-state.true; from_value = λ z. absurd (omega arith); ends = λ z. absurd (omega arith) }
 
 pub slice_bounds-load-end : goal.slice_bounds-load-end
 slice_bounds-load-end c =
-    let s = start (goal.at.slice_bounds-load-end c).After-shared_slice_known-5-1 in
-    sym (length-take-le s.args.given s.args.state.now c.if-given-state.false)
+    sym (length-take-le c.args.given c.args.state.now c.if-given-state.false)
 
 pub returns-then-loaded-ne-ACCEPTED : goal.returns-then-loaded-ne-ACCEPTED
-returns-then-loaded-ne-ACCEPTED c = let s = start (goal.at.returns-then-loaded-ne-ACCEPTED c).After-shared_slice_known-5-1 in
-    let t = tables_of s.args.rows.now s.args.pos.now s.args.osp.now in
-    let q = plan_of s.args.plan.now in
-    let ws = take s.args.given s.args.state.now in
+returns-then-loaded-ne-ACCEPTED c = let t = tables_of c.args.rows.now c.args.pos.now c.args.osp.now in
+    let q = plan_of c.args.plan.now in
+    let ws = take c.args.given c.args.state.now in
     let shown = (
-      state_fails s.args.given (length s.args.state.now) (shape_right t q ws) (survey_right s.args.survey ws) (places_right t q ws)
-          (threshold_right q.ending s.args.threshold.now) c.if-given-state.false _ c.load-loaded.ensures.refused_value c.if-loaded-ne-ACCEPTED.true,
+      state_fails c.args.given (length c.args.state.now) (shape_right t q ws) (survey_right c.args.survey ws) (places_right t q ws)
+          (threshold_right q.ending c.args.threshold.now) c.if-given-state.false _ c.load-loaded.ensures.refused_value c.if-loaded-ne-ACCEPTED.true,
       c.load-loaded.ensures.1,
     ) in
     record { refused_value = shown.0; from_value = shown.1.0; ends = shown.1.1 }
 
 pub returns-then-threshold_right : goal.returns-then-threshold_right
-returns-then-threshold_right c = let s = start (goal.at.returns-then-threshold_right c).After-shared_slice_known-5-1 in
-    let t = tables_of s.args.rows.now s.args.pos.now s.args.osp.now in
-    let q = plan_of s.args.plan.now in
-    let ws = take s.args.given s.args.state.now in
+returns-then-threshold_right c = let t = tables_of c.args.rows.now c.args.pos.now c.args.osp.now in
+    let q = plan_of c.args.plan.now in
+    let ws = take c.args.given c.args.state.now in
     let shown = (
-      threshold_passes_lem s.args.given (length s.args.state.now) (shape_right t q ws) (survey_right s.args.survey ws) (places_right t q ws)
-          (threshold_right q.ending s.args.threshold.now) c.if-given-state.false _ c.load-loaded.ensures.refused_value c.if-loaded-ne-ACCEPTED.false
+      threshold_passes_lem c.args.given (length c.args.state.now) (shape_right t q ws) (survey_right c.args.survey ws) (places_right t q ws)
+          (threshold_right q.ending c.args.threshold.now) c.if-given-state.false _ c.load-loaded.ensures.refused_value c.if-loaded-ne-ACCEPTED.false
           c.threshold_right.result (rw c.ending_part.ensures.1 at c.threshold_right.ensures) c.if-threshold_right.true,
       c.load-loaded.ensures.1,
     ) in
     record { refused_value = shown.0; from_value = shown.1.0; ends = shown.1.1 }
 
 pub returns : goal.returns
-returns c = let s = start (goal.at.returns c).After-shared_slice_known-5-1 in
-    let t = tables_of s.args.rows.now s.args.pos.now s.args.osp.now in
-    let q = plan_of s.args.plan.now in
-    let ws = take s.args.given s.args.state.now in record { refused_value = c.refused-2.ensures ∙ threshold_fails_lem s.args.given (length s.args.state.now) (shape_right t q ws) (survey_right s.args.survey ws)
-          (places_right t q ws) (threshold_right q.ending s.args.threshold.now)
+returns c = let t = tables_of c.args.rows.now c.args.pos.now c.args.osp.now in
+    let q = plan_of c.args.plan.now in
+    let ws = take c.args.given c.args.state.now in record { refused_value = c.refused-2.ensures ∙ threshold_fails_lem c.args.given (length c.args.state.now) (shape_right t q ws) (survey_right c.args.survey ws)
+          (places_right t q ws) (threshold_right q.ending c.args.threshold.now)
           c.if-given-state.false _ c.load-loaded.ensures.refused_value c.if-loaded-ne-ACCEPTED.false
           c.threshold_right.result (rw c.ending_part.ensures.1 at c.threshold_right.ensures) c.if-threshold_right.false; from_value = λ z. absurd (omega arith); ends = λ z. absurd (omega arith) }

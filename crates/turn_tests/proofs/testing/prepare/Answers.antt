@@ -7,30 +7,25 @@ use Rattle.turn_tests.proofs.Numbering.{early_right, early_planned, early_fails,
 use Rattle.turn_tests.proofs.testing.prepare.Goals as goal
 
 pub returns-then-number-ne-ACCEPTED : goal.returns-then-number-ne-ACCEPTED
-returns-then-number-ne-ACCEPTED c = let s = start (goal.at.returns-then-number-ne-ACCEPTED c).After-shared_slice_known-7-1 in
-    let i = turn_input s.args.rows.now s.args.pos.now s.args.osp.now s.args.survey s.args.plan.now s.args.state.now
-    s.args.given s.args.quantum s.args.threshold.now s.args.output.now in record { refused_value = c.refused.ensures ∙ early_fails i c.check-number.result c.check-number.ensures c.if-number-ne-ACCEPTED.true; from_value = λ z. absurd (c.if-number-ne-ACCEPTED.true (sym c.refused.ensures ∙ z)); ends = λ z. absurd (c.if-number-ne-ACCEPTED.true (sym c.refused.ensures ∙ z)) }
+returns-then-number-ne-ACCEPTED c = let i = turn_input c.args.rows.now c.args.pos.now c.args.osp.now c.args.survey c.args.plan.now c.args.state.now
+    c.args.given c.args.quantum c.args.threshold.now c.args.output.now in record { refused_value = c.refused.ensures ∙ early_fails i c.check-number.result c.check-number.ensures c.if-number-ne-ACCEPTED.true; from_value = λ z. absurd (c.if-number-ne-ACCEPTED.true (sym c.refused.ensures ∙ z)); ends = λ z. absurd (c.if-number-ne-ACCEPTED.true (sym c.refused.ensures ∙ z)) }
 
 pub ending_part-requires : goal.ending_part-requires
 ending_part-requires c =
-    let s = start (goal.at.ending_part-requires c).After-shared_slice_known-7-1 in
-    early_planned (tables_of s.args.rows.now s.args.pos.now s.args.osp.now) s.args.plan.now (sym c.check-number.ensures ∙ c.if-number-ne-ACCEPTED.false)
+    early_planned (tables_of c.args.rows.now c.args.pos.now c.args.osp.now) c.args.plan.now (sym c.check-number.ensures ∙ c.if-number-ne-ACCEPTED.false)
 
 pub returns-then-size-ne-ACCEPTED : goal.returns-then-size-ne-ACCEPTED
-returns-then-size-ne-ACCEPTED c = let s = start (goal.at.returns-then-size-ne-ACCEPTED c).After-shared_slice_known-7-1 in
-    let i = turn_input s.args.rows.now s.args.pos.now s.args.osp.now s.args.survey s.args.plan.now s.args.state.now
-    s.args.given s.args.quantum s.args.threshold.now s.args.output.now in record { refused_value = c.refused-then-size-ne-ACCEPTED.ensures ∙ size_fails i (sym c.check-number.ensures ∙ c.if-number-ne-ACCEPTED.false) (ending_at c.ending_part.result.now)
+returns-then-size-ne-ACCEPTED c = let i = turn_input c.args.rows.now c.args.pos.now c.args.osp.now c.args.survey c.args.plan.now c.args.state.now
+    c.args.given c.args.quantum c.args.threshold.now c.args.output.now in record { refused_value = c.refused-then-size-ne-ACCEPTED.ensures ∙ size_fails i (sym c.check-number.ensures ∙ c.if-number-ne-ACCEPTED.false) (ending_at c.ending_part.result.now)
           c.ending_part.ensures.1 c.sizes-size.result c.sizes-size.ensures c.if-size-ne-ACCEPTED.true; from_value = λ h. absurd (c.if-size-ne-ACCEPTED.true (sym c.refused-then-size-ne-ACCEPTED.ensures ∙ h)); ends = λ h. absurd (c.if-size-ne-ACCEPTED.true (sym c.refused-then-size-ne-ACCEPTED.ensures ∙ h)) }
 
 pub load-requires : goal.load-requires
-load-requires c = let s = start (goal.at.load-requires c).After-shared_slice_known-7-1 in
-    let z = sym c.check-number.ensures ∙ c.if-number-ne-ACCEPTED.false in
-    let t = tables_of s.args.rows.now s.args.pos.now s.args.osp.now in record { right = early_right t s.args.plan.now z; plan_value = early_planned t s.args.plan.now z }
+load-requires c = let z = sym c.check-number.ensures ∙ c.if-number-ne-ACCEPTED.false in
+    let t = tables_of c.args.rows.now c.args.pos.now c.args.osp.now in record { right = early_right t c.args.plan.now z; plan_value = early_planned t c.args.plan.now z }
 
 pub returns : goal.returns
-returns c = let s = start (goal.at.returns c).After-shared_slice_known-7-1 in
-    let i = turn_input s.args.rows.now s.args.pos.now s.args.osp.now s.args.survey s.args.plan.now s.args.state.now
-    s.args.given s.args.quantum s.args.threshold.now s.args.output.now in
+returns c = let i = turn_input c.args.rows.now c.args.pos.now c.args.osp.now c.args.survey c.args.plan.now c.args.state.now
+    c.args.given c.args.quantum c.args.threshold.now c.args.output.now in
     let shown = (
       late_decides i (sym c.check-number.ensures ∙ c.if-number-ne-ACCEPTED.false) (ending_at c.ending_part.result.now) c.ending_part.ensures.1
           c.sizes-size.result c.sizes-size.ensures c.if-size-ne-ACCEPTED.false _ c.load.ensures.refused_value,

@@ -47,12 +47,11 @@ dropped : (k : Counted) → upload_count (upload k.before.before.before.before.b
 dropped k = dropped_is (upload k.before.before.before.before.before.before.before.before.before.before.before.before.before.before.before.before.before.before.before) k.count_kept-kept.result (kept_is k)
 
 pub judge-right-requires : goal.judge-right-requires
-judge-right-requires c = let s = start-of-slice-known6 (goal.at.judge-right-requires c).After-slice_known-6-1 in record { fits = record { few = few s; listed = omega (arith, few s, s.pre.1.0); judged = omega (arith, few s, s.pre.1.1) }; list_in_bounds = omega (arith, s.pre.1.0, s.pre.1.2) }
+judge-right-requires c =  record { fits = record { few = few (goal.at.judge-right-requires c).Start; listed = omega (arith, few (goal.at.judge-right-requires c).Start, c.requires.list_len.0); judged = omega (arith, few (goal.at.judge-right-requires c).Start, c.requires.list_len.1) }; list_in_bounds = omega (arith, c.requires.list_len.0, c.requires.list_len.2) }
 
 pub count_kept-kept-requires : goal.count_kept-kept-requires
 count_kept-kept-requires c =
-    let s = start-of-slice-known6 (goal.at.count_kept-kept-requires c).After-slice_known-5-1 in
-    (omega (arith, few s, s.pre.1.1, c.judge-right.auto.1), omega (arith, few s))
+    (omega (arith, few (goal.at.count_kept-kept-requires c).Start, c.requires.list_len.1, c.judge-right.auto.1), omega (arith, few (goal.at.count_kept-kept-requires c).Start))
 
 pub overflow_sub-count : goal.overflow_sub-count
 overflow_sub-count c = omega (arith, kept_is c, kept_most (upload (goal.at.overflow_sub-count c).Start))
@@ -64,18 +63,17 @@ has_room-requires c =
 
 pub returns-then-not-has_room : goal.returns-then-not-has_room
 returns-then-not-has_room c =
-    let s = start (goal.at.returns-then-not-has_room c).After-count_kept-kept in
-    no_room (lent s) s.pre.0 c.count_kept-kept.result (upload_count (upload s) - c.count_kept-kept.result) (kept_is (goal.at.returns-then-not-has_room c).After-count_kept-kept) (dropped (goal.at.returns-then-not-has_room c).After-count_kept-kept)
+    no_room (lent (goal.at.returns-then-not-has_room c).Start) c.requires.upload_value c.count_kept-kept.result (upload_count (upload (goal.at.returns-then-not-has_room c).Start) - c.count_kept-kept.result) (kept_is (goal.at.returns-then-not-has_room c).After-count_kept-kept) (dropped (goal.at.returns-then-not-has_room c).After-count_kept-kept)
     (sym c.has_room.ensures ∙ not-true c.has_room.result c.if-not-has_room.true-raw)
 
 -- ---- where there is room
 has : (c : Else-not-has_room) →  let a = c.args in
-    make_room_for c.count_kept-kept.result (upload_count (upload c.before.before.before.before.before.before.before.before.before.before.before.before.before.before.before.before.before.before.before.before.before) - c.count_kept-kept.result)
+    make_room_for c.count_kept-kept.result (upload_count (c.args.upload.now) - c.count_kept-kept.result)
     (length a.rows.now) (length a.pos.now) (length a.osp.now) (length a.report.now) ≡ true
 has c = sym c.has_room.ensures ∙ not-false c.has_room.result c.if-not-has_room.false-raw
 
 fits : (c : Else-not-has_room) →  let a = c.args in
-    MakeRoomParts c.count_kept-kept.result (upload_count (upload c.before.before.before.before.before.before.before.before.before.before.before.before.before.before.before.before.before.before.before.before.before) - c.count_kept-kept.result)
+    MakeRoomParts c.count_kept-kept.result (upload_count (c.args.upload.now) - c.count_kept-kept.result)
     (length a.rows.now) (length a.pos.now) (length a.osp.now) (length a.report.now)
 fits c = room_parts _ _ _ _ _ _ (has c)
 
@@ -84,32 +82,23 @@ slice_bounds-write_tables-end-2 c =
     sym (length-take-le c.judge-right.result c.judge-right.last.1.0 c.judge-right.ensures.listed.fits)
 
 pub write_tables-end-requires : goal.write_tables-end-requires
-write_tables-end-requires c = let s = start (goal.at.write_tables-end-requires c).After-fates-1 in
-    let f = fits (goal.at.write_tables-end-requires c).Else-not-has_room in record { ready_to_write = record {
-        few = few s;
+write_tables-end-requires c = let f = fits (goal.at.write_tables-end-requires c).Else-not-has_room in record { ready_to_write = record {
+        few = few (goal.at.write_tables-end-requires c).Start;
         listed = c.judge-right.ensures.listed.front;
-        long = omega (arith, few s, s.pre.1.1, c.judge-right.kept.1);
+        long = omega (arith, few (goal.at.write_tables-end-requires c).Start, c.requires.list_len.1, c.judge-right.kept.1);
         judged = fates_right (goal.at.write_tables-end-requires c).After-count_kept-kept;
         counted = kept_is (goal.at.write_tables-end-requires c).After-count_kept-kept;
-      }; column_count_in_bounds = (f.for_rows, f.for_pos, f.for_osp); most_rows_in_bounds = omega (arith, s.pre.1.2, c.judge-right.kept.1) }
+      }; column_count_in_bounds = (f.for_rows, f.for_pos, f.for_osp); most_rows_in_bounds = omega (arith, c.requires.list_len.2, c.judge-right.kept.1) }
 
 pub write_report-told-requires : goal.write_report-told-requires
-write_report-told-requires c = let e = at-if1 (goal.at.write_report-told-requires c).After-slice_known-11-1 in
-    let k = e.before.before in
-    let s = start k in
-    let j = k.judge in record { count_in_bounds = (omega (arith, few s, s.pre.1.1, j.kept.1), omega (arith, few s)); count_in_bounds_2 = omega (arith, ap length (report_words_lem (upload s) (fates k) (fates_right k)), report_length (upload s), dropped k, (fits e).for_report) }
+write_report-told-requires c =  record { count_in_bounds = (omega (arith, few (goal.at.write_report-told-requires c).Start, c.requires.list_len.1, c.judge-right.kept.1), omega (arith, few (goal.at.write_report-told-requires c).Start)); count_in_bounds_2 = omega (arith, ap length (report_words_lem (upload (goal.at.write_report-told-requires c).Start) (fates (goal.at.write_report-told-requires c).After-count_kept-kept) (fates_right (goal.at.write_report-told-requires c).After-count_kept-kept)), report_length (upload (goal.at.write_report-told-requires c).Start), dropped (goal.at.write_report-told-requires c).After-count_kept-kept, (fits (goal.at.write_report-told-requires c).Else-not-has_room).for_report) }
 
 pub returns : goal.returns
 returns c =
-    let w = at-write-tables (goal.at.returns c).After-slice_known-13-1 in
-    let t = w.write-tables in
-    let e = w.before.before.before.before.before.before.before in
-    let k = e.before.before in
-    let s = start k in
-    let up = upload s in
-    let n = kept_is k in
-    let report = report_words_lem up (fates k) (fates_right k) in
-    same_result (lent s) t.result k.count_kept.result c.write_report-told.result t.last.1.1.1.1.0 t.last.1.1.1.1.1.0
-    t.last.1.1.1.1.1.1.0 c.write_report-told.new.1.1.0 (t.ensures.0 ∙ ap (λ m. m * column_count) n) n (c.write_report-told.ensures.value ∙ ap length report)
-    t.ensures.1.0 t.ensures.1.1.0 t.ensures.1.1.1 (c.write_report-told.ensures.report_after ∙ ap (λ ws. over ws s.args.report.now) report)
-    ∙ served (lent s) s.pre.0 k.count_kept.result (upload_count up - k.count_kept.result) n (dropped k) (has e)
+    let up = upload (goal.at.returns c).Start in
+    let n = kept_is (goal.at.returns c).After-count_kept-kept in
+    let report = report_words_lem up (fates (goal.at.returns c).After-count_kept-kept) (fates_right (goal.at.returns c).After-count_kept-kept) in
+    same_result (lent (goal.at.returns c).Start) c.write_tables-end.result c.count_kept-kept.result c.write_report-told.result c.write_tables-end.last.1.1.1.1.0 c.write_tables-end.last.1.1.1.1.1.0
+    c.write_tables-end.last.1.1.1.1.1.1.0 c.write_report-told.new.report (c.write_tables-end.ensures.value ∙ ap (λ m. m * column_count) n) n (c.write_report-told.ensures.value ∙ ap length report)
+    c.write_tables-end.ensures.rows_after c.write_tables-end.ensures.pos_after c.write_tables-end.ensures.osp_after (c.write_report-told.ensures.report_after ∙ ap (λ ws. over ws c.args.report.now) report)
+    ∙ served (lent (goal.at.returns c).Start) c.requires.upload_value c.count_kept-kept.result (upload_count up - c.count_kept-kept.result) n (dropped (goal.at.returns c).After-count_kept-kept) (has (goal.at.returns c).Else-not-has_room)

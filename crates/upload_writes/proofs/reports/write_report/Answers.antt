@@ -45,12 +45,12 @@ room l h e =
     let a = numbers_part (λ r. not (is_kept_in (fates l) r)) (λ r. r ∷ get_or (fates l) r 0 ∷ []) (l.loop-row.row + 1) l.args.count (omega arith) in
     let b = ap length (next_no l e) in
     let c = length-append (dropped_words (fates l) l.loop-row.row) (entry l) in
-    omega (arith, l.loop-row.inv.2)
+    omega (arith, l.loop-row.invariant.2)
 
-is_kept_lem : (c : Then-fate-eq-KEPT) →  is_kept_in (fates c.before.before.before) c.loop-row.row ≡ true
+is_kept_lem : (c : Then-fate-eq-KEPT) →  is_kept_in (c.args.fates.now) c.loop-row.row ≡ true
 is_kept_lem c = eq-eqb _ _ c.if-fate-eq-KEPT.true
 
-not_kept : (c : Else-fate-eq-KEPT) →  is_kept_in (fates c.before.before.before) c.loop-row.row ≡ false
+not_kept : (c : Else-fate-eq-KEPT) →  is_kept_in (c.args.fates.now) c.loop-row.row ≡ false
 not_kept c = ne_eqb _ _ (λ e. c.if-fate-eq-KEPT.false e)
 
 pub loop-row-init : goal.loop-row-init
@@ -90,15 +90,15 @@ loop-row-preserved c =
     let m = room (goal.at.loop-row-preserved c).At-loop-row (omega arith) (not_kept (goal.at.loop-row-preserved c).Else-fate-eq-KEPT) in
     let fits : c.loop-row.used + 2 ≤ length a.report.now = omega (arith, c.requires.count_in_bounds_2) in
     let e = next_no (goal.at.loop-row-preserved c).At-loop-row (not_kept (goal.at.loop-row-preserved c).Else-fate-eq-KEPT) in
-    let n = grow_count ws (entry (goal.at.loop-row-preserved c).At-loop-row) a.report.now c.loop-row.report c.copy_in.new.0 c.loop-row.used c.loop-row.invariant.2 c.loop-row.invariant.4 fits
+    let n = grow_count ws (entry (goal.at.loop-row-preserved c).At-loop-row) a.report.now c.loop-row.report c.copy_in.new.buf c.loop-row.used c.loop-row.invariant.2 c.loop-row.invariant.4 fits
     c.copy_in.ensures in
     let d = ap length e in (
       omega arith,
-      grow_length ws (entry (goal.at.loop-row-preserved c).At-loop-row) a.report.now c.loop-row.report c.copy_in.new.0 c.loop-row.used c.loop-row.invariant.2 c.loop-row.invariant.4 fits
+      grow_length ws (entry (goal.at.loop-row-preserved c).At-loop-row) a.report.now c.loop-row.report c.copy_in.new.buf c.loop-row.used c.loop-row.invariant.2 c.loop-row.invariant.4 fits
           c.copy_in.ensures,
       omega (arith, n, d),
       omega (arith, m),
-      grow_whole ws (entry (goal.at.loop-row-preserved c).At-loop-row) a.report.now c.loop-row.report c.copy_in.new.0 c.loop-row.used c.loop-row.invariant.2 c.loop-row.invariant.4 fits
+      grow_whole ws (entry (goal.at.loop-row-preserved c).At-loop-row) a.report.now c.loop-row.report c.copy_in.new.buf c.loop-row.used c.loop-row.invariant.2 c.loop-row.invariant.4 fits
           c.copy_in.ensures
           ∙ sym (ap (λ ws. over ws a.report.now) e),
     )

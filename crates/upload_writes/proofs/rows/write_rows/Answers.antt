@@ -60,19 +60,19 @@ room l h e =
     let b = ap length (next_yes l h e) in
     let c = length-append (words_of l (take l.loop-place.place (list l))) (fields_of Spo l.args.upload.now (row l)) in
     let d = fields_length Spo l.args.upload.now (row l) in
-    omega (arith, l.loop-place.inv.2)
+    omega (arith, l.loop-place.invariant.2)
 
 -- what the test of a fate says
 abbrev AtTest : Type 0
 AtTest = After-shared_slice_known-in-loop-place-2-1
 
-fate_is : (k : AtTest) → let l = loop_of k in get_or l.args.fates.now k.wide.result 0 ≡ get_or l.args.fates.now (row l.before.before.before.before) 0
-fate_is k = let l = loop_of k in ap (λ r. get_or l.args.fates.now r 0) k.wide.ensures
+fate_is : (k : AtTest) →  get_or k.args.fates.now k.wide.result 0 ≡ get_or k.args.fates.now (row k.before.before.before.before) 0
+fate_is k =  ap (λ r. get_or k.args.fates.now r 0) k.wide.ensures
 
-is_kept_lem : (c : Then-fate-eq-KEPT) → let l = loop_of c.before in is_kept_in l.args.fates.now (row l.before.before.before.before.before) ≡ true
+is_kept_lem : (c : Then-fate-eq-KEPT) →  is_kept_in c.args.fates.now ((get_or (c.args.list.now) c.loop-place.place 0)) ≡ true
 is_kept_lem c = eq-eqb _ _ (sym (fate_is c.before) ∙ c.if-fate-eq-KEPT.true)
 
-not_kept : (c : Else-fate-eq-KEPT) → let l = loop_of c.before in is_kept_in l.args.fates.now (row l.before.before.before.before.before) ≡ false
+not_kept : (c : Else-fate-eq-KEPT) →  is_kept_in c.args.fates.now ((get_or (c.args.list.now) c.loop-place.place 0)) ≡ false
 not_kept c = ne_eqb _ _ (λ e. c.if-fate-eq-KEPT.false (fate_is c.before ∙ e))
 
 pub loop-place-init : goal.loop-place-init
@@ -90,41 +90,38 @@ fields-words-requires c =  named (goal.at.fields-words-requires c).At-loop-place
 
 pub copy_in-requires : goal.copy_in-requires
 copy_in-requires c =
-    let l = loop_of (goal.at.copy_in-requires c).After-shared_slice_known-in-loop-place-2-1 in
     omega (
       arith,
-      room l (omega arith) (is_kept_lem (goal.at.copy_in-requires c).Then-fate-eq-KEPT),
-      l.pre.1.1,
+      room (goal.at.copy_in-requires c).At-loop-place (omega arith) (is_kept_lem (goal.at.copy_in-requires c).Then-fate-eq-KEPT),
+      c.requires.list_in_bounds,
       ap length c.fields-words.ensures,
-      fields_length Spo l.args.upload.now (row l),
-      l.loop.inv.1,
+      fields_length Spo c.args.upload.now (row (goal.at.copy_in-requires c).At-loop-place),
+      c.loop-place.invariant.1,
     )
 
 pub overflow_add-used : goal.overflow_add-used
 overflow_add-used c =
-    let l = loop_of (goal.at.overflow_add-used c).After-shared_slice_known-in-loop-place-2-1 in
-    omega (arith, room l (omega arith) (is_kept_lem (goal.at.overflow_add-used c).Then-fate-eq-KEPT), l.pre.1.1)
+    omega (arith, room (goal.at.overflow_add-used c).At-loop-place (omega arith) (is_kept_lem (goal.at.overflow_add-used c).Then-fate-eq-KEPT), c.requires.list_in_bounds)
 
 pub loop-place-preserved-then-fate-eq-KEPT : goal.loop-place-preserved-then-fate-eq-KEPT
 loop-place-preserved-then-fate-eq-KEPT c =
-    let l = loop_of (goal.at.loop-place-preserved-then-fate-eq-KEPT c).After-shared_slice_known-in-loop-place-2-1 in
-    let a = l.args in
+    let a = c.args in
     let up = a.upload.now in
-    let ws = words_of l (take l.loop.place (list l)) in
-    let x = fields_of Spo up (row l) in
-    let w : length x ≡ column_count = fields_length Spo up (row l) in
-    let m = room l (omega arith) (is_kept_lem (goal.at.loop-place-preserved-then-fate-eq-KEPT c).Then-fate-eq-KEPT) in
-    let fits : l.loop.used + length x ≤ length a.rows.now = omega (arith, l.pre.1.1) in
-    let put : c.copy_in.new.0 ≡ paste l.loop.rows l.loop.used x (length x) =
-    c.copy_in.ensures ∙ ap (λ y. paste l.loop.rows l.loop.used y (length y)) c.fields-words.ensures in
-    let e = next_yes l (omega arith) (is_kept_lem (goal.at.loop-place-preserved-then-fate-eq-KEPT c).Then-fate-eq-KEPT) in
-    let n = grow_count ws x a.rows.now l.loop.rows c.copy_in.new.0 l.loop.used l.loop.inv.2 l.loop.inv.4 fits put in
+    let ws = words_of (goal.at.loop-place-preserved-then-fate-eq-KEPT c).At-loop-place (take c.loop-place.place (list (goal.at.loop-place-preserved-then-fate-eq-KEPT c).At-loop-place)) in
+    let x = fields_of Spo up (row (goal.at.loop-place-preserved-then-fate-eq-KEPT c).At-loop-place) in
+    let w : length x ≡ column_count = fields_length Spo up (row (goal.at.loop-place-preserved-then-fate-eq-KEPT c).At-loop-place) in
+    let m = room (goal.at.loop-place-preserved-then-fate-eq-KEPT c).At-loop-place (omega arith) (is_kept_lem (goal.at.loop-place-preserved-then-fate-eq-KEPT c).Then-fate-eq-KEPT) in
+    let fits : c.loop-place.used + length x ≤ length a.rows.now = omega (arith, c.requires.list_in_bounds) in
+    let put : c.copy_in.new.buf ≡ paste c.loop-place.rows c.loop-place.used x (length x) =
+    c.copy_in.ensures ∙ ap (λ y. paste c.loop-place.rows c.loop-place.used y (length y)) c.fields-words.ensures in
+    let e = next_yes (goal.at.loop-place-preserved-then-fate-eq-KEPT c).At-loop-place (omega arith) (is_kept_lem (goal.at.loop-place-preserved-then-fate-eq-KEPT c).Then-fate-eq-KEPT) in
+    let n = grow_count ws x a.rows.now c.loop-place.rows c.copy_in.new.buf c.loop-place.used c.loop-place.invariant.2 c.loop-place.invariant.4 fits put in
     let d = ap length e in (
       omega arith,
-      grow_length ws x a.rows.now l.loop.rows c.copy_in.new.0 l.loop.used l.loop.inv.2 l.loop.inv.4 fits put,
+      grow_length ws x a.rows.now c.loop-place.rows c.copy_in.new.buf c.loop-place.used c.loop-place.invariant.2 c.loop-place.invariant.4 fits put,
       omega (arith, n, w, d),
       omega (arith, m),
-      grow_whole ws x a.rows.now l.loop.rows c.copy_in.new.0 l.loop.used l.loop.inv.2 l.loop.inv.4 fits put
+      grow_whole ws x a.rows.now c.loop-place.rows c.copy_in.new.buf c.loop-place.used c.loop-place.invariant.2 c.loop-place.invariant.4 fits put
           ∙ sym (ap (λ ws. over ws a.rows.now) e),
     )
 

@@ -47,51 +47,44 @@ flags m = m.flag_members.last.1.1.1.1.1.0
 -- as many are counted as are visible
 counted : (m : Marks) → m.mark-seen.result ≡ seen_in (lent m.before.before.before.before.before.before.before.before.before.before.before.before.before.before.before)
 counted m =
-    let s = start m in
     m.mark-seen.ensures.value
-    ∙ number_visible s.args.rows.now s.args.grant.now s.args.membership (flags m) m.flag_members.ensures
-    (row_count (tables s.before.before.before.before.before.before.before.before.before.before.before.before.before.before.before))
+    ∙ number_visible m.args.rows.now m.args.grant.now m.args.membership (flags m) m.flag_members.ensures
+    (row_count (tables m.before.before.before.before.before.before.before.before.before.before.before.before.before.before.before))
 
-are_marked : (m : Marks) → let s = start m in
-    marks m ≡ over (marks_of (visible s.args.rows.now s.args.grant.now s.args.membership) (row_count (tables s.before.before.before.before.before.before.before.before.before.before.before.before.before.before.before))) s.args.marks.now
+are_marked : (m : Marks) → 
+    marks m ≡ over (marks_of (visible m.args.rows.now m.args.grant.now m.args.membership) (row_count (tables m.before.before.before.before.before.before.before.before.before.before.before.before.before.before.before))) m.args.marks.now
 are_marked m =
-    let s = start m in
     m.mark-seen.ensures.marks_after
-    ∙ ap (λ ws. over ws s.args.marks.now)
-    (marks_visible s.args.rows.now s.args.grant.now s.args.membership (flags m) m.flag_members.ensures (row_count (tables s.before.before.before.before.before.before.before.before.before.before.before.before.before.before.before)))
+    ∙ ap (λ ws. over ws m.args.marks.now)
+    (marks_visible m.args.rows.now m.args.grant.now m.args.membership (flags m) m.flag_members.ensures (row_count (tables m.before.before.before.before.before.before.before.before.before.before.before.before.before.before.before)))
 
 seen_few : (m : Marks) → m.mark-seen.result ≤ most_rows
 seen_few m =
-    let s = start m in
-    let n = view_most s.args.rows.now s.args.grant.now s.args.membership in
-    omega (arith, counted m, s.pre.0.sized.few)
+    let n = view_most m.args.rows.now m.args.grant.now m.args.membership in
+    omega (arith, counted m, m.requires.right.sized.few)
 
 -- what the marks show
 rows_are : (m : Marks) → shown_words m.args.rows.now (marks m) ≡ (view_in (lent m.before.before.before.before.before.before.before.before.before.before.before.before.before.before.before)).rows
 rows_are m =
-    let s = start m in
-    shown_rows (tables s.before.before.before.before.before.before.before.before.before.before.before.before.before.before.before) s.pre.0 s.args.grant.now s.args.membership s.args.marks.now (marks m) (are_marked m)
+    shown_rows (tables m.before.before.before.before.before.before.before.before.before.before.before.before.before.before.before) m.requires.right m.args.grant.now m.args.membership m.args.marks.now (marks m) (are_marked m)
 
 pos_are : (m : Marks) → shown_numbers (marks m) m.args.pos.now ≡ (view_in (lent m.before.before.before.before.before.before.before.before.before.before.before.before.before.before.before)).pos
 pos_are m =
-    let s = start m in
-    shown_pos (tables s.before.before.before.before.before.before.before.before.before.before.before.before.before.before.before) s.pre.0 s.args.grant.now s.args.membership s.args.marks.now (marks m) (are_marked m)
+    shown_pos (tables m.before.before.before.before.before.before.before.before.before.before.before.before.before.before.before) m.requires.right m.args.grant.now m.args.membership m.args.marks.now (marks m) (are_marked m)
 
 osp_are : (m : Marks) → shown_numbers (marks m) m.args.osp.now ≡ (view_in (lent m.before.before.before.before.before.before.before.before.before.before.before.before.before.before.before)).osp
 osp_are m =
-    let s = start m in
-    shown_osp (tables s.before.before.before.before.before.before.before.before.before.before.before.before.before.before.before) s.pre.0 s.args.grant.now s.args.membership s.args.marks.now (marks m) (are_marked m)
+    shown_osp (tables m.before.before.before.before.before.before.before.before.before.before.before.before.before.before.before) m.requires.right m.args.grant.now m.args.membership m.args.marks.now (marks m) (are_marked m)
 
 -- as many are shown as are counted
 shown_is : (m : Marks) → m.mark-seen.result ≡ passed_before (shown_by (marks m)) (row_count (tables m.before.before.before.before.before.before.before.before.before.before.before.before.before.before.before))
 shown_is m =
-    let s = start m in
     counted m
-    ∙ sym (shown_count (tables s.before.before.before.before.before.before.before.before.before.before.before.before.before.before.before) s.pre.0 s.args.grant.now s.args.membership s.args.marks.now (marks m) (are_marked m))
+    ∙ sym (shown_count (tables m.before.before.before.before.before.before.before.before.before.before.before.before.before.before.before) m.requires.right m.args.grant.now m.args.membership m.args.marks.now (marks m) (are_marked m))
 
 -- there is a mark for each row
 marks_there : (m : Marks) → row_count (tables m.before.before.before.before.before.before.before.before.before.before.before.before.before.before.before) ≤ length (marks m)
-marks_there m = let s = start m in omega (arith, s.pre.0.sized.few, s.pre.1.1.0, m.mark-seen.auto)
+marks_there m =  omega (arith, m.requires.right.sized.few, m.requires.marks_len, m.mark-seen.auto)
 
 has : (e : Else-not-has_room) → let a = (start e).args in
     tables_room_for e.mark-seen.result (length a.view-rows.now) (length a.view-pos.now) (length a.view-osp.now) ≡ true
@@ -102,47 +95,37 @@ fits : (e : Else-not-has_room) → let a = (start e).args in
 fits e = room_parts _ _ _ _ (has e)
 
 pub flag_members-requires : goal.flag_members-requires
-flag_members-requires c = let s = start-of-slice-known4 (goal.at.flag_members-requires c).After-slice_known-4-1 in record { right = s.pre.0; grant_value = right_ascends s.args.grant.now s.pre.1.0; unflagged = s.pre.1.1.1 }
+flag_members-requires c =  record { right = c.requires.right; grant_value = right_ascends c.args.grant.now c.requires.grant_value; unflagged = c.requires.unflagged }
 
 pub mark-seen-requires : goal.mark-seen-requires
-mark-seen-requires c = let s = start-of-slice-known4 (goal.at.mark-seen-requires c).After-slice_known-3-1 in record { rows_right = rows_right (tables s) s.pre.0; grant_value = right_ascends s.args.grant.now s.pre.1.0; column_count_in_bounds = (c.flag_members.ensures.long, omega (arith, s.pre.0.sized.few, s.pre.1.1.0)) }
+mark-seen-requires c =  record { rows_right = rows_right (tables (goal.at.mark-seen-requires c).Start) c.requires.right; grant_value = right_ascends c.args.grant.now c.requires.grant_value; column_count_in_bounds = (c.flag_members.ensures.long, omega (arith, c.requires.right.sized.few, c.requires.marks_len)) }
 
 pub has_room-requires : goal.has_room-requires
 has_room-requires c = seen_few (goal.at.has_room-requires c).After-mark-seen
 
 pub returns-then-not-has_room : goal.returns-then-not-has_room
 returns-then-not-has_room c =
-    let s = start (goal.at.returns-then-not-has_room c).After-mark-seen in
-    no_room (lent s) (accepted (tables s) s.pre.0) s.pre.1.0 c.mark-seen.result (counted (goal.at.returns-then-not-has_room c).After-mark-seen)
+    no_room (lent (goal.at.returns-then-not-has_room c).Start) (accepted (tables (goal.at.returns-then-not-has_room c).Start) c.requires.right) c.requires.grant_value c.mark-seen.result (counted (goal.at.returns-then-not-has_room c).After-mark-seen)
     (sym c.has_room.ensures ∙ not-true c.has_room.result c.if-not-has_room.true-raw)
 
 pub write_rows-requires : goal.write_rows-requires
-write_rows-requires c = let m = marked (goal.at.write_rows-requires c).After-has_room in
-    let s = start m in record { column_count_len_bound = (s.pre.0.sized.few, marks_there m); seen_value = (shown_is m, (fits (goal.at.write_rows-requires c).Else-not-has_room).for_rows) }
+write_rows-requires c =  record { column_count_len_bound = (c.requires.right.sized.few, marks_there (goal.at.write_rows-requires c).After-mark-seen); seen_value = (shown_is (goal.at.write_rows-requires c).After-mark-seen, (fits (goal.at.write_rows-requires c).Else-not-has_room).for_rows) }
 
 pub write_numbers-requires : goal.write_numbers-requires
-write_numbers-requires c = let m = marked (goal.at.write_numbers-requires c).After-slice_known-7-1 in
-    let s = start m in record { list_value = pos_named (tables s) s.pre.0 (length (marks m)) (marks_there m); seen_value = (counted m ∙ sym (ap length (pos_are m) ∙ (view_counts (lent s)).pos), (fits (goal.at.write_numbers-requires c).Else-not-has_room).for_pos, seen_few m) }
+write_numbers-requires c =  record { list_value = pos_named (tables (goal.at.write_numbers-requires c).Start) c.requires.right (length (marks (goal.at.write_numbers-requires c).After-mark-seen)) (marks_there (goal.at.write_numbers-requires c).After-mark-seen); seen_value = (counted (goal.at.write_numbers-requires c).After-mark-seen ∙ sym (ap length (pos_are (goal.at.write_numbers-requires c).After-mark-seen) ∙ (view_counts (lent (goal.at.write_numbers-requires c).Start)).pos), (fits (goal.at.write_numbers-requires c).Else-not-has_room).for_pos, seen_few (goal.at.write_numbers-requires c).After-mark-seen) }
 
 pub write_numbers-requires-2 : goal.write_numbers-requires-2
-write_numbers-requires-2 c = let e = at-if1 (goal.at.write_numbers-requires-2 c).After-write_numbers-arg-1 in
-    let m = marked e in
-    let s = start m in record { list_value = osp_named (tables s) s.pre.0 (length (marks m)) (marks_there m); seen_value = (counted m ∙ sym (ap length (osp_are m) ∙ (view_counts (lent s)).osp), (fits e).for_osp, seen_few m) }
+write_numbers-requires-2 c =  record { list_value = osp_named (tables (goal.at.write_numbers-requires-2 c).Start) c.requires.right (length (marks (goal.at.write_numbers-requires-2 c).After-mark-seen)) (marks_there (goal.at.write_numbers-requires-2 c).After-mark-seen); seen_value = (counted (goal.at.write_numbers-requires-2 c).After-mark-seen ∙ sym (ap length (osp_are (goal.at.write_numbers-requires-2 c).After-mark-seen) ∙ (view_counts (lent (goal.at.write_numbers-requires-2 c).Start)).osp), (fits (goal.at.write_numbers-requires-2 c).Else-not-has_room).for_osp, seen_few (goal.at.write_numbers-requires-2 c).After-mark-seen) }
 
 pub overflow_mul-result : goal.overflow_mul-result
 overflow_mul-result c =
-    let e = at-if1 (goal.at.overflow_mul-result c).After-write_numbers-arg-1 in
-    omega (arith, seen_few e)
+    omega (arith, seen_few (goal.at.overflow_mul-result c).After-mark-seen)
 
 pub returns : goal.returns
 returns c =
-    let e = at-if1 (goal.at.returns c).After-write_numbers-arg-1 in
-    let m = marked e in
-    let s = start m in
-    
-    same_result (view_in (lent s)) (lent s).buffers (seen_in (lent s)) (view_counts (lent s)) _ _
-    c.write_rows.last.1.1.1.0 c.write_numbers.new.1.1.1.0 c.write_numbers-2.new.1.1.1.0 (ap (λ n. n * column_count) (counted m)) (counted m)
-    (c.write_rows.ensures ∙ ap (λ ws. over ws s.args.view-rows.now) (rows_are m))
-    (c.write_numbers.ensures ∙ ap (λ ws. over ws s.args.view-pos.now) (pos_are m))
-    (c.write_numbers-2.ensures ∙ ap (λ ws. over ws s.args.view-osp.now) (osp_are m))
-    ∙ served (lent s) (accepted (tables s) s.pre.0) s.pre.1.0 m.mark.result (counted m) (has e)
+    same_result (view_in (lent (goal.at.returns c).Start)) (lent (goal.at.returns c).Start).buffers (seen_in (lent (goal.at.returns c).Start)) (view_counts (lent (goal.at.returns c).Start)) _ _
+    c.write_rows.last.1.1.1.0 c.write_numbers.new.view c.write_numbers-2.new.view (ap (λ n. n * column_count) (counted (goal.at.returns c).After-mark-seen)) (counted (goal.at.returns c).After-mark-seen)
+    (c.write_rows.ensures ∙ ap (λ ws. over ws c.args.view-rows.now) (rows_are (goal.at.returns c).After-mark-seen))
+    (c.write_numbers.ensures ∙ ap (λ ws. over ws c.args.view-pos.now) (pos_are (goal.at.returns c).After-mark-seen))
+    (c.write_numbers-2.ensures ∙ ap (λ ws. over ws c.args.view-osp.now) (osp_are (goal.at.returns c).After-mark-seen))
+    ∙ served (lent (goal.at.returns c).Start) (accepted (tables (goal.at.returns c).Start) c.requires.right) c.requires.grant_value c.mark-seen.result (counted (goal.at.returns c).After-mark-seen) (has (goal.at.returns c).Else-not-has_room)

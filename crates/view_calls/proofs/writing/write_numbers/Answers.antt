@@ -32,7 +32,7 @@ row l = get_or (list l) l.loop-used.place 0
 
 -- a place is left
 left : (l : Loop) → l.loop-used.used < l.args.seen → l.loop-used.place < length (list l)
-left l h = place_left (marks l) (list l) l.loop-used.place (omega (arith, l.loop-used.inv.2, l.requires.seen_value.0))
+left l h = place_left (marks l) (list l) l.loop-used.place (omega (arith, l.loop-used.invariant.2, l.requires.seen_value.0))
 
 named : (l : Loop) → l.loop-used.used < l.args.seen → row l < length (marks l)
 named l h = ltb-true _ _ (all_at_lem (λ n. ltb n (length (marks l))) (list l) l.loop-used.place 0 l.requires.list_value (left l h))
@@ -72,7 +72,6 @@ loop-used-smaller c = omega (arith, left (goal.at.loop-used-smaller c).At-loop-u
 
 pub loop-used-preserved : goal.loop-used-preserved
 loop-used-preserved c =
-    let s = start (goal.at.loop-used-preserved c).At-loop-used in
     let used = c.loop-used.used in
     let place = c.loop-used.place in
     let h = left (goal.at.loop-used-preserved c).At-loop-used (omega arith) in
@@ -82,16 +81,15 @@ loop-used-preserved c =
       (simp length-set) ∙ c.loop-used.invariant.1,
       u ∙ used_next (marks (goal.at.loop-used-preserved c).At-loop-used) (list (goal.at.loop-used-preserved c).At-loop-used) place h used c.loop-used.invariant.2,
       ap₂ (λ n r. take n (set c.loop-used.view used (get_or (marks (goal.at.loop-used-preserved c).At-loop-used) r 0))) u c.wide.ensures
-          ∙ front_next (marks (goal.at.loop-used-preserved c).At-loop-used) (list (goal.at.loop-used-preserved c).At-loop-used) place h c.loop-used.view used (omega (arith, s.pre.1.1, c.loop-used.invariant.1)) c.loop-used.invariant.3,
-      drop-set-lt s.args.seen c.loop-used.view used (get_or (marks (goal.at.loop-used-preserved c).At-loop-used) c.wide.result 0) (omega arith) ∙ c.loop-used.invariant.4,
+          ∙ front_next (marks (goal.at.loop-used-preserved c).At-loop-used) (list (goal.at.loop-used-preserved c).At-loop-used) place h c.loop-used.view used (omega (arith, c.requires.seen_value.1, c.loop-used.invariant.1)) c.loop-used.invariant.3,
+      drop-set-lt c.args.seen c.loop-used.view used (get_or (marks (goal.at.loop-used-preserved c).At-loop-used) c.wide.result 0) (omega arith) ∙ c.loop-used.invariant.4,
     )
 
 pub returns : goal.returns
 returns c =
-    let s = start (goal.at.returns c).At-loop-used in
     let p = written_part (shown_by (marks (goal.at.returns c).At-loop-used)) (λ r. get_or (marks (goal.at.returns c).At-loop-used) r 0 ∷ []) c.loop-used.place (list (goal.at.returns c).At-loop-used) in
-    let n : s.args.seen ≡ c.loop-used.used = omega (arith, p, c.loop-used.invariant.2, s.pre.1.0) in
-    let e = part_all (shown_by (marks (goal.at.returns c).At-loop-used)) (λ r. get_or (marks (goal.at.returns c).At-loop-used) r 0 ∷ []) c.loop-used.place (list (goal.at.returns c).At-loop-used) (omega (arith, n, c.loop-used.invariant.2, s.pre.1.0)) in
-    sym (take-append-drop s.args.seen c.loop-used.view)
+    let n : c.args.seen ≡ c.loop-used.used = omega (arith, p, c.loop-used.invariant.2, c.requires.seen_value.0) in
+    let e = part_all (shown_by (marks (goal.at.returns c).At-loop-used)) (λ r. get_or (marks (goal.at.returns c).At-loop-used) r 0 ∷ []) c.loop-used.place (list (goal.at.returns c).At-loop-used) (omega (arith, n, c.loop-used.invariant.2, c.requires.seen_value.0)) in
+    sym (take-append-drop c.args.seen c.loop-used.view)
     ∙ ap₂ ◌++◌ (ap (λ k. take k c.loop-used.view) n ∙ c.loop-used.invariant.3 ∙ e)
-    (c.loop-used.invariant.4 ∙ ap (λ k. drop k s.args.view.now) s.pre.1.0)
+    (c.loop-used.invariant.4 ∙ ap (λ k. drop k c.args.view.now) c.requires.seen_value.0)

@@ -39,8 +39,8 @@ left : (l : Loop) → l.loop-used.used < l.args.seen → l.loop-used.row < lengt
 left l h =
     elim (three l.loop-used.row (length (rows l) / column_count)) [
       | less k ↦ k
-      | same k ↦ absurd (omega (arith, ap (passed_before (shown_by (marks l))) k, l.loop-used.inv.2, l.requires.seen_value.0))
-      | more k ↦ absurd (omega (arith, l.loop-used.inv.0))
+      | same k ↦ absurd (omega (arith, ap (passed_before (shown_by (marks l))) k, l.loop-used.invariant.2, l.requires.seen_value.0))
+      | more k ↦ absurd (omega (arith, l.loop-used.invariant.0))
     ]
 
 few : (l : Loop) → l.args.seen ≤ most_rows
@@ -48,7 +48,7 @@ few l = omega (arith, number_most (shown_by (marks l)) (length (rows l) / column
 
 -- there is room for a row more
 room : (l : Loop) → l.loop-used.used < l.args.seen → l.loop-used.used * column_count + column_count ≤ length l.loop-used.view
-room l h = omega (arith, l.requires.seen_value.1, l.loop-used.inv.1)
+room l h = omega (arith, l.requires.seen_value.1, l.loop-used.invariant.1)
 
 pub loop-used-init : goal.loop-used-init
 loop-used-init c =
@@ -84,17 +84,16 @@ pub one_more-used-requires : goal.one_more-used-requires
 one_more-used-requires c = omega (arith, few (goal.at.one_more-used-requires c).At-loop-used)
 
 pub overflow_add-row : goal.overflow_add-row
-overflow_add-row c = let l = at-loop (goal.at.overflow_add-row c).After-put_row in omega (arith, left l (omega arith), l.pre.0.0)
+overflow_add-row c =  omega (arith, left (goal.at.overflow_add-row c).At-loop-used (omega arith), c.requires.column_count_len_bound.0)
 
 pub loop-used-smaller : goal.loop-used-smaller
 loop-used-smaller c = omega (arith, left (goal.at.loop-used-smaller c).At-loop-used (omega arith))
 
 pub loop-used-preserved : goal.loop-used-preserved
 loop-used-preserved c =
-    let s = start (goal.at.loop-used-preserved c).At-loop-used in
     let used = c.loop-used.used in
     let row = c.loop-used.row in
-    let seen = s.args.seen in
+    let seen = c.args.seen in
     let x = c.row_words-words.result in
     let wide : length x ≡ column_count = ap length c.row_words-words.ensures ∙ fields_length Spo (rows (goal.at.loop-used-preserved c).At-loop-used) row in
     let h = left (goal.at.loop-used-preserved c).At-loop-used (omega arith) in
@@ -115,11 +114,10 @@ loop-used-preserved c =
 
 pub returns : goal.returns
 returns c =
-    let s = start (goal.at.returns c).At-loop-used in
-    let n : s.args.seen ≡ c.loop-used.used = omega (arith, c.loop-used.invariant.3) in
-    let e = words_all (rows (goal.at.returns c).At-loop-used) (marks (goal.at.returns c).At-loop-used) c.loop-used.row c.loop-used.invariant.0 (sym c.loop-used.invariant.2 ∙ sym n ∙ s.pre.1.0) in
-    let d : s.args.seen * column_count ≡ length (shown_words (rows (goal.at.returns c).At-loop-used) (marks (goal.at.returns c).At-loop-used)) =
-    ap (λ k. k * column_count) s.pre.1.0 ∙ sym (words_length (rows (goal.at.returns c).At-loop-used) (marks (goal.at.returns c).At-loop-used) (length (rows (goal.at.returns c).At-loop-used) / column_count)) in
-    sym (take-append-drop (s.args.seen * column_count) c.loop-used.view)
+    let n : c.args.seen ≡ c.loop-used.used = omega (arith, c.loop-used.invariant.3) in
+    let e = words_all (rows (goal.at.returns c).At-loop-used) (marks (goal.at.returns c).At-loop-used) c.loop-used.row c.loop-used.invariant.0 (sym c.loop-used.invariant.2 ∙ sym n ∙ c.requires.seen_value.0) in
+    let d : c.args.seen * column_count ≡ length (shown_words (rows (goal.at.returns c).At-loop-used) (marks (goal.at.returns c).At-loop-used)) =
+    ap (λ k. k * column_count) c.requires.seen_value.0 ∙ sym (words_length (rows (goal.at.returns c).At-loop-used) (marks (goal.at.returns c).At-loop-used) (length (rows (goal.at.returns c).At-loop-used) / column_count)) in
+    sym (take-append-drop (c.args.seen * column_count) c.loop-used.view)
     ∙ ap₂ ◌++◌ (ap (λ k. take (k * column_count) c.loop-used.view) n ∙ c.loop-used.invariant.4 ∙ e)
-    (c.loop-used.invariant.5 ∙ ap (λ k. drop k s.args.view.now) d)
+    (c.loop-used.invariant.5 ∙ ap (λ k. drop k c.args.view.now) d)
