@@ -1,6 +1,6 @@
 -- `write_strings` meets its contract. The invariant: what is written and the strings still to come, each once, make the whole; and the places passed have
 -- their numbers.
-use Prim.Native.Nat.{ℕ, ◌+◌, ◌-◌, ◌≤◌, ◌<◌}
+use Prim.Native.Nat.{ℕ, ◌+◌, ◌≤◌, ◌<◌}
 use native.Mathlib.Omega.{arith}
 use mathlib.Core.Path.{◌≡◌, sym, ap, subst, subst⁻¹, ◌∙◌}
 use mathlib.Core.Bool.{Bool, true, false, ◌||◌}
@@ -16,9 +16,9 @@ use Rattle.dictionary_numberings.specs.Numbering.{ends_after}
 use Rattle.dictionary_numberings.specs.Sorted.{last_of_each, sorted_places}
 use Rattle.dictionary_numberings.proofs.Cutting.{ends_below}
 use Rattle.dictionary_numberings.proofs.Places.{sorted_strings_lem, places_within}
-use Rattle.dictionary_writes.proofs.Numbers.{numbers_start, numbers_kept, numbers_left_lem, numbers_end}
+use Rattle.dictionary_writes.proofs.Numbers.{numbers_kept, numbers_left_lem, numbers_end}
 use Rattle.dictionary_writes.proofs.Writing.{one_taken, one_left, none_left, last_told, string_at, sorted_strings, once_bytes, once_strings}
-use Rattle.dictionary_writes.proofs.Writing.{StringsWritten, written_start, string_ends, string_fits, end_fits}
+use Rattle.dictionary_writes.proofs.Writing.{StringsWritten, string_ends, string_fits, end_fits}
 use Rattle.dictionary_writes.proofs.Writing.{written_step, count_most, filled_end, bytes_end, ends_end, count_end}
 use Rattle.dictionary_writes.proofs.write_strings.Goals as goal
 use Rattle.dictionary_writes.proofs.write_strings.Goals.{After-string-s}
@@ -104,14 +104,6 @@ module _ (z : After-string-s) where
   free : z.loop-k.count < length z.loop-k.cuts
   free = end_fits whole rest _ _ _ _ z.loop-k.filled z.loop-k.count z.string-s.result.now waits bytes_room ends_room
 
-pub loop-k-init : goal.loop-k-init
-loop-k-init c =
-    let a = c.args in (
-      omega arith,
-      written_start (last_of_each (sorted_strings a.bytes.now a.ends.now)) a.out.now a.cuts.now,
-      numbers_start a.bytes.now a.ends.now a.numbers.now,
-    )
-
 pub overflow_cast-numbers : goal.overflow_cast-numbers
 overflow_cast-numbers c =
     let n = count_most (last_of_each (sorted_strings c.args.bytes.now c.args.ends.now)) _ _ _ _ _ c.loop-k.filled c.loop-k.count c.loop-k.invariant.1 in
@@ -122,21 +114,13 @@ bounds-numbers-place c =
     let w = within c.args.bytes.now c.args.ends.now c.args.places.now c.loop-k.k c.requires.places_value c.loop-k-test.true c.wide-place.result c.wide-place.ensures in
     omega (arith, w, c.loop-k.invariant.2.long, c.requires.ends_len_bound.1)
 
-pub is_last-requires : goal.is_last-requires
-is_last-requires c =
-    record {
-      ends_value = c.requires.ends_value;
-      places_value = subst⁻¹ (λ ps. all (has_string c.args.ends.now) ps ≡ true) c.requires.places_value (places_within c.args.bytes.now c.args.ends.now);
-      k_in_bounds = omega arith;
-    }
+pub is_last-requires-clause-places_value : goal.is_last-requires-clause-places_value
+is_last-requires-clause-places_value c =
+    subst⁻¹ (λ ps. all (has_string c.args.ends.now) ps ≡ true) c.requires.places_value (places_within c.args.bytes.now c.args.ends.now)
 
-pub string-s-requires : goal.string-s-requires
-string-s-requires c =
-    record {
-      ends_value = c.requires.ends_value;
-      n_in_bounds = within c.args.bytes.now c.args.ends.now c.args.places.now c.loop-k.k c.requires.places_value c.loop-k-test.true c.wide-place.result
-          c.wide-place.ensures;
-    }
+pub string-s-requires-clause-n_in_bounds : goal.string-s-requires-clause-n_in_bounds
+string-s-requires-clause-n_in_bounds c =
+    within c.args.bytes.now c.args.ends.now c.args.places.now c.loop-k.k c.requires.places_value c.loop-k-test.true c.wide-place.result c.wide-place.ensures
 
 pub copy_bytes-requires : goal.copy_bytes-requires
 copy_bytes-requires c = omega (arith, fits (goal.at.copy_bytes-requires c).After-string-s)
@@ -149,9 +133,6 @@ overflow_cast-cuts c = omega (arith, small (goal.at.overflow_cast-cuts c).After-
 
 pub bounds-cuts-count : goal.bounds-cuts-count
 bounds-cuts-count c = free (goal.at.bounds-cuts-count c).After-string-s
-
-pub overflow_add-count : goal.overflow_add-count
-overflow_add-count c = omega (arith, free (goal.at.overflow_add-count c).After-string-s)
 
 pub loop-k-preserved-then-is_last : goal.loop-k-preserved-then-is_last
 loop-k-preserved-then-is_last c =
@@ -186,15 +167,6 @@ loop-k-preserved c =
           (placed a.bytes.now a.ends.now a.places.now l.k sorted h c.wide-place.result c.wide-place.ensures)
           (omega (arith, w, l.invariant.2.long, c.requires.ends_len_bound.1)) e,
     )
-
-pub shape_of-out : goal.shape_of-out
-shape_of-out c = c.loop-k.invariant.1.out_length
-
-pub shape_of-cuts : goal.shape_of-cuts
-shape_of-cuts c = c.loop-k.invariant.1.ends_same
-
-pub shape_of-numbers : goal.shape_of-numbers
-shape_of-numbers c = c.loop-k.invariant.2.long
 
 pub returns : goal.returns
 returns c =

@@ -1,39 +1,39 @@
 -- `table_walks::walk` meets its contract. The invariants: the orders before `turn` are right; of this order the places before
 -- `place` are, and `last` has the keys of the one before it; `before` says whether it comes before the next by the columns after `column`.
-use Rattle.std.proofs.Common.{◌≡◌, ℕ, ◌+◌, ◌-◌, ◌*◌, ◌<◌, ◌≤◌, Bool, true, false, cond, ltb, leb, List, length, get_or, drop, sym, ap, ◌∙◌, subst, ap₂, arith, length-take-le}
+use Rattle.std.proofs.Common.{◌≡◌, ℕ, ◌+◌, ◌-◌, ◌<◌, ◌≤◌, Bool, true, false, List, length, drop, sym, ap, ◌∙◌, subst, ap₂, arith}
 use borrow.Author.Tests.{not-true, not-false}
 use Rattle.sequences.specs.Sequences.{lex_before}
 use Rattle.tables.specs.declared.Order.{Order}
-use Rattle.tables.specs.Tables.{Tables, tables_of, column_count, row_count, row_at}
+use Rattle.tables.specs.Tables.{Tables, tables_of, row_count, row_at}
 use Rattle.tables.specs.Right.{Sized}
 use Rattle.tables.proofs.Sides.{from_end}
 use Rattle.table_walk_keys.specs.Walk.{key_count, keys_at, order_at, order_count, order_right, right_upto, right_orders}
 use Rattle.table_walk_keys.proofs.Keys.{keys_length}
 use Rattle.table_walk_keys.proofs.Walking.{RightBefore, read_row, read_keys, read_none, upto_first, upto_next, unnamed_fault, descent_fault}
-use Rattle.table_walk_keys.proofs.Walking.{orders_none, orders_next, orders_fault, orders_all}
+use Rattle.table_walk_keys.proofs.Walking.{orders_next, orders_fault, orders_all}
 use Rattle.table_walks.proofs.Columns.{column_says}
-use Rattle.table_walks.proofs.Cuts.{cut, cut_none}
+use Rattle.table_walks.proofs.Cuts.{cut_all, cut_all_none}
 use Rattle.table_walks.proofs.walk.Goals as goal
 use Rattle.table_walks.proofs.walk.Goals.{After-before_from-before, Else-not-found}
 
 -- ---- the tables cut to the lengths that they have
 module _ (t : Tables) (s : Sized t) where
-  sized : Sized (cut t)
-  sized = subst Sized (sym (cut_none t s)) s
+  sized : Sized (cut_all t)
+  sized = subst Sized (sym (cut_all_none t s)) s
 
-  some_rows : 0 < row_count t → 0 < row_count (cut t)
-  some_rows h = subst (λ u. 0 < row_count u) (sym (cut_none t s)) h
+  some_rows : 0 < row_count t → 0 < row_count (cut_all t)
+  some_rows h = subst (λ u. 0 < row_count u) (sym (cut_all_none t s)) h
 
   -- there are as many places as POS has
-  all_places : length t.pos ≡ row_count (cut t)
-  all_places = s.pos_length ∙ ap row_count (sym (cut_none t s))
+  all_places : length t.pos ≡ row_count (cut_all t)
+  all_places = s.pos_length ∙ ap row_count (sym (cut_all_none t s))
 
   -- an order with a fault is where the walk stops
-  stops : (alike : Bool) (turn : ℕ) (order : Order) → RightBefore alike (cut t) turn → turn < order_count → order ≡ order_at turn
-      → order_right alike (cut t) order ≡ false → turn ≡ right_orders alike t
+  stops : (alike : Bool) (turn : ℕ) (order : Order) → RightBefore alike (cut_all t) turn → turn < order_count → order ≡ order_at turn
+      → order_right alike (cut_all t) order ≡ false → turn ≡ right_orders alike t
   stops alike turn order b h is e =
-      sym (orders_fault alike (cut t) turn b h (rw is at e))
-      ∙ ap (right_orders alike) (cut_none t s)
+      sym (orders_fault alike (cut_all t) turn b h (rw is at e))
+      ∙ ap (right_orders alike) (cut_all_none t s)
 
 -- ---- with the keys of the row after `last`
 module _ (n : Else-not-found) where
@@ -41,7 +41,7 @@ module _ (n : Else-not-found) where
   given = tables_of n.args.rows.now n.args.pos.now n.args.osp.now
 
   abbrev tables : Tables
-  tables = cut given
+  tables = cut_all given
 
   abbrev order : Order
   order = n.order_at-order.result
@@ -109,22 +109,9 @@ all_say : (c : After-before_from-before) → length c.places.last ≡ key_count 
 all_say c l r e = says c l r ∙ ap (λ k. lex_before (drop k c.places.last) (drop k c.read-found.result.keys)) e
 
 -- ---- the goals
-pub slice_bounds-own-end : goal.slice_bounds-own-end
-slice_bounds-own-end c =
-    let z = c.requires.sized in
-    sym (length-take-le (length c.args.pos.now * column_count) c.args.rows.now (omega arith))
-
-pub orders-init : goal.orders-init
-orders-init c = orders_none c.args.alike (cut (tables_of c.args.rows.now c.args.pos.now c.args.osp.now))
-
-pub read-first-requires : goal.read-first-requires
-read-first-requires c =
-    let t = tables_of c.args.rows.now c.args.pos.now c.args.osp.now in
-    record { sized = sized t c.requires.sized; place_bound = some_rows t c.requires.sized c.requires.nonzero }
-
 pub places-init : goal.places-init
 places-init c =
-    let t = cut (tables_of c.args.rows.now c.args.pos.now c.args.osp.now) in
+    let t = cut_all (tables_of c.args.rows.now c.args.pos.now c.args.osp.now) in
     let o = c.order_at-order.result in
     let r = c.read-first.result in
     let e = c.read-first.ensures in
@@ -134,12 +121,6 @@ places-init c =
       read_keys c.args.alike t o 0 r e n,
       upto_first c.args.alike t o (read_row c.args.alike t o 0 r e n),
     )
-
-pub read-found-requires : goal.read-found-requires
-read-found-requires c =
-    let t = tables_of c.args.rows.now c.args.pos.now c.args.osp.now in
-    let h : c.places.place < length c.args.pos.now = c.places-test.true in
-    record { sized = sized t c.requires.sized; place_bound = omega (arith, all_places t c.requires.sized) }
 
 pub columns-init : goal.columns-init
 columns-init c =
@@ -165,22 +146,22 @@ orders-preserved c =
     let t = tables_of c.args.rows.now c.args.pos.now c.args.osp.now in
     let most : c.places.place ≤ length c.args.pos.now = c.places.invariant.1 in
     let least : length c.args.pos.now ≤ c.places.place = c.places-test.false in
-    let whole : c.places.place ≡ row_count (cut t) = omega (arith, most, least, all_places t c.requires.sized) in
-    orders_next c.args.alike (cut t) c.orders.turn c.orders.invariant (omega (arith, c.orders-test.true))
+    let whole : c.places.place ≡ row_count (cut_all t) = omega (arith, most, least, all_places t c.requires.sized) in
+    orders_next c.args.alike (cut_all t) c.orders.turn c.orders.invariant (omega (arith, c.orders-test.true))
     (rw (← c.order_at-order.ensures) (rw whole at c.places.invariant.3))
 
 pub returns-after-orders : goal.returns-after-orders
 returns-after-orders c =
     let t = tables_of c.args.rows.now c.args.pos.now c.args.osp.now in
-    sym (orders_all c.args.alike (cut t) c.orders.turn c.orders.invariant (omega arith)) ∙ ap (right_orders c.args.alike) (cut_none t c.requires.sized)
+    sym (orders_all c.args.alike (cut_all t) c.orders.turn c.orders.invariant (omega arith)) ∙ ap (right_orders c.args.alike) (cut_all_none t c.requires.sized)
 
 pub returns-then-not-first : goal.returns-then-not-first
 returns-then-not-first c =
     let t = tables_of c.args.rows.now c.args.pos.now c.args.osp.now in
     let o = c.order_at-order.result in
     stops t c.requires.sized c.args.alike c.orders.turn o c.orders.invariant (omega arith) c.order_at-order.ensures
-    (unnamed_fault c.args.alike (cut t) o 0 (some_rows t c.requires.sized c.requires.nonzero)
-    (read_none c.args.alike (cut t) o 0 c.read-first.result c.read-first.ensures (not-true _ c.if-not-first.true)))
+    (unnamed_fault c.args.alike (cut_all t) o 0 (some_rows t c.requires.sized c.requires.nonzero)
+    (read_none c.args.alike (cut_all t) o 0 c.read-first.result c.read-first.ensures (not-true _ c.if-not-first.true)))
 
 pub returns-then-not-found : goal.returns-then-not-found
 returns-then-not-found c =
@@ -189,8 +170,8 @@ returns-then-not-found c =
     let p = c.places.place in
     let h : p < length c.args.pos.now = c.places-test.true in
     stops t c.requires.sized c.args.alike c.orders.turn o c.orders.invariant (omega arith) c.order_at-order.ensures
-    (unnamed_fault c.args.alike (cut t) o p (omega (arith, all_places t c.requires.sized))
-    (read_none c.args.alike (cut t) o p c.read-found.result c.read-found.ensures (not-true _ c.if-not-found.true)))
+    (unnamed_fault c.args.alike (cut_all t) o p (omega (arith, all_places t c.requires.sized))
+    (read_none c.args.alike (cut_all t) o p c.read-found.result c.read-found.ensures (not-true _ c.if-not-found.true)))
 
 pub returns-then-not-before : goal.returns-then-not-before
 returns-then-not-before c =
