@@ -24,7 +24,6 @@ pub returns-then-not-rest_in : goal.returns-then-not-rest_in
 returns-then-not-rest_in c =
     let t = c.args.bytes.now in
     let i = c.loop-i.i in
-    
     let e = sym c.rest_in.ensures ∙ not-true _ c.if-not-rest_in.true-raw in
     sym (c.loop-i.invariant.1
     ∙ (more_formed t i Nothing (omega arith) c.first-step.result c.first-step.ensures c.in-More.rest c.in-More.is
@@ -50,7 +49,6 @@ pub loop-i-preserved : goal.loop-i-preserved
 loop-i-preserved c =
     let t = c.args.bytes.now in
     let i = c.loop-i.i in
-    
     let e = sym c.rest_in.ensures ∙ not-false _ c.if-not-rest_in.false-raw in
     let n = c.rest_length.ensures in (
       behind_fits t (i + 1) c.rest_length.result (spans_in c.in-More.rest) e n (omega arith),

@@ -36,7 +36,7 @@ fits : (r : Roomy) → NumberFits (length (given r).bytes) (length (given r).end
 fits r = room_fits _ _ (given r).buffers (has r)
 
 pub returns-then-not-given_right : goal.returns-then-not-given_right
-returns-then-not-given_right c = 
+returns-then-not-given_right c =
     let shown = call_told number_call number_is_right (lent (goal.at.returns-then-not-given_right c).Start) (wrong_strings (lent (goal.at.returns-then-not-given_right c).Start) (sym c.given_right.ensures ∙ not-true _ c.if-not-given_right.true-raw)) in
     record { places_after = shown.0; number = shown.1 }
 
@@ -62,10 +62,14 @@ slice_bounds-write_dictionary-end-4 c =
 
 pub write_dictionary-extent-requires : goal.write_dictionary-extent-requires
 write_dictionary-extent-requires c = let i = given (goal.at.write_dictionary-extent-requires c).Else-not-has_room in
-    let g = right (goal.at.write_dictionary-extent-requires c).Else-not-given_right in record { ends_value = given_cut i g; ends_len_bound = (few i g, (fits (goal.at.write_dictionary-extent-requires c).Else-not-has_room).for_bytes, (fits (goal.at.write_dictionary-extent-requires c).Else-not-has_room).for_ends); numbers_len = (
-          length-take-le (length i.ends) i.buffers.numbers (fits (goal.at.write_dictionary-extent-requires c).Else-not-has_room).for_numbers,
-          length-take-le (length i.ends) i.buffers.places (fits (goal.at.write_dictionary-extent-requires c).Else-not-has_room).for_places,
-        ) }
+    let g = right (goal.at.write_dictionary-extent-requires c).Else-not-given_right in record {
+      ends_value = given_cut i g;
+      ends_len_bound = (few i g, (fits (goal.at.write_dictionary-extent-requires c).Else-not-has_room).for_bytes, (fits (goal.at.write_dictionary-extent-requires c).Else-not-has_room).for_ends);
+      numbers_len = (
+        length-take-le (length i.ends) i.buffers.numbers (fits (goal.at.write_dictionary-extent-requires c).Else-not-has_room).for_numbers,
+        length-take-le (length i.ends) i.buffers.places (fits (goal.at.write_dictionary-extent-requires c).Else-not-has_room).for_places,
+      );
+    }
 
 pub returns : goal.returns
 returns c = let i = given (goal.at.returns c).Else-not-has_room in

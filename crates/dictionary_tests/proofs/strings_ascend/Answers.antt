@@ -16,7 +16,7 @@ pub loop-i-init : goal.loop-i-init
 loop-i-init c = (omega arith, refl)
 
 pub next_right-requires : goal.next_right-requires
-next_right-requires c =  record { ends_value = c.requires; i_in_bounds = omega arith }
+next_right-requires c = record { ends_value = c.requires; i_in_bounds = omega arith }
 
 pub returns-then-not-next_right : goal.returns-then-not-next_right
 returns-then-not-next_right c =

@@ -19,10 +19,13 @@ pub returns-then-k-places : goal.returns-then-k-places
 returns-then-k-places c = let a = c.args in rw (eq-eqb (a.k + 1) (length a.places.now) c.if-k-places.true)
 
 pub is_before-requires : goal.is_before-requires
-is_before-requires c = let n = c.if-k-places.false in record { ends_value = c.requires.ends_value; a_in_bounds = (
-        entry c.args.ends.now c.args.places.now c.requires.places_value c.args.k _ c.requires.k_in_bounds c.wide.ensures,
-        entry c.args.ends.now c.args.places.now c.requires.places_value (c.args.k + 1) _ (omega (arith, c.requires.k_in_bounds)) c.wide-2.ensures,
-      ) }
+is_before-requires c = let n = c.if-k-places.false in record {
+  ends_value = c.requires.ends_value;
+  a_in_bounds = (
+    entry c.args.ends.now c.args.places.now c.requires.places_value c.args.k _ c.requires.k_in_bounds c.wide.ensures,
+    entry c.args.ends.now c.args.places.now c.requires.places_value (c.args.k + 1) _ (omega (arith, c.requires.k_in_bounds)) c.wide-2.ensures,
+  );
+}
 
 pub returns : goal.returns
 returns c =

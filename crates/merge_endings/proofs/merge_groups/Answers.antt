@@ -24,14 +24,13 @@ returns-then-not-are_groups c =
     λ vs m e plan a. lists_wrong _ a c.requires.1 (refuses (right (goal.at.returns-then-not-are_groups c).Start vs m) (c.are_groups.ensures vs m e) c.if-not-are_groups.true-raw)
 
 pub merge_groups-requires : goal.merge_groups-requires
-merge_groups-requires c =
-     (
-      c.requires.0,
-      c.requires.1,
-      λ vs m e.
-          each_right (group vs m) (take c.args.given c.args.kept.now) c.args.list.now
-          (goes_on_fact (right (goal.at.merge_groups-requires c).Start vs m) (c.are_groups.ensures vs m e) c.if-not-are_groups.false-raw),
-    )
+merge_groups-requires c = (
+  c.requires.0,
+  c.requires.1,
+  λ vs m e.
+      each_right (group vs m) (take c.args.given c.args.kept.now) c.args.list.now
+      (goes_on_fact (right (goal.at.merge_groups-requires c).Start vs m) (c.are_groups.ensures vs m e) c.if-not-are_groups.false-raw),
+)
 
 pub returns : goal.returns
 returns c =

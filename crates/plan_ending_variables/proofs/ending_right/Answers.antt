@@ -11,7 +11,7 @@ use Rattle.plan_ending_variables.proofs.ending_right.Goals as goal
 use Rattle.plan_ending_variables.proofs.ending_right.Goals.{After-ending_kind}
 
 form_is : (k : After-ending_kind) → k.ending_form.result ≡ true
-form_is k =  not-false k.ending_form.result k.if-not-ending_form.false-raw
+form_is k = not-false k.ending_form.result k.if-not-ending_form.false-raw
 
 pub returns-then-not-ending_form : goal.returns-then-not-ending_form
 returns-then-not-ending_form c = rw (← c.ending_form.ensures, not-true c.ending_form.result c.if-not-ending_form.true-raw)
@@ -27,7 +27,7 @@ variables_right-requires c =
 pub returns-then-not-variables_right : goal.returns-then-not-variables_right
 returns-then-not-variables_right c =
     let args = c.args in
-    let f = binds (branches_in args.count args.p.now) in let q = ending_at args.e.now in 
+    let f = binds (branches_in args.count args.p.now) in let q = ending_at args.e.now in
     rw (← c.ending_form.ensures, not-false c.ending_form.result c.if-not-ending_form.false-raw)
     (sym (wrong_variables f c.variables_right.result q (rw c.variables-list.ensures at c.variables_right.ensures) (not-true _ c.if-not-variables_right.true-raw)))
 

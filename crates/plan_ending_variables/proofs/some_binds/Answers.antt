@@ -32,8 +32,7 @@ overflow_add-at c =
 
 pub loop-left-preserved : goal.loop-left-preserved
 loop-left-preserved c =
-    let args = c.args in
-     (
+    let args = c.args in (
       walk_next args.count args.p.now c.loop-left.at c.loop-left.left c.loop-left.invariant.0 (omega arith) c.branch_words-at.result c.branch_words-at.ensures,
       c.loop-left.invariant.1 ∙ binds_goes args.count args.p.now c.loop-left.at c.loop-left.left c.loop-left.invariant.0 (omega arith) c.branch_words-at.result c.branch_words-at.ensures
           args.word c.among.result (c.among.ensures ∙ ap (member args.word) c.terms.ensures) c.if-among.false,

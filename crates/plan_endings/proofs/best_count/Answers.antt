@@ -11,7 +11,6 @@ pub returns-then-k-eq0 : goal.returns-then-k-eq0
 returns-then-k-eq0 c =
     let e = c.args.e.now in
     let pre = c.requires in
-    
     c.wide.ensures ∙ sym (ap best_in (ending_top e (ending_kind_of (get_or e 0 0)) refl (sym (last_in_lem e pre.0) ∙ pre.1))
     ∙ rw (← c.first.ensures, ← c.low-k.ensures, eq-eqb _ _ c.if-k-eq0.true))
 
@@ -19,6 +18,5 @@ pub returns : goal.returns
 returns c =
     let e = c.args.e.now in
     let pre = c.requires in
-    
     c.wide-2.ensures ∙ sym (ap best_in (ending_top e (ending_kind_of (get_or e 0 0)) refl (sym (last_in_lem e pre.0) ∙ pre.1))
     ∙ rw (← c.first.ensures, ← c.low-k.ensures, ne_eqb _ _ c.if-k-eq0.false))

@@ -33,10 +33,13 @@ returns c = let a = c.args in
     let e = length_word steps (omega (arith, c.long.ensures)) in
     let named = turn_word ++ number_field a.number in
     let counted = steps_word ++ number_field steps in
-    let n = length-append named counted in record { line = served_text a.number a.steps steps a.ending.now a.line.now c.put_bytes.new.line c.put_bytes.result c.long.ensures.0
+    let n = length-append named counted in record {
+      line = served_text a.number a.steps steps a.ending.now a.line.now c.put_bytes.new.line c.put_bytes.result c.long.ensures.0
           (placed_front (named ++ counted ++ a.ending.now) a.line.now c.put_bytes.new.line c.put_bytes.result
           (placed_then (named ++ counted) a.ending.now 0 c.put_named-after_steps.result c.put_bytes.result a.line.now c.put_named-after_steps.new.line c.put_bytes.new.line
           (omega arith)
           (placed_then named counted 0 c.put_named-after_number.result c.put_named-after_steps.result a.line.now c.put_named-after_number.last.0 c.put_named-after_steps.new.line (omega arith)
           c.put_named-after_number.ensures c.put_named-after_steps.ensures)
-          c.put_bytes.ensures)); room = omega (arith, pre, c.put_named-after_number.ensures.0, c.put_named-after_steps.ensures.0, c.put_bytes.ensures.0) }
+          c.put_bytes.ensures));
+      room = omega (arith, pre, c.put_named-after_number.ensures.0, c.put_named-after_steps.ensures.0, c.put_bytes.ensures.0);
+    }

@@ -17,5 +17,8 @@ print_delivered-requires c = let b = c.args.bytes.now in
     let l = c.args.lists in
     let shown = c.requires.turn_shown (sym c.is_served.ensures ∙ c.if-is_served.true) in
     let wide : l.width ≡ width (plan_of p).ending = ap (λ (x : Listing). x.width) c.requires.lists_of.1 in
-    let kind = sym (ap (λ (x : Listing). x.kind) c.requires.lists_of.1) in record { has_width = lists_width p l c.requires.lists_of; width_len = λ e. rw wide
-          (shown_whole (file_tables b) p (file_quantum b) (output_room p) c.args.number c.args.turned c.args.list.now shown (kind ∙ e)) }
+    let kind = sym (ap (λ (x : Listing). x.kind) c.requires.lists_of.1) in record {
+      has_width = lists_width p l c.requires.lists_of;
+      width_len = λ e. rw wide
+          (shown_whole (file_tables b) p (file_quantum b) (output_room p) c.args.number c.args.turned c.args.list.now shown (kind ∙ e));
+    }

@@ -21,13 +21,13 @@ loop-n-preserved c =
     )
 
 pub shape_of-state-in-Over : goal.shape_of-state-in-Over
-shape_of-state-in-Over c =  c.state-1.given ∙ c.loop-n.invariant.1
+shape_of-state-in-Over c = c.state-1.given ∙ c.loop-n.invariant.1
 
 pub shape_of-output-in-Over : goal.shape_of-output-in-Over
-shape_of-output-in-Over c =  c.output-1.given ∙ c.loop-n.invariant.2
+shape_of-output-in-Over c = c.output-1.given ∙ c.loop-n.invariant.2
 
 pub shape_of-kept-in-Over : goal.shape_of-kept-in-Over
-shape_of-kept-in-Over c =  c.kept-1.given ∙ c.loop-n.invariant.3
+shape_of-kept-in-Over c = c.kept-1.given ∙ c.loop-n.invariant.3
 
 pub returns-in-Over : goal.returns-in-Over
 returns-in-Over c =
@@ -36,13 +36,13 @@ returns-in-Over c =
     rw (c.play_answer.ensures ∙ ap play_answer w) (sym (ap result_at (rounds_over All _ _ _ _ (c.loop-n.n + 1) _ (omega arith) _ _ e)))
 
 pub shape_of-state-in-Stopped : goal.shape_of-state-in-Stopped
-shape_of-state-in-Stopped c =  c.state-1.given ∙ c.loop-n.invariant.1
+shape_of-state-in-Stopped c = c.state-1.given ∙ c.loop-n.invariant.1
 
 pub shape_of-output-in-Stopped : goal.shape_of-output-in-Stopped
-shape_of-output-in-Stopped c =  c.output-1.given ∙ c.loop-n.invariant.2
+shape_of-output-in-Stopped c = c.output-1.given ∙ c.loop-n.invariant.2
 
 pub shape_of-kept-in-Stopped : goal.shape_of-kept-in-Stopped
-shape_of-kept-in-Stopped c =  c.kept-1.given ∙ c.loop-n.invariant.3
+shape_of-kept-in-Stopped c = c.kept-1.given ∙ c.loop-n.invariant.3
 
 pub returns-in-Stopped : goal.returns-in-Stopped
 returns-in-Stopped c =

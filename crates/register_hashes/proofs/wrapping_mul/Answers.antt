@@ -14,6 +14,8 @@ overflow_mul-low-2 c = record { fits = below 32 (omega arith) (omega arith) }
 
 pub returns : goal.returns
 returns c = let a = c.args.a in
-    let b = c.args.b in record { wraps = c.wrapping_add_u64.ensures.value
-    ∙ ap (λ x. (a % 4294967296 * (b % 4294967296) + x % 4294967296 * 4294967296) % 2 ^ 64) c.wrapping_add_u64-cross.ensures.value
-    ∙ product a b }
+    let b = c.args.b in record {
+      wraps = c.wrapping_add_u64.ensures.value
+          ∙ ap (λ x. (a % 4294967296 * (b % 4294967296) + x % 4294967296 * 4294967296) % 2 ^ 64) c.wrapping_add_u64-cross.ensures.value
+          ∙ product a b;
+    }

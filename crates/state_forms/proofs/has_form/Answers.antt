@@ -17,7 +17,7 @@ lent s = tables_of s.args.rows.now s.args.pos.now s.args.osp.now
 abbrev asked : Start → Plan
 asked s = plan_of s.args.plan.now
 
-year_is : (c : After-year_read) → 
+year_is : (c : After-year_read) →
     c.year_read.result ≡ is_year_read (tables_of c.args.rows.now c.args.pos.now c.args.osp.now) (plan_of c.args.plan.now).years (year_in c.args.state.now)
 year_is c =
     c.year_read.ensures
@@ -37,7 +37,7 @@ returns-then-kind-ne-YEAR c =
     sym (form_yearless (lent (goal.at.returns-then-kind-ne-YEAR c).Start) (asked (goal.at.returns-then-kind-ne-YEAR c).Start) c.args.state.now (sym c.kind.ensures ∙ c.if-kind-ne-SURVEY.false) (λ e. c.if-kind-ne-YEAR.true (c.kind-2.ensures ∙ e)))
 
 pub year_read-requires : goal.year_read-requires
-year_read-requires c =  record { right = c.requires.right; year_lt_term_values = omega (arith, c.number.ensures) }
+year_read-requires c = record { right = c.requires.right; year_lt_term_values = omega (arith, c.number.ensures) }
 
 pub returns-then-not-year_read : goal.returns-then-not-year_read
 returns-then-not-year_read c =

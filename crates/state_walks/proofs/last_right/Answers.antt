@@ -28,7 +28,7 @@ end_is : (r : After-level_range-range) → r.level_range-range.result.end.0 ≡ 
 end_is r = r.level_range-range.ensures.end_value ∙ ap (range_end ((tables_of r.args.rows.now r.args.pos.now r.args.osp.now))) (prefix_is r)
 
 pub returns-then-place-first : goal.returns-then-place-first
-returns-then-place-first c =  record { right_value = sym (before_start (lent (goal.at.returns-then-place-first c).Start) (selected (goal.at.returns-then-place-first c).Start) c.args.place.0 (omega (arith, first_is_lem (goal.at.returns-then-place-first c).After-level_range-range, c.if-place-first.true))); ends = end_is (goal.at.returns-then-place-first c).After-level_range-range }
+returns-then-place-first c = record { right_value = sym (before_start (lent (goal.at.returns-then-place-first c).Start) (selected (goal.at.returns-then-place-first c).Start) c.args.place.0 (omega (arith, first_is_lem (goal.at.returns-then-place-first c).After-level_range-range, c.if-place-first.true))); ends = end_is (goal.at.returns-then-place-first c).After-level_range-range }
 
 pub returns : goal.returns
-returns c =  record { right_value = from_start (lent (goal.at.returns c).Start) (selected (goal.at.returns c).Start) c.args.place.0 (omega (arith, first_is_lem (goal.at.returns c).After-level_range-range, c.if-place-first.false)) _ (end_is (goal.at.returns c).After-level_range-range); ends = end_is (goal.at.returns c).After-level_range-range }
+returns c = record { right_value = from_start (lent (goal.at.returns c).Start) (selected (goal.at.returns c).Start) c.args.place.0 (omega (arith, first_is_lem (goal.at.returns c).After-level_range-range, c.if-place-first.false)) _ (end_is (goal.at.returns c).After-level_range-range); ends = end_is (goal.at.returns c).After-level_range-range }

@@ -23,7 +23,7 @@ pub bounds-upper-level : goal.bounds-upper-level
 bounds-upper-level c = omega (arith, c.requires.inside)
 
 pub level_passes-tested-requires : goal.level_passes-tested-requires
-level_passes-tested-requires c =  record { right = c.requires.right; inside = omega (arith, c.requires.inside) }
+level_passes-tested-requires c = record { right = c.requires.right; inside = omega (arith, c.requires.inside) }
 
 pub returns-then-not-tested : goal.returns-then-not-tested
 returns-then-not-tested c = let upper = c.args.c.upper in

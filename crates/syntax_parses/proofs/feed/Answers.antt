@@ -32,8 +32,7 @@ shape_of-out-then-c-eq0 c = c.loop-at.invariant.3
 
 pub returns-then-c-eq0 : goal.returns-then-c-eq0
 returns-then-c-eq0 c =
-    let a = c.args in
-     (
+    let a = c.args in (
       c.loop-at.invariant.2,
       c.loop-at.invariant.3,
       tt,
@@ -91,8 +90,7 @@ returns-then-c-eq2 c =
 
 pub loop-at-preserved : goal.loop-at-preserved
 loop-at-preserved c =
-    let a = c.args in
-     (
+    let a = c.args in (
       omega arith,
       omega arith,
       omega arith,

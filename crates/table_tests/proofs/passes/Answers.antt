@@ -11,7 +11,7 @@ pub returns-then-orders-ne-ALL_ORDERS : goal.returns-then-orders-ne-ALL_ORDERS
 returns-then-orders-ne-ALL_ORDERS c = λ e. absurd_true e refl
 
 pub ends_right-requires : goal.ends_right-requires
-ends_right-requires c =  record { sized = c.requires.sized; nonzero = c.requires.nonzero; last_named = c.requires.last_named c.if-orders-ne-ALL_ORDERS.false }
+ends_right-requires c = record { sized = c.requires.sized; nonzero = c.requires.nonzero; last_named = c.requires.last_named c.if-orders-ne-ALL_ORDERS.false }
 
 pub returns : goal.returns
 returns c =

@@ -36,7 +36,7 @@ answer l kinds years h k y =
     rows_all l.args.rows.now l.loop-at.at h kinds years (sym k ∙ l.loop-at.invariant.2) (sym y ∙ l.loop-at.invariant.3)
 
 pub returns-then-not-kinds : goal.returns-then-not-kinds
-returns-then-not-kinds c =  sym (answer (goal.at.returns-then-not-kinds c).At-loop-at false c.loop-at.years (omega arith) (not-true _ c.if-not-kinds.true-raw) refl)
+returns-then-not-kinds c = sym (answer (goal.at.returns-then-not-kinds c).At-loop-at false c.loop-at.years (omega arith) (not-true _ c.if-not-kinds.true-raw) refl)
 
 pub returns-then-not-years : goal.returns-then-not-years
 returns-then-not-years c =

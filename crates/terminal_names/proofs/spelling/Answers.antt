@@ -7,7 +7,6 @@ use Rattle.terminal_names.proofs.spelling.Goals as goal
 pub returns : goal.returns
 returns c =
     let a = c.args in
-    
     let ws = a.tokens.now in
     let ps = a.points.now in
     c.front.ensures

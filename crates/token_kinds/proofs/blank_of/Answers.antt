@@ -28,7 +28,6 @@ pub returns-then-not-begins_variable : goal.returns-then-not-begins_variable
 returns-then-not-begins_variable c =
     let a = c.args in
     let p = a.points.now in
-    
     let q = eq-eqb (get_or p a.from past_end) 0x3A (sym c.point_at.ensures ∙ c.if-point_at-ne58.false) in
     let b : begins_variable (get_or p (a.from + 1) past_end) ≡ false = ap begins_variable (sym c.point_at-2.ensures)
     ∙ sym c.begins_variable.ensures ∙ not-true c.begins_variable.result c.if-not-begins_variable.true-raw in
@@ -54,7 +53,6 @@ pub returns : goal.returns
 returns c =
     let a = c.args in
     let p = a.points.now in
-    
     let q = eq-eqb (get_or p a.from past_end) 0x3A (sym c.point_at.ensures ∙ c.if-point_at-ne58.false) in
     let b : begins_variable (get_or p (a.from + 1) past_end) ≡ true = ap begins_variable (sym c.point_at-2.ensures)
     ∙ sym c.begins_variable.ensures ∙ not-false c.begins_variable.result c.if-not-begins_variable.false-raw in

@@ -47,7 +47,6 @@ pub returns : goal.returns
 returns c =
     let a = c.args in
     let p = a.points.now in
-    
     let n = ne_eqb c.run_length-n.result 0 c.if-n-eq0.false in
     let q = eq-eqb (get_or p (a.from + c.run_length-n.result) past_end) 0x2D (sym c.point_at.ensures ∙ c.if-point_at-ne45.false) in
     let cs = drop (a.from + c.run_length-n.result) p in

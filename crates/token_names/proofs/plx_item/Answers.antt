@@ -31,7 +31,6 @@ returns-then-not-is_hex_digit c =
 pub returns-then-not-is_hex_digit-2 : goal.returns-then-not-is_hex_digit-2
 returns-then-not-is_hex_digit-2 c =
     let a = c.args in
-    
     let t : is_hex_digit a.next ≡ true = sym c.is_hex_digit.ensures ∙ not-false c.is_hex_digit.result c.if-not-is_hex_digit.false-raw in
     let u : is_hex_digit a.second ≡ false = sym c.is_hex_digit-2.ensures ∙ not-true c.is_hex_digit-2.result c.if-not-is_hex_digit-2.true-raw in
     rw (c.if-c-ne37.false, t, u) refl
@@ -39,7 +38,6 @@ returns-then-not-is_hex_digit-2 c =
 pub returns : goal.returns
 returns c =
     let a = c.args in
-    
     let t : is_hex_digit a.next ≡ true = sym c.is_hex_digit.ensures ∙ not-false c.is_hex_digit.result c.if-not-is_hex_digit.false-raw in
     let u : is_hex_digit a.second ≡ true = sym c.is_hex_digit-2.ensures ∙ not-false c.is_hex_digit-2.result c.if-not-is_hex_digit-2.false-raw in
     rw (c.if-c-ne37.false, t, u) refl

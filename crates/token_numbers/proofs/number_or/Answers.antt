@@ -52,6 +52,5 @@ returns c =
     let p = a.points.now in
     let n = c.run_length-n.result in
     let t = eq-eqb (get_or p (a.from + n) past_end) 0x2E (sym c.point_at.ensures ∙ c.if-point_at-ne46.false) in
-    
     c.pointed_or.ensures
     ∙ sym (number_pointed p a.from a.other n c.run_length-n.ensures.0 t c.run_length-m.result c.exponent_length-2.result c.run_length-m.ensures.0 c.exponent_length-2.ensures.0)

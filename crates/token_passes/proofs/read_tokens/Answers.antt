@@ -15,8 +15,7 @@ use Rattle.token_passes.proofs.read_tokens.Goals as goal
 
 pub loop-at-init : goal.loop-at-init
 loop-at-init c =
-    let p = c.args.points.now in
-     (
+    let p = c.args.points.now in (
       c.skip_blanks-at.ensures.1,
       omega arith,
       refl,

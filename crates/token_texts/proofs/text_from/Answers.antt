@@ -16,13 +16,11 @@ text_step-step-requires c = (omega arith, c.requires.2)
 pub overflow_add-at : goal.overflow_add-at
 overflow_add-at c =
     let a = c.args in
-    
     omega (arith, text_going a.points.now a.long a.q c.loop-at.at (omega arith) c.text_step-step.result c.text_step-step.ensures c.in-Goes.n c.in-Goes.is)
 
 pub loop-at-smaller : goal.loop-at-smaller
 loop-at-smaller c =
     let a = c.args in
-    
     let i = text_going a.points.now a.long a.q c.loop-at.at (omega arith) c.text_step-step.result c.text_step-step.ensures c.in-Goes.n c.in-Goes.is in
     omega (arith, i.0, i.1)
 
@@ -30,7 +28,6 @@ pub loop-at-preserved : goal.loop-at-preserved
 loop-at-preserved c =
     let a = c.args in
     let at = c.loop-at.at in
-    
     let k = c.in-Goes.n in
     let i = text_going a.points.now a.long a.q at (omega arith) c.text_step-step.result c.text_step-step.ensures k c.in-Goes.is in
     let e = text_goes a.points.now a.long a.q at (omega arith) c.text_step-step.result c.text_step-step.ensures k c.in-Goes.is (at - a.first) in
@@ -47,7 +44,6 @@ pub returns-in-Ends : goal.returns-in-Ends
 returns-in-Ends c =
     let a = c.args in
     let at = c.loop-at.at in
-    
     let e = text_ends_lem a.points.now a.long a.q at (omega arith) c.text_step-step.result c.text_step-step.ensures c.in-Ends.ending c.in-Ends.is (at - a.first) in
     c.text_end.ensures ∙ sym (c.loop-at.invariant.2 ∙ e)
 

@@ -23,5 +23,8 @@ mark_repeats-requires c = let s = start (goal.at.mark_repeats-requires c).After-
 
 pub returns : goal.returns
 returns c = let s = start (goal.at.returns c).After-list-2-1 in
-    let up = s.args.upload.now in record { listed = listed up c.mark_kinds-right.last.1.0 c.mark_kinds-right.result c.mark_kinds-right.ensures.listed c.sort.last.1.1.0 c.sort.ensures; judged = judged up c.mark_kinds-right.last.1.0 c.mark_kinds-right.result c.mark_kinds-right.ensures.listed c.sort.last.1.1.0 c.sort.ensures _ _
-          (omega (arith, c.mark_kinds-right.kept.1, s.pre.0.judged)) c.mark_kinds-right.ensures.judged c.mark_repeats.ensures }
+    let up = s.args.upload.now in record {
+      listed = listed up c.mark_kinds-right.last.1.0 c.mark_kinds-right.result c.mark_kinds-right.ensures.listed c.sort.last.1.1.0 c.sort.ensures;
+      judged = judged up c.mark_kinds-right.last.1.0 c.mark_kinds-right.result c.mark_kinds-right.ensures.listed c.sort.last.1.1.0 c.sort.ensures _ _
+          (omega (arith, c.mark_kinds-right.kept.1, s.pre.0.judged)) c.mark_kinds-right.ensures.judged c.mark_repeats.ensures;
+    }

@@ -31,7 +31,7 @@ loop-place-init c =
     (omega arith, (λ h. absurd (omega arith)), refl, marked_one a.upload.now a.list.now a.fates.now)
 
 pub comes_before-requires : goal.comes_before-requires
-comes_before-requires c =  record { column_count_in_bounds = named (goal.at.comes_before-requires c).At-loop-place (c.loop-place.place - 1) (omega arith); column_count_in_bounds_2 = named (goal.at.comes_before-requires c).At-loop-place c.loop-place.place (omega arith) }
+comes_before-requires c = record { column_count_in_bounds = named (goal.at.comes_before-requires c).At-loop-place (c.loop-place.place - 1) (omega arith); column_count_in_bounds_2 = named (goal.at.comes_before-requires c).At-loop-place c.loop-place.place (omega arith) }
 
 pub loop-place-preserved-then-comes_before : goal.loop-place-preserved-then-comes_before
 loop-place-preserved-then-comes_before c =

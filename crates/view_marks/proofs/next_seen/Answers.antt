@@ -14,9 +14,15 @@ first_seen-requires c = let p = c.requires in record { rows_right = p.0; grant_v
 pub first_seen-requires-then-year-field : goal.first_seen-requires-then-year-field
 first_seen-requires-then-year-field c = let rows = c.args.rows.now in
     let row = c.args.row in
-    let p = c.requires in record { rows_right = p.0; grant_value = p.1.0; first_of_subject = first_next rows p.0 row p.1.1.0.0
-              (λ h. rw (ne_eqb (field_of rows (row - 1) year_column) (field_of rows row year_column)
-              (λ e. c.if-year-field.true (c.field-year.ensures ∙ e ∙ sym c.field.ensures)))); column_count_in_bounds = p.1.1.0.1; from_bound = zero-le }
+    let p = c.requires in record {
+      rows_right = p.0;
+      grant_value = p.1.0;
+      first_of_subject = first_next rows p.0 row p.1.1.0.0
+          (λ h. rw (ne_eqb (field_of rows (row - 1) year_column) (field_of rows row year_column)
+          (λ e. c.if-year-field.true (c.field-year.ensures ∙ e ∙ sym c.field.ensures))));
+      column_count_in_bounds = p.1.1.0.1;
+      from_bound = zero-le;
+    }
 
 pub returns-then-earlier-field : goal.returns-then-earlier-field
 returns-then-earlier-field c =
@@ -33,9 +39,15 @@ pub first_seen-requires-2 : goal.first_seen-requires-2
 first_seen-requires-2 c = let rows = c.args.rows.now in
     let row = c.args.row in
     let p = c.requires in
-    let e = sym c.field-year.ensures ∙ c.if-year-field.false ∙ c.field.ensures in record { rows_right = p.0; grant_value = p.1.0; first_of_subject = first_next rows p.0 row p.1.1.0.0
-              (λ h. rw (
-                eq-eqb (field_of rows (row - 1) year_column) (field_of rows row year_column) e,
-                ne_eqb (field_of rows (row - 1) subject_column) (field_of rows row subject_column)
-                    (λ d. c.if-earlier-field.false (c.field-earlier.ensures ∙ d ∙ sym c.field-2.ensures)),
-              )); column_count_in_bounds = p.1.1.0.1; from_bound = p.1.1.1.0 (omega arith) e }
+    let e = sym c.field-year.ensures ∙ c.if-year-field.false ∙ c.field.ensures in record {
+      rows_right = p.0;
+      grant_value = p.1.0;
+      first_of_subject = first_next rows p.0 row p.1.1.0.0
+          (λ h. rw (
+            eq-eqb (field_of rows (row - 1) year_column) (field_of rows row year_column) e,
+            ne_eqb (field_of rows (row - 1) subject_column) (field_of rows row subject_column)
+                (λ d. c.if-earlier-field.false (c.field-earlier.ensures ∙ d ∙ sym c.field-2.ensures)),
+          ));
+      column_count_in_bounds = p.1.1.0.1;
+      from_bound = p.1.1.1.0 (omega arith) e;
+    }

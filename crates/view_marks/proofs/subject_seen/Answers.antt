@@ -38,7 +38,7 @@ abbrev subject : Loop → ℕ
 subject l = field_of (rows l) (row l) subject_column
 
 -- whether the next row is of them
-asks : (c : After-is_of) → 
+asks : (c : After-is_of) →
     c.is_of.result ≡ is_of (c.args.rows.now) ((field_of (c.args.rows.now) (c.args.row) year_column)) ((field_of (c.args.rows.now) (c.args.row) subject_column)) c.loop-next.next
 asks c =
     c.is_of.ensures
@@ -69,17 +69,16 @@ pub bounds-flags-wide : goal.bounds-flags-wide
 bounds-flags-wide c = omega (arith, c.wide.ensures, c.requires.column_count_in_bounds)
 
 pub loop-next-preserved : goal.loop-next-preserved
-loop-next-preserved c =
-     (
-      omega arith,
-      omega arith,
-      c.either-seen.ensures
-          ∙ ap (λ b. b || eqb (get_or (flags (goal.at.loop-next-preserved c).At-loop-next) c.wide.result 0) 1) c.loop-next.invariant.2
-          ∙ ap (λ n. (granted (goal.at.loop-next-preserved c).At-loop-next || some_below (told (rows (goal.at.loop-next-preserved c).At-loop-next) (flags (goal.at.loop-next-preserved c).At-loop-next) (year (goal.at.loop-next-preserved c).At-loop-next) (subject (goal.at.loop-next-preserved c).At-loop-next)) c.loop-next.next)
-          || eqb (get_or (flags (goal.at.loop-next-preserved c).At-loop-next) n 0) 1)
-          c.wide.ensures
-          ∙ some_told_lem (rows (goal.at.loop-next-preserved c).At-loop-next) (flags (goal.at.loop-next-preserved c).At-loop-next) (granted (goal.at.loop-next-preserved c).At-loop-next) (year (goal.at.loop-next-preserved c).At-loop-next) (subject (goal.at.loop-next-preserved c).At-loop-next) c.loop-next.next (sym (asks (goal.at.loop-next-preserved c).After-is_of) ∙ not-false _ c.if-not-is_of.false-raw),
-    )
+loop-next-preserved c = (
+  omega arith,
+  omega arith,
+  c.either-seen.ensures
+      ∙ ap (λ b. b || eqb (get_or (flags (goal.at.loop-next-preserved c).At-loop-next) c.wide.result 0) 1) c.loop-next.invariant.2
+      ∙ ap (λ n. (granted (goal.at.loop-next-preserved c).At-loop-next || some_below (told (rows (goal.at.loop-next-preserved c).At-loop-next) (flags (goal.at.loop-next-preserved c).At-loop-next) (year (goal.at.loop-next-preserved c).At-loop-next) (subject (goal.at.loop-next-preserved c).At-loop-next)) c.loop-next.next)
+      || eqb (get_or (flags (goal.at.loop-next-preserved c).At-loop-next) n 0) 1)
+      c.wide.ensures
+      ∙ some_told_lem (rows (goal.at.loop-next-preserved c).At-loop-next) (flags (goal.at.loop-next-preserved c).At-loop-next) (granted (goal.at.loop-next-preserved c).At-loop-next) (year (goal.at.loop-next-preserved c).At-loop-next) (subject (goal.at.loop-next-preserved c).At-loop-next) c.loop-next.next (sym (asks (goal.at.loop-next-preserved c).After-is_of) ∙ not-false _ c.if-not-is_of.false-raw),
+)
 
 pub returns : goal.returns
 returns c =

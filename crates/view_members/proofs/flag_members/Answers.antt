@@ -57,16 +57,20 @@ year_is : (c : After-field-year) → c.field-year.result ≡ (field_of (c.args.r
 year_is c = c.field-year.ensures ∙ ap (λ r. field_of (c.args.rows.now) r year_column) c.own_row.ensures
 
 pub flag_year-requires : goal.flag_year-requires
-flag_year-requires c =  record { right = c.requires.right; grant_value = c.requires.grant_value; flagged_as = subst (λ y. FlaggedAs (of_earlier (rows (goal.at.flag_year-requires c).At-loop-place) y) (rows (goal.at.flag_year-requires c).At-loop-place) (grant (goal.at.flag_year-requires c).At-loop-place) (membership (goal.at.flag_year-requires c).At-loop-place) c.loop-place.flags) (sym (year_is (goal.at.flag_year-requires c).After-field-year))
-            (walked_before (tables (goal.at.flag_year-requires c).Start) c.requires.right (grant (goal.at.flag_year-requires c).At-loop-place) (membership (goal.at.flag_year-requires c).At-loop-place) c.loop-place.flags c.loop-place.place (there (goal.at.flag_year-requires c).In-loop-place) c.loop-place.invariant.2) }
+flag_year-requires c = record {
+  right = c.requires.right;
+  grant_value = c.requires.grant_value;
+  flagged_as = subst (λ y. FlaggedAs (of_earlier (rows (goal.at.flag_year-requires c).At-loop-place) y) (rows (goal.at.flag_year-requires c).At-loop-place) (grant (goal.at.flag_year-requires c).At-loop-place) (membership (goal.at.flag_year-requires c).At-loop-place) c.loop-place.flags) (sym (year_is (goal.at.flag_year-requires c).After-field-year))
+      (walked_before (tables (goal.at.flag_year-requires c).Start) c.requires.right (grant (goal.at.flag_year-requires c).At-loop-place) (membership (goal.at.flag_year-requires c).At-loop-place) c.loop-place.flags c.loop-place.place (there (goal.at.flag_year-requires c).In-loop-place) c.loop-place.invariant.2);
+}
 
 -- the prefix that the code asks for is that of the row's year
-asked : (c : After-field-year) → 
+asked : (c : After-field-year) →
     range_end (tables_of c.args.rows.now c.args.pos.now c.args.osp.now) (year_prefix Spo c.field-year.result) ≡ (range_end (tables_of c.args.rows.now c.args.pos.now c.args.osp.now) (year_prefix Spo ((field_of (c.args.rows.now) c.loop-place.place year_column))))
-asked c =  ap (λ y. range_end (tables_of c.args.rows.now c.args.pos.now c.args.osp.now) (year_prefix Spo y)) (year_is c)
+asked c = ap (λ y. range_end (tables_of c.args.rows.now c.args.pos.now c.args.osp.now) (year_prefix Spo y)) (year_is c)
 
 pub end_from-place-requires : goal.end_from-place-requires
-end_from-place-requires c =  record { right = c.requires.right; count_le_column_count = omega arith; from_bound = omega (arith, ahead (goal.at.end_from-place-requires c).In-loop-place, asked (goal.at.end_from-place-requires c).After-field-year) }
+end_from-place-requires c = record { right = c.requires.right; count_le_column_count = omega arith; from_bound = omega (arith, ahead (goal.at.end_from-place-requires c).In-loop-place, asked (goal.at.end_from-place-requires c).After-field-year) }
 
 pub loop-place-smaller : goal.loop-place-smaller
 loop-place-smaller c =

@@ -37,7 +37,7 @@ row l = row_at Pos (tables l.before.before.before.before.before.before.before.be
 most : (l : Loop) → range_end (tables l.before.before.before.before.before.before.before.before) (members_of (year l) (membership l)) ≤ row_count (tables l.before.before.before.before.before.before.before.before)
 most l = end_le_count (tables l.before.before.before.before.before.before.before.before) (members_of (year l) (membership l))
 
-inside : (c : In-loop-place) →  c.loop-place.place < range_end (tables_of c.args.rows.now c.args.pos.now c.args.osp.now) (members_of (c.args.year) (c.args.membership))
+inside : (c : In-loop-place) → c.loop-place.place < range_end (tables_of c.args.rows.now c.args.pos.now c.args.osp.now) (members_of (c.args.year) (c.args.membership))
 inside c = omega (arith, c.loop-place.invariant.3)
 
 there : (c : In-loop-place) → c.loop-place.place < row_count (tables_of c.args.rows.now c.args.pos.now c.args.osp.now)
@@ -47,7 +47,7 @@ long : (l : Loop) → row_count (tables l.before.before.before.before.before.bef
 long l = omega (arith, l.requires.flagged_as.long, l.loop-place.invariant.0)
 
 pub halved-start-requires : goal.halved-start-requires
-halved-start-requires c =  record { right = c.requires.right; count_le_column_count = omega arith }
+halved-start-requires c = record { right = c.requires.right; count_le_column_count = omega arith }
 
 pub end_from-end-requires : goal.end_from-end-requires
 end_from-end-requires c = let e = start_le_end (tables (goal.at.end_from-end-requires c).Start) (members_of c.args.year c.args.membership) in record { right = c.requires.right; count_le_column_count = omega arith; from_bound = omega (arith, c.halved-start.ensures) }
@@ -67,21 +67,24 @@ loop-place-init c =
     )
 
 pub row_at-row-requires : goal.row_at-row-requires
-row_at-row-requires c =  record { right = c.requires.right; place_bound = there c }
+row_at-row-requires c = record { right = c.requires.right; place_bound = there c }
 
 pub field-requires : goal.field-requires
 field-requires c = (c.row_at-row.ensures.column_count_in_bounds, omega arith)
 
 -- the object that is read
-object_is : (c : After-field) → 
+object_is : (c : After-field) →
     c.field.result ≡ field_of c.args.rows.now ((row_at Pos (tables_of c.args.rows.now c.args.pos.now c.args.osp.now) c.loop-place.place)) object_column
 object_is c =
     c.field.ensures ∙ ap (λ r. field_of c.args.rows.now r object_column) c.row_at-row.ensures.result_value
 
 pub seek-sought-requires : goal.seek-sought-requires
-seek-sought-requires c =  record { grant_value = c.requires.grant_value; from_bound = subst (λ w. c.loop-place.from ≤ first_from (grant (goal.at.seek-sought-requires c).At-loop-place) w) (sym (object_is c))
-          (sought_behind (tables (goal.at.seek-sought-requires c).Start) c.requires.right (grant (goal.at.seek-sought-requires c).At-loop-place) (year (goal.at.seek-sought-requires c).At-loop-place) (membership (goal.at.seek-sought-requires c).At-loop-place) c.loop-place.flags c.loop-place.place c.loop-place.from c.loop-place.invariant.4
-          c.loop-place.invariant.1 (inside (goal.at.seek-sought-requires c).In-loop-place) (there (goal.at.seek-sought-requires c).In-loop-place)) }
+seek-sought-requires c = record {
+  grant_value = c.requires.grant_value;
+  from_bound = subst (λ w. c.loop-place.from ≤ first_from (grant (goal.at.seek-sought-requires c).At-loop-place) w) (sym (object_is c))
+      (sought_behind (tables (goal.at.seek-sought-requires c).Start) c.requires.right (grant (goal.at.seek-sought-requires c).At-loop-place) (year (goal.at.seek-sought-requires c).At-loop-place) (membership (goal.at.seek-sought-requires c).At-loop-place) c.loop-place.flags c.loop-place.place c.loop-place.from c.loop-place.invariant.4
+      c.loop-place.invariant.1 (inside (goal.at.seek-sought-requires c).In-loop-place) (there (goal.at.seek-sought-requires c).In-loop-place));
+}
 
 -- where the flag is written
 written : (c : After-wide) → c.wide.result ≡ (row_at Pos (tables_of c.args.rows.now c.args.pos.now c.args.osp.now) c.loop-place.place)

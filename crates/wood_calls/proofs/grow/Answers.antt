@@ -42,12 +42,12 @@ few : (w : Asked) → w.wide-count.result * 2 ≤ most_rows
 few w = omega (arith, counted w, asked_few w.args.stems w.args.year (asked w))
 
 -- ---- past test 25
-has : (e : Else-not-has_room) →  let a = e.args in
+has : (e : Else-not-has_room) → let a = e.args in
     tables_room_for (e.wide-count.result * 2) (length a.rows.now) (length a.pos.now) (length a.osp.now) ≡ true
 has e = sym e.has_room.ensures ∙ not-false e.has_room.result e.if-not-has_room.false-raw
 
 pub returns-then-not-asked_right : goal.returns-then-not-asked_right
-returns-then-not-asked_right c = 
+returns-then-not-asked_right c =
     let shown = call_told grow_schema grow_is_right (lent (goal.at.returns-then-not-asked_right c).Start) (wrong_asked (lent (goal.at.returns-then-not-asked_right c).Start) (sym c.asked_right.ensures ∙ not-true c.asked_right.result c.if-not-asked_right.true-raw)) in
     record { osp_after = shown.0; number = shown.1 }
 
@@ -58,7 +58,7 @@ pub has_room-requires : goal.has_room-requires
 has_room-requires c = few c
 
 pub returns-then-not-has_room : goal.returns-then-not-has_room
-returns-then-not-has_room c = 
+returns-then-not-has_room c =
     let shown = call_told grow_schema grow_is_right (lent (goal.at.returns-then-not-has_room c).Start)
     (no_room (lent (goal.at.returns-then-not-has_room c).Start) (asked (goal.at.returns-then-not-has_room c).After-wide-count) (count (goal.at.returns-then-not-has_room c).After-wide-count) (counted (goal.at.returns-then-not-has_room c).After-wide-count)
     (sym c.has_room.ensures ∙ not-true c.has_room.result c.if-not-has_room.true-raw)) in

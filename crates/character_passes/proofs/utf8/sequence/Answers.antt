@@ -14,7 +14,6 @@ sequence_rest-requires c = (omega arith, c.first_bits.ensures.1)
 pub returns-in-More : goal.returns-in-More
 returns-in-More c =
     let a = c.args in
-    
     c.sequence_rest.ensures
     ∙ ap (λ v. sequence_from (drop (a.at + 1) a.text.now) (spans_in c.in-More.r) v 0) c.first_bits.ensures.0
     ∙ sym (sequence_begins (get_or a.text.now a.at 0) (drop (a.at + 1) a.text.now) c.in-More.r (sym c.next-step.ensures ∙ c.in-More.is))

@@ -23,7 +23,6 @@ pub overflow_mul-point : goal.overflow_mul-point
 overflow_mul-point c =
     let a = c.args in
     let e = sym c.nothing_left.ensures ∙ not-true c.nothing_left.result c.loop-rest-test.true-raw in
-    
     let w = room_more a.text.now c.loop-rest.at c.loop-rest.rest c.loop-rest.point 0 e (omega arith) c.next-step.result c.next-step.ensures c.in-More.r c.in-More.is in
     omega (arith, w, bits_most c.in-More.r)
 
@@ -31,7 +30,6 @@ pub overflow_add-point : goal.overflow_add-point
 overflow_add-point c =
     let a = c.args in
     let e = sym c.nothing_left.ensures ∙ not-true c.nothing_left.result c.loop-rest-test.true-raw in
-    
     let w = room_more a.text.now c.loop-rest.at c.loop-rest.rest c.loop-rest.point 0 e (omega arith) c.next-step.result c.next-step.ensures c.in-More.r c.in-More.is in
     omega (arith, c.left_of.ensures.1, w, bits_most c.in-More.r)
 
@@ -39,7 +37,6 @@ pub loop-rest-preserved : goal.loop-rest-preserved
 loop-rest-preserved c =
     let a = c.args in
     let e = sym c.nothing_left.ensures ∙ not-true c.nothing_left.result c.loop-rest-test.true-raw in
-    
     let w = room_more a.text.now c.loop-rest.at c.loop-rest.rest c.loop-rest.point 0 e (omega arith) c.next-step.result c.next-step.ensures c.in-More.r c.in-More.is in
     let z : c.loop-rest.at - a.from + 1 ≡ c.loop-rest.at + 1 - a.from = omega arith in (
       omega arith,

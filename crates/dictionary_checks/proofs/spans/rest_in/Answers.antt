@@ -13,7 +13,7 @@ as_told : (s : Start) {r : Rest} → s.args.rest ≡ r
 as_told s e = ap (λ q. each_in_span (drop s.args.i s.args.bytes.now) (spans_in q)) e
 
 pub returns-in-Nothing : goal.returns-in-Nothing
-returns-in-Nothing c =  sym (as_told (goal.at.returns-in-Nothing c).Start c.in-Nothing.is ∙ spans_none (drop c.args.i c.args.bytes.now))
+returns-in-Nothing c = sym (as_told (goal.at.returns-in-Nothing c).Start c.in-Nothing.is ∙ spans_none (drop c.args.i c.args.bytes.now))
 
 pub returns-in-One : goal.returns-in-One
 returns-in-One c = c.one_in.ensures ∙ sym (as_told (goal.at.returns-in-One c).Start c.in-One.is)

@@ -56,13 +56,12 @@ returns-then-second-first c =
     (c.loop-i.invariant.1 ∙ (said (goal.at.returns-then-second-first c).After-eight_at-second).if_more (omega (arith, c.eight_at-first.ensures, c.eight_at-second.ensures, c.if-second-first.true)))
 
 pub loop-i-preserved : goal.loop-i-preserved
-loop-i-preserved c =
-     (
-      omega (arith, c.loop-i-test),
-      c.loop-i.invariant.1
-          ∙ eight_same (first (goal.at.loop-i-preserved c).After-eight_at-second) (second (goal.at.loop-i-preserved c).After-eight_at-second) c.loop-i.i (first_long (goal.at.loop-i-preserved c).After-eight_at-second) (second_long (goal.at.loop-i-preserved c).After-eight_at-second) (first_bytes (goal.at.loop-i-preserved c).After-eight_at-second) (second_bytes (goal.at.loop-i-preserved c).After-eight_at-second)
-          (omega (arith, c.eight_at-first.ensures, c.eight_at-second.ensures, c.if-first-second.false, c.if-second-first.false)),
-    )
+loop-i-preserved c = (
+  omega (arith, c.loop-i-test),
+  c.loop-i.invariant.1
+      ∙ eight_same (first (goal.at.loop-i-preserved c).After-eight_at-second) (second (goal.at.loop-i-preserved c).After-eight_at-second) c.loop-i.i (first_long (goal.at.loop-i-preserved c).After-eight_at-second) (second_long (goal.at.loop-i-preserved c).After-eight_at-second) (first_bytes (goal.at.loop-i-preserved c).After-eight_at-second) (second_bytes (goal.at.loop-i-preserved c).After-eight_at-second)
+      (omega (arith, c.eight_at-first.ensures, c.eight_at-second.ensures, c.if-first-second.false, c.if-second-first.false)),
+)
 
 pub returns : goal.returns
 returns c =

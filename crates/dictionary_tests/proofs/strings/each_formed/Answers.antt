@@ -14,7 +14,7 @@ pub loop-i-init : goal.loop-i-init
 loop-i-init c = (omega arith, refl)
 
 pub string-requires : goal.string-requires
-string-requires c =  record { ends_value = c.requires; n_in_bounds = omega arith }
+string-requires c = record { ends_value = c.requires; n_in_bounds = omega arith }
 
 pub returns-then-not-string_right : goal.returns-then-not-string_right
 returns-then-not-string_right c =

@@ -18,7 +18,7 @@ pub loop-i-init : goal.loop-i-init
 loop-i-init c = (omega arith, refl)
 
 pub string-requires : goal.string-requires
-string-requires c =  record { ends_value = c.requires.ends_value; n_in_bounds = omega arith }
+string-requires c = record { ends_value = c.requires.ends_value; n_in_bounds = omega arith }
 
 -- what the answer for a string says
 told : (c : After-iri_right)

@@ -17,7 +17,7 @@ pub loop-i-init : goal.loop-i-init
 loop-i-init c = (omega arith, refl)
 
 pub string-s-requires : goal.string-s-requires
-string-s-requires c =  record { ends_value = c.requires.ends_value; n_in_bounds = omega arith }
+string-s-requires c = record { ends_value = c.requires.ends_value; n_in_bounds = omega arith }
 
 pub returns-then-s-eq0 : goal.returns-then-s-eq0
 returns-then-s-eq0 c =

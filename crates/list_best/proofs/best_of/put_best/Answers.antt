@@ -15,12 +15,11 @@ slice_bounds-is_ahead-end c =
     sym (row_width_lem c.requires c.args.bound.now c.row_of-row.ensures)
 
 pub is_ahead-requires : goal.is_ahead-requires
-is_ahead-requires c =
-     (
-      c.requires.parts.among,
-      omega (arith, row_width_lem c.requires c.args.bound.now c.row_of-row.ensures),
-      threshold_width c.args.k c.args.vars.now c.args.keys.now c.args.threshold.now c.requires.sent,
-    )
+is_ahead-requires c = (
+  c.requires.parts.among,
+  omega (arith, row_width_lem c.requires c.args.bound.now c.row_of-row.ensures),
+  threshold_width c.args.k c.args.vars.now c.args.keys.now c.args.threshold.now c.requires.sent,
+)
 
 pub slice_bounds-row-end-then-is_ahead : goal.slice_bounds-row-end-then-is_ahead
 slice_bounds-row-end-then-is_ahead c = omega (arith, c.requires.parts.narrow)

@@ -9,13 +9,12 @@ use Rattle.list_group_merges.proofs.MergedGroups.{room_for, kept_whole, list_who
 use Rattle.list_group_merges.proofs.merge_backwards.merge_groups.Goals as goal
 
 pub union_of-requires : goal.union_of-requires
-union_of-requires c =
-     (
-      c.requires.0,
-      c.requires.1,
-      kept_whole c.args.g c.args.kept.now c.args.used c.args.list.now c.requires.1 c.requires.2,
-      list_whole c.args.g c.args.kept.now c.args.used c.args.list.now c.requires.1 c.requires.2,
-    )
+union_of-requires c = (
+  c.requires.0,
+  c.requires.1,
+  kept_whole c.args.g c.args.kept.now c.args.used c.args.list.now c.requires.1 c.requires.2,
+  list_whole c.args.g c.args.kept.now c.args.used c.args.list.now c.requires.1 c.requires.2,
+)
 
 pub returns-then-kept-w : goal.returns-then-kept-w
 returns-then-kept-w c =

@@ -36,12 +36,11 @@ overflow_sub-x-in-After c =
     c.in-After.is).0
 
 pub move_record-requires : goal.move_record-requires
-move_record-requires c =
-     (
-      (after_old c.args.g c.args.kept.now c.args.x c.args.list.now c.args.y c.args.to c.args.side c.requires.1
-          c.in-After.is).1,
-      c.requires.1.room,
-    )
+move_record-requires c = (
+  (after_old c.args.g c.args.kept.now c.args.x c.args.list.now c.args.y c.args.to c.args.side c.requires.1
+      c.in-After.is).1,
+  c.requires.1.room,
+)
 
 pub returns-in-Before : goal.returns-in-Before
 returns-in-Before c =

@@ -12,7 +12,6 @@ pub returns : goal.returns
 returns c =
     let x = c.args.value in
     let out = c.args.out.now in
-    
     let p : c.picked_by-at.result ≡ picked_by (hash_of x) = c.picked_by-at.ensures ∙ ap picked_by c.hash_of-hash.ensures in
     let r : c.rank_in.result ≡ rank_in (hash_of x) = c.rank_in.ensures ∙ ap rank_in c.hash_of-hash.ensures in
     let l : picked_by (hash_of x) < register_count = omega (arith, p) in

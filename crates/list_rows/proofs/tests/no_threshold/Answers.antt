@@ -27,4 +27,4 @@ no_registers_threshold v [] = refl
 no_registers_threshold v (w ∷ ws) = ne_eqb (length (w ∷ ws)) 0 (λ e. omega (arith, e))
 
 pub returns : goal.returns
-returns c =  record { rows = λ vs. no_rows_threshold vs c.args.threshold.now; groups = λ vs m. no_group_threshold vs m c.args.threshold.now; registers = λ v. no_registers_threshold v c.args.threshold.now }
+returns c = record { rows = λ vs. no_rows_threshold vs c.args.threshold.now; groups = λ vs m. no_group_threshold vs m c.args.threshold.now; registers = λ v. no_registers_threshold v c.args.threshold.now }

@@ -48,19 +48,16 @@ slice_bounds-rest-start c =
 pub slice_bounds-keys_form-count : goal.slice_bounds-keys_form-count
 slice_bounds-keys_form-count c =
     let p = words (goal.at.slice_bounds-keys_form-count c).After-ending_kind_of in
-    
     omega (arith, rows_room (take (length p - 1) (drop 1 p)) c.row_width-at.result c.row_width-at.ensures.0 (sym c.rows_form-in-Top.ensures ∙ c.if-rows_form-2.true))
 
 pub slice_bounds-keys_form-start : goal.slice_bounds-keys_form-start
 slice_bounds-keys_form-start c =
     let p = words (goal.at.slice_bounds-keys_form-start c).After-ending_kind_of in
-    
     omega (arith, rows_room (take (length p - 1) (drop 1 p)) c.row_width-at.result c.row_width-at.ensures.0 (sym c.rows_form-in-Top.ensures ∙ c.if-rows_form-2.true))
 
 pub returns-then-rows_form-2 : goal.returns-then-rows_form-2
 returns-then-rows_form-2 c =
     let p = words (goal.at.returns-then-rows_form-2 c).After-ending_kind_of in
-    
     rw (
       form_top p c.ending_kind_of.result (kind_is (goal.at.returns-then-rows_form-2 c).After-ending_kind_of) c.in-Top.is,
       ← c.rows_form-in-Top.ensures,
@@ -71,8 +68,6 @@ returns-then-rows_form-2 c =
 pub returns-then-p-wide : goal.returns-then-p-wide
 returns-then-p-wide c =
     let p = words (goal.at.returns-then-p-wide c).After-ending_kind_of in
-    
-    
     rw (
       form_group p c.ending_kind_of.result (kind_is (goal.at.returns-then-p-wide c).After-ending_kind_of) c.in-Group.is,
       ← c.first-in-Group.ensures,
@@ -102,7 +97,6 @@ returns-else-rows_form-2 c =
 pub returns-else-p-wide : goal.returns-else-p-wide
 returns-else-p-wide c =
     let p = words (goal.at.returns-else-p-wide c).After-ending_kind_of in
-    
     rw (
       form_group p c.ending_kind_of.result (kind_is (goal.at.returns-else-p-wide c).After-ending_kind_of) c.in-Group.is,
       ← c.first-in-Group.ensures,
@@ -120,4 +114,4 @@ returns-else-p-eq-REGISTERS_WORDS c =
     )
 
 pub returns-in-Invalid : goal.returns-in-Invalid
-returns-in-Invalid c =  sym (form_invalid (words (goal.at.returns-in-Invalid c).After-ending_kind_of) c.ending_kind_of.result (kind_is (goal.at.returns-in-Invalid c).After-ending_kind_of) c.in-Invalid.is)
+returns-in-Invalid c = sym (form_invalid (words (goal.at.returns-in-Invalid c).After-ending_kind_of) c.ending_kind_of.result (kind_is (goal.at.returns-in-Invalid c).After-ending_kind_of) c.in-Invalid.is)

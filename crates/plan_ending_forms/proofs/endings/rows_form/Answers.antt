@@ -12,7 +12,6 @@ returns-then-n-eq0 c =
 pub returns-then-end-p : goal.returns-then-end-p
 returns-then-end-p c =
     let args = c.args in
-    
     c.all_wanted.ensures ∙ sym (rows_are args.p.now c.row_width-n.result c.row_width-n.ensures.0 c.if-n-eq0.false c.if-end-p.true)
 
 pub returns : goal.returns

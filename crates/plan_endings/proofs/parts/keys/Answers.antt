@@ -12,7 +12,6 @@ use Rattle.plan_endings.proofs.parts.keys.Goals as goal
 pub slice_bounds-after_rows-count : goal.slice_bounds-after_rows-count
 slice_bounds-after_rows-count c =
     let e = c.args.e.now in
-    
     let pre = c.requires in
     omega (
       arith,
@@ -23,7 +22,6 @@ slice_bounds-after_rows-count c =
 pub slice_bounds-after_rows-start : goal.slice_bounds-after_rows-start
 slice_bounds-after_rows-start c =
     let e = c.args.e.now in
-    
     let pre = c.requires in
     omega (
       arith,
@@ -34,37 +32,31 @@ slice_bounds-after_rows-start c =
 pub after_rows-requires : goal.after_rows-requires
 after_rows-requires c =
     let e = c.args.e.now in
-    
     let pre = c.requires in
     rows_next e c.ending_kind_of.result (c.ending_kind_of.ensures ∙ ap ending_kind_of c.first.ensures) pre c.in-Top.is
 
 pub returns-in-Top : goal.returns-in-Top
 returns-in-Top c =
     let e = c.args.e.now in
-    
     c.after_rows.ensures ∙ sym (ap keys_in (ending_top e c.ending_kind_of.result (c.ending_kind_of.ensures ∙ ap ending_kind_of c.first.ensures) c.in-Top.is))
 
 pub returns-in-Rows : goal.returns-in-Rows
 returns-in-Rows c =
     let e = c.args.e.now in
-    
     sym (ap keys_in (ending_rows e c.ending_kind_of.result (c.ending_kind_of.ensures ∙ ap ending_kind_of c.first.ensures) c.in-Rows.is))
 
 pub returns-in-Group : goal.returns-in-Group
 returns-in-Group c =
     let e = c.args.e.now in
-    
     sym (ap keys_in (ending_group e c.ending_kind_of.result (c.ending_kind_of.ensures ∙ ap ending_kind_of c.first.ensures) c.in-Group.is (low (get_or e 0 0)) refl))
 
 pub returns-in-Registers : goal.returns-in-Registers
 returns-in-Registers c =
     let e = c.args.e.now in
-    
     sym (ap keys_in (ending_registers e c.ending_kind_of.result (c.ending_kind_of.ensures ∙ ap ending_kind_of c.first.ensures) c.in-Registers.is))
 
 pub returns-in-Invalid : goal.returns-in-Invalid
 returns-in-Invalid c =
     let e = c.args.e.now in
-    
     let pre = c.requires in
     absurd (not_invalid e c.ending_kind_of.result (c.ending_kind_of.ensures ∙ ap ending_kind_of c.first.ensures) pre c.in-Invalid.is)

@@ -13,7 +13,6 @@ pub bounds-e-at : goal.bounds-e-at
 bounds-e-at c =
     let e = c.args.e.now in
     let pre = c.requires in
-    
     omega (
       arith,
       group_room e (ending_kind_of (get_or e 0 0)) refl pre.0 (sym (last_in_lem e pre.0) ∙ pre.1) c.wide-at.result
@@ -24,6 +23,5 @@ pub returns : goal.returns
 returns c =
     let e = c.args.e.now in
     let pre = c.requires in
-    
     sym (ap measured_in (ending_group e (ending_kind_of (get_or e 0 0)) refl (sym (last_in_lem e pre.0) ∙ pre.1) c.wide-at.result
     (c.wide-at.ensures ∙ c.low.ensures ∙ ap low c.first.ensures)))

@@ -5,7 +5,7 @@ use Rattle.plans.proofs.heads.years_in.Goals as goal
 
 pub returns-then-plan-eq0 : goal.returns-then-plan-eq0
 returns-then-plan-eq0 c =
-     sym (years_none c.args.plan.now c.if-plan-eq0.true)
+    sym (years_none c.args.plan.now c.if-plan-eq0.true)
 
 pub returns-then-kind-ne-YEAR : goal.returns-then-kind-ne-YEAR
 returns-then-kind-ne-YEAR c =

@@ -13,7 +13,7 @@ abbrev lent : Start → Survey
 lent s = survey_of s.args.rows.now s.args.pos.now s.args.osp.now s.args.survey
 
 pub returns-then-early-ne-ACCEPTED : goal.returns-then-early-ne-ACCEPTED
-returns-then-early-ne-ACCEPTED c = 
+returns-then-early-ne-ACCEPTED c =
     let shown = r.early_refused (lent (goal.at.returns-then-early-ne-ACCEPTED c).Start) c.args.plan.now c.args.state.now c.check-early.result c.check-early.ensures c.if-early-ne-ACCEPTED.true in
     record { value = shown.0; number = shown.1 }
 

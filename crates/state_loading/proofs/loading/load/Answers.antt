@@ -29,7 +29,7 @@ shape : (c : After-shared_slice_known-6-1) → shape_right (lent c.before.before
 shape c = sym c.has_form.ensures ∙ not-false _ c.if-not-has_form.false-raw
 
 -- the word of their year
-word_is : (c : After-number-year) → 
+word_is : (c : After-number-year) →
     c.number-year.result.0 ≡ number (year_in (c.args.state.now))
 word_is c = omega (arith, c.number-year.ensures, c.number.ensures)
 
@@ -46,18 +46,18 @@ returns-then-not-of_survey c = let differs = sym c.of_survey.ensures ∙ not-tru
 
 pub bounds-state-1 : goal.bounds-state-1
 bounds-state-1 c =
-     omega (arith, two_words_lem (lent (goal.at.bounds-state-1 c).Start) (asked (goal.at.bounds-state-1 c).Start) (words (goal.at.bounds-state-1 c).Start) (shape (goal.at.bounds-state-1 c).After-shared_slice_known-6-1))
+    omega (arith, two_words_lem (lent (goal.at.bounds-state-1 c).Start) (asked (goal.at.bounds-state-1 c).Start) (words (goal.at.bounds-state-1 c).Start) (shape (goal.at.bounds-state-1 c).After-shared_slice_known-6-1))
 
 pub slice_bounds-load_behind-count : goal.slice_bounds-load_behind-count
 slice_bounds-load_behind-count c =
-     omega (arith, two_words_lem (lent (goal.at.slice_bounds-load_behind-count c).Start) (asked (goal.at.slice_bounds-load_behind-count c).Start) (words (goal.at.slice_bounds-load_behind-count c).Start) (shape (goal.at.slice_bounds-load_behind-count c).After-shared_slice_known-6-1))
+    omega (arith, two_words_lem (lent (goal.at.slice_bounds-load_behind-count c).Start) (asked (goal.at.slice_bounds-load_behind-count c).Start) (words (goal.at.slice_bounds-load_behind-count c).Start) (shape (goal.at.slice_bounds-load_behind-count c).After-shared_slice_known-6-1))
 
 pub slice_bounds-load_behind-start : goal.slice_bounds-load_behind-start
 slice_bounds-load_behind-start c =
-     omega (arith, two_words_lem (lent (goal.at.slice_bounds-load_behind-start c).Start) (asked (goal.at.slice_bounds-load_behind-start c).Start) (words (goal.at.slice_bounds-load_behind-start c).Start) (shape (goal.at.slice_bounds-load_behind-start c).After-shared_slice_known-6-1))
+    omega (arith, two_words_lem (lent (goal.at.slice_bounds-load_behind-start c).Start) (asked (goal.at.slice_bounds-load_behind-start c).Start) (words (goal.at.slice_bounds-load_behind-start c).Start) (shape (goal.at.slice_bounds-load_behind-start c).After-shared_slice_known-6-1))
 
 pub load_behind-requires : goal.load_behind-requires
-load_behind-requires c =  record { right = c.requires.right; plan_value = c.requires.plan_value; state_value = ap (shape_behind (asked (goal.at.load_behind-requires c).Start)) (rest_of (words (goal.at.load_behind-requires c).Start) 2) ∙ behind_right (lent (goal.at.load_behind-requires c).Start) (asked (goal.at.load_behind-requires c).Start) (words (goal.at.load_behind-requires c).Start) (shape (goal.at.load_behind-requires c).After-shared_slice_known-6-1) }
+load_behind-requires c = record { right = c.requires.right; plan_value = c.requires.plan_value; state_value = ap (shape_behind (asked (goal.at.load_behind-requires c).Start)) (rest_of (words (goal.at.load_behind-requires c).Start) 2) ∙ behind_right (lent (goal.at.load_behind-requires c).Start) (asked (goal.at.load_behind-requires c).Start) (words (goal.at.load_behind-requires c).Start) (shape (goal.at.load_behind-requires c).After-shared_slice_known-6-1) }
 
 pub returns : goal.returns
 returns c = let e = c.load_behind.ensures in
@@ -65,10 +65,14 @@ returns c = let e = c.load_behind.ensures in
     let behind = rest_of (words (goal.at.returns c).Start) 2 in
     let same = sym c.of_survey.ensures ∙ not-false _ c.if-not-of_survey.false-raw in
     let year = word_is (goal.at.returns c).After-number-year in
-    let from = c.load_behind.result.from in record { refused_value = e.0
+    let from = c.load_behind.result.from in record {
+      refused_value = e.0
           ∙ ap₂ (λ w ws. places_refusal (section_of c.args.rows.now c.args.pos.now c.args.osp.now w) (asked (goal.at.returns c).Start) ws) year behind
-          ∙ sym (refused_behind (lent (goal.at.returns c).Start) c.args.survey (asked (goal.at.returns c).Start) (words (goal.at.returns c).Start) (shape (goal.at.returns c).After-shared_slice_known-6-1) same); from_value = λ z. let h = e.1.0 z in (
-          loaded_state (lent (goal.at.returns c).Start) c.args.plan.now (words (goal.at.returns c).Start) (shape (goal.at.returns c).After-shared_slice_known-6-1) word year from _ h.1 (h.0 ∙ ap position_in behind),
-          loaded_held (lent (goal.at.returns c).Start) c.args.plan.now (words (goal.at.returns c).Start) (shape (goal.at.returns c).After-shared_slice_known-6-1) word year from _ h.1,
-        ); ends = λ z. loaded_ends (lent (goal.at.returns c).Start) c.args.plan.now (words (goal.at.returns c).Start) (shape (goal.at.returns c).After-shared_slice_known-6-1) word year from _ (e.1.0 z).1
-            (current_branch c.args.plan.now from).terms (e.1.1 z) }
+          ∙ sym (refused_behind (lent (goal.at.returns c).Start) c.args.survey (asked (goal.at.returns c).Start) (words (goal.at.returns c).Start) (shape (goal.at.returns c).After-shared_slice_known-6-1) same);
+      from_value = λ z. let h = e.1.0 z in (
+        loaded_state (lent (goal.at.returns c).Start) c.args.plan.now (words (goal.at.returns c).Start) (shape (goal.at.returns c).After-shared_slice_known-6-1) word year from _ h.1 (h.0 ∙ ap position_in behind),
+        loaded_held (lent (goal.at.returns c).Start) c.args.plan.now (words (goal.at.returns c).Start) (shape (goal.at.returns c).After-shared_slice_known-6-1) word year from _ h.1,
+      );
+      ends = λ z. loaded_ends (lent (goal.at.returns c).Start) c.args.plan.now (words (goal.at.returns c).Start) (shape (goal.at.returns c).After-shared_slice_known-6-1) word year from _ (e.1.0 z).1
+          (current_branch c.args.plan.now from).terms (e.1.1 z);
+    }

@@ -29,7 +29,7 @@ shape : (c : After-shared_slice_known-6-1) → shape_behind (asked c.before.befo
 shape c = c.requires.state_value
 
 -- the terms of the branch that the first word names
-terms_are : (c : After-terms-terms) → 
+terms_are : (c : After-terms-terms) →
     c.terms-terms.result.now ≡ (branch_at (plan_of c.args.plan.now) (branch_of (get_or (c.args.state.now) 0 0))).terms
 terms_are c =
     c.terms-terms.ensures
@@ -70,15 +70,23 @@ returns-then-walk c = let passes = c.if-walk.true in
     let plan = c.args.plan.now in
     let from = c.cursor_in-from.result in
     let g = c.branch_part-part.ensures in
-    let k = c.places_right-walk.ensures.ends passes in record { refused_value = sym (loads plan ws c.requires.plan_value (shape (goal.at.returns-then-walk c).After-shared_slice_known-6-1) from e.0 e.2 _ (terms_are (goal.at.returns-then-walk c).After-terms-terms) (lent (goal.at.returns-then-walk c).Start) _ c.places_right-walk.ensures.right_value passes); from_value = λ z. (
-          e.0,
-          loads_held plan ws c.requires.plan_value (shape (goal.at.returns-then-walk c).After-shared_slice_known-6-1) from e.0 e.2 _ (terms_are (goal.at.returns-then-walk c).After-terms-terms) (lent (goal.at.returns-then-walk c).Start) _ c.places_right-walk.ensures.right_value
-              passes (begins plan c.branch_part-part.result.now c.branch.result _ (branch_start c.branch.result plan) from.at g.0 g.1
-              c.branch.ensures e.1) e.3 _ (c.places_right-walk.ensures.bound_after passes) _ c.level_of.ensures _ _,
-        ); ends = λ z. loads_ends plan ws c.requires.plan_value (shape (goal.at.returns-then-walk c).After-shared_slice_known-6-1) from e.0 e.2 _ (terms_are (goal.at.returns-then-walk c).After-terms-terms) (lent (goal.at.returns-then-walk c).Start) _ (c.places_right-walk.ensures.bound_after passes)
-            c.level_of.result _ _ k.0 k.1 k.2 }
+    let k = c.places_right-walk.ensures.ends passes in record {
+      refused_value = sym (loads plan ws c.requires.plan_value (shape (goal.at.returns-then-walk c).After-shared_slice_known-6-1) from e.0 e.2 _ (terms_are (goal.at.returns-then-walk c).After-terms-terms) (lent (goal.at.returns-then-walk c).Start) _ c.places_right-walk.ensures.right_value passes);
+      from_value = λ z. (
+        e.0,
+        loads_held plan ws c.requires.plan_value (shape (goal.at.returns-then-walk c).After-shared_slice_known-6-1) from e.0 e.2 _ (terms_are (goal.at.returns-then-walk c).After-terms-terms) (lent (goal.at.returns-then-walk c).Start) _ c.places_right-walk.ensures.right_value
+            passes (begins plan c.branch_part-part.result.now c.branch.result _ (branch_start c.branch.result plan) from.at g.0 g.1
+            c.branch.ensures e.1) e.3 _ (c.places_right-walk.ensures.bound_after passes) _ c.level_of.ensures _ _,
+      );
+      ends = λ z. loads_ends plan ws c.requires.plan_value (shape (goal.at.returns-then-walk c).After-shared_slice_known-6-1) from e.0 e.2 _ (terms_are (goal.at.returns-then-walk c).After-terms-terms) (lent (goal.at.returns-then-walk c).Start) _ (c.places_right-walk.ensures.bound_after passes)
+          c.level_of.result _ _ k.0 k.1 k.2;
+    }
 
 pub returns : goal.returns
 returns c = let e = c.cursor_in-from.ensures in
-    let n = c.refused.ensures in record { refused_value = n ∙ sym (loads_not c.args.plan.now (words (goal.at.returns c).Start) c.requires.plan_value (shape (goal.at.returns c).After-shared_slice_known-6-1) c.cursor_in-from.result e.0 e.2 _
-          (terms_are (goal.at.returns c).After-terms-terms) (lent (goal.at.returns c).Start) _ c.places_right-walk.ensures.right_value c.if-walk.false); from_value = λ z. absurd (omega (arith, z, n)); ends = λ z. absurd (omega (arith, z, n)) }
+    let n = c.refused.ensures in record {
+      refused_value = n ∙ sym (loads_not c.args.plan.now (words (goal.at.returns c).Start) c.requires.plan_value (shape (goal.at.returns c).After-shared_slice_known-6-1) c.cursor_in-from.result e.0 e.2 _
+          (terms_are (goal.at.returns c).After-terms-terms) (lent (goal.at.returns c).Start) _ c.places_right-walk.ensures.right_value c.if-walk.false);
+      from_value = λ z. absurd (omega (arith, z, n));
+      ends = λ z. absurd (omega (arith, z, n));
+    }

@@ -14,13 +14,13 @@ abbrev lent : Start → Survey
 lent s = survey_of s.args.rows.now s.args.pos.now s.args.osp.now s.args.survey
 
 pub returns-then-number-ne-ACCEPTED : goal.returns-then-number-ne-ACCEPTED
-returns-then-number-ne-ACCEPTED c = 
+returns-then-number-ne-ACCEPTED c =
     let shown = call_told open_schema open_is_right _
     (sym (open_refused (lent (goal.at.returns-then-number-ne-ACCEPTED c).Start) c.args.plan.now c.args.state.now c.check-number.result c.check-number.ensures c.if-number-ne-ACCEPTED.true)) in
     record { state_after = shown.0; number = shown.1 }
 
 pub returns-then-own-ne-ACCEPTED : goal.returns-then-own-ne-ACCEPTED
-returns-then-own-ne-ACCEPTED c = 
+returns-then-own-ne-ACCEPTED c =
     let shown = call_told open_schema open_is_right _
     (sym (own_refused (lent (goal.at.returns-then-own-ne-ACCEPTED c).Start) c.args.plan.now c.args.state.now (sym c.check-number.ensures ∙ c.if-number-ne-ACCEPTED.false) c.start-own.result c.start-own.ensures
     c.if-own-ne-ACCEPTED.true)) in

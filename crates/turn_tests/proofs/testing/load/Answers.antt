@@ -13,8 +13,12 @@ use Rattle.turn_tests.proofs.testing.load.Goals as goal
 pub returns-then-given-state : goal.returns-then-given-state
 returns-then-given-state c = let t = tables_of c.args.rows.now c.args.pos.now c.args.osp.now in
     let q = plan_of c.args.plan.now in
-    let ws = take c.args.given c.args.state.now in record { refused_value = c.refused.ensures ∙ not_given c.args.given (length c.args.state.now) (shape_right t q ws) (survey_right c.args.survey ws)
-          (places_right t q ws) (threshold_right q.ending c.args.threshold.now) c.if-given-state.true; from_value = λ z. absurd (omega arith); ends = λ z. absurd (omega arith) }
+    let ws = take c.args.given c.args.state.now in record {
+      refused_value = c.refused.ensures ∙ not_given c.args.given (length c.args.state.now) (shape_right t q ws) (survey_right c.args.survey ws)
+          (places_right t q ws) (threshold_right q.ending c.args.threshold.now) c.if-given-state.true;
+      from_value = λ z. absurd (omega arith);
+      ends = λ z. absurd (omega arith);
+    }
 
 pub slice_bounds-load-end : goal.slice_bounds-load-end
 slice_bounds-load-end c =
@@ -46,7 +50,11 @@ returns-then-threshold_right c = let t = tables_of c.args.rows.now c.args.pos.no
 pub returns : goal.returns
 returns c = let t = tables_of c.args.rows.now c.args.pos.now c.args.osp.now in
     let q = plan_of c.args.plan.now in
-    let ws = take c.args.given c.args.state.now in record { refused_value = c.refused-2.ensures ∙ threshold_fails_lem c.args.given (length c.args.state.now) (shape_right t q ws) (survey_right c.args.survey ws)
+    let ws = take c.args.given c.args.state.now in record {
+      refused_value = c.refused-2.ensures ∙ threshold_fails_lem c.args.given (length c.args.state.now) (shape_right t q ws) (survey_right c.args.survey ws)
           (places_right t q ws) (threshold_right q.ending c.args.threshold.now)
           c.if-given-state.false _ c.load-loaded.ensures.refused_value c.if-loaded-ne-ACCEPTED.false
-          c.threshold_right.result (rw c.ending_part.ensures.1 at c.threshold_right.ensures) c.if-threshold_right.false; from_value = λ z. absurd (omega arith); ends = λ z. absurd (omega arith) }
+          c.threshold_right.result (rw c.ending_part.ensures.1 at c.threshold_right.ensures) c.if-threshold_right.false;
+      from_value = λ z. absurd (omega arith);
+      ends = λ z. absurd (omega arith);
+    }

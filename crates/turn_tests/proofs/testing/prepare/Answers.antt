@@ -16,8 +16,12 @@ ending_part-requires c =
 
 pub returns-then-size-ne-ACCEPTED : goal.returns-then-size-ne-ACCEPTED
 returns-then-size-ne-ACCEPTED c = let i = turn_input c.args.rows.now c.args.pos.now c.args.osp.now c.args.survey c.args.plan.now c.args.state.now
-    c.args.given c.args.quantum c.args.threshold.now c.args.output.now in record { refused_value = c.refused-then-size-ne-ACCEPTED.ensures ∙ size_fails i (sym c.check-number.ensures ∙ c.if-number-ne-ACCEPTED.false) (ending_at c.ending_part.result.now)
-          c.ending_part.ensures.1 c.sizes-size.result c.sizes-size.ensures c.if-size-ne-ACCEPTED.true; from_value = λ h. absurd (c.if-size-ne-ACCEPTED.true (sym c.refused-then-size-ne-ACCEPTED.ensures ∙ h)); ends = λ h. absurd (c.if-size-ne-ACCEPTED.true (sym c.refused-then-size-ne-ACCEPTED.ensures ∙ h)) }
+    c.args.given c.args.quantum c.args.threshold.now c.args.output.now in record {
+      refused_value = c.refused-then-size-ne-ACCEPTED.ensures ∙ size_fails i (sym c.check-number.ensures ∙ c.if-number-ne-ACCEPTED.false) (ending_at c.ending_part.result.now)
+          c.ending_part.ensures.1 c.sizes-size.result c.sizes-size.ensures c.if-size-ne-ACCEPTED.true;
+      from_value = λ h. absurd (c.if-size-ne-ACCEPTED.true (sym c.refused-then-size-ne-ACCEPTED.ensures ∙ h));
+      ends = λ h. absurd (c.if-size-ne-ACCEPTED.true (sym c.refused-then-size-ne-ACCEPTED.ensures ∙ h));
+    }
 
 pub load-requires : goal.load-requires
 load-requires c = let z = sym c.check-number.ensures ∙ c.if-number-ne-ACCEPTED.false in

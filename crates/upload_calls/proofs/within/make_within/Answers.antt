@@ -47,7 +47,7 @@ dropped : (k : Counted) → upload_count (upload k.before.before.before.before.b
 dropped k = dropped_is (upload k.before.before.before.before.before.before.before.before.before.before.before.before.before.before.before.before.before.before.before) k.count_kept-kept.result (kept_is k)
 
 pub judge-right-requires : goal.judge-right-requires
-judge-right-requires c =  record { fits = record { few = few (goal.at.judge-right-requires c).Start; listed = omega (arith, few (goal.at.judge-right-requires c).Start, c.requires.list_len.0); judged = omega (arith, few (goal.at.judge-right-requires c).Start, c.requires.list_len.1) }; list_in_bounds = omega (arith, c.requires.list_len.0, c.requires.list_len.2) }
+judge-right-requires c = record { fits = record { few = few (goal.at.judge-right-requires c).Start; listed = omega (arith, few (goal.at.judge-right-requires c).Start, c.requires.list_len.0); judged = omega (arith, few (goal.at.judge-right-requires c).Start, c.requires.list_len.1) }; list_in_bounds = omega (arith, c.requires.list_len.0, c.requires.list_len.2) }
 
 pub count_kept-kept-requires : goal.count_kept-kept-requires
 count_kept-kept-requires c =
@@ -67,12 +67,12 @@ returns-then-not-has_room c =
     (sym c.has_room.ensures ∙ not-true c.has_room.result c.if-not-has_room.true-raw)
 
 -- ---- where there is room
-has : (c : Else-not-has_room) →  let a = c.args in
+has : (c : Else-not-has_room) → let a = c.args in
     make_room_for c.count_kept-kept.result (upload_count (c.args.upload.now) - c.count_kept-kept.result)
     (length a.rows.now) (length a.pos.now) (length a.osp.now) (length a.report.now) ≡ true
 has c = sym c.has_room.ensures ∙ not-false c.has_room.result c.if-not-has_room.false-raw
 
-fits : (c : Else-not-has_room) →  let a = c.args in
+fits : (c : Else-not-has_room) → let a = c.args in
     MakeRoomParts c.count_kept-kept.result (upload_count (c.args.upload.now) - c.count_kept-kept.result)
     (length a.rows.now) (length a.pos.now) (length a.osp.now) (length a.report.now)
 fits c = room_parts _ _ _ _ _ _ (has c)
@@ -82,16 +82,20 @@ slice_bounds-write_tables-end-2 c =
     sym (length-take-le c.judge-right.result c.judge-right.last.1.0 c.judge-right.ensures.listed.fits)
 
 pub write_tables-end-requires : goal.write_tables-end-requires
-write_tables-end-requires c = let f = fits (goal.at.write_tables-end-requires c).Else-not-has_room in record { ready_to_write = record {
-        few = few (goal.at.write_tables-end-requires c).Start;
-        listed = c.judge-right.ensures.listed.front;
-        long = omega (arith, few (goal.at.write_tables-end-requires c).Start, c.requires.list_len.1, c.judge-right.kept.1);
-        judged = fates_right (goal.at.write_tables-end-requires c).After-count_kept-kept;
-        counted = kept_is (goal.at.write_tables-end-requires c).After-count_kept-kept;
-      }; column_count_in_bounds = (f.for_rows, f.for_pos, f.for_osp); most_rows_in_bounds = omega (arith, c.requires.list_len.2, c.judge-right.kept.1) }
+write_tables-end-requires c = let f = fits (goal.at.write_tables-end-requires c).Else-not-has_room in record {
+  ready_to_write = record {
+    few = few (goal.at.write_tables-end-requires c).Start;
+    listed = c.judge-right.ensures.listed.front;
+    long = omega (arith, few (goal.at.write_tables-end-requires c).Start, c.requires.list_len.1, c.judge-right.kept.1);
+    judged = fates_right (goal.at.write_tables-end-requires c).After-count_kept-kept;
+    counted = kept_is (goal.at.write_tables-end-requires c).After-count_kept-kept;
+  };
+  column_count_in_bounds = (f.for_rows, f.for_pos, f.for_osp);
+  most_rows_in_bounds = omega (arith, c.requires.list_len.2, c.judge-right.kept.1);
+}
 
 pub write_report-told-requires : goal.write_report-told-requires
-write_report-told-requires c =  record { count_in_bounds = (omega (arith, few (goal.at.write_report-told-requires c).Start, c.requires.list_len.1, c.judge-right.kept.1), omega (arith, few (goal.at.write_report-told-requires c).Start)); count_in_bounds_2 = omega (arith, ap length (report_words_lem (upload (goal.at.write_report-told-requires c).Start) (fates (goal.at.write_report-told-requires c).After-count_kept-kept) (fates_right (goal.at.write_report-told-requires c).After-count_kept-kept)), report_length (upload (goal.at.write_report-told-requires c).Start), dropped (goal.at.write_report-told-requires c).After-count_kept-kept, (fits (goal.at.write_report-told-requires c).Else-not-has_room).for_report) }
+write_report-told-requires c = record { count_in_bounds = (omega (arith, few (goal.at.write_report-told-requires c).Start, c.requires.list_len.1, c.judge-right.kept.1), omega (arith, few (goal.at.write_report-told-requires c).Start)); count_in_bounds_2 = omega (arith, ap length (report_words_lem (upload (goal.at.write_report-told-requires c).Start) (fates (goal.at.write_report-told-requires c).After-count_kept-kept) (fates_right (goal.at.write_report-told-requires c).After-count_kept-kept)), report_length (upload (goal.at.write_report-told-requires c).Start), dropped (goal.at.write_report-told-requires c).After-count_kept-kept, (fits (goal.at.write_report-told-requires c).Else-not-has_room).for_report) }
 
 pub returns : goal.returns
 returns c =

@@ -47,10 +47,10 @@ room l h e =
     let c = length-append (dropped_words (fates l) l.loop-row.row) (entry l) in
     omega (arith, l.loop-row.invariant.2)
 
-is_kept_lem : (c : Then-fate-eq-KEPT) →  is_kept_in (c.args.fates.now) c.loop-row.row ≡ true
+is_kept_lem : (c : Then-fate-eq-KEPT) → is_kept_in (c.args.fates.now) c.loop-row.row ≡ true
 is_kept_lem c = eq-eqb _ _ c.if-fate-eq-KEPT.true
 
-not_kept : (c : Else-fate-eq-KEPT) →  is_kept_in (c.args.fates.now) c.loop-row.row ≡ false
+not_kept : (c : Else-fate-eq-KEPT) → is_kept_in (c.args.fates.now) c.loop-row.row ≡ false
 not_kept c = ne_eqb _ _ (λ e. c.if-fate-eq-KEPT.false e)
 
 pub loop-row-init : goal.loop-row-init
@@ -73,7 +73,7 @@ loop-row-preserved-then-fate-eq-KEPT c =
 
 -- a fate is a byte
 pub overflow_cast-entry-else-fate-eq-KEPT : goal.overflow_cast-entry-else-fate-eq-KEPT
-overflow_cast-entry-else-fate-eq-KEPT c =  omega (arith, c.type_inv.fates c.loop-row.row)
+overflow_cast-entry-else-fate-eq-KEPT c = omega (arith, c.type_inv.fates c.loop-row.row)
 
 pub copy_in-requires : goal.copy_in-requires
 copy_in-requires c =
@@ -104,5 +104,8 @@ loop-row-preserved c =
     )
 
 pub returns : goal.returns
-returns c = let n : c.loop-row.row ≡ c.args.count = omega arith in record { value = c.loop-row.invariant.2 ∙ ap (λ k. length (dropped_words (fates (goal.at.returns c).At-loop-row) k)) n; report_after = c.loop-row.invariant.4
-          ∙ ap (λ k. over (dropped_words (fates (goal.at.returns c).At-loop-row) k) c.args.report.now) n }
+returns c = let n : c.loop-row.row ≡ c.args.count = omega arith in record {
+  value = c.loop-row.invariant.2 ∙ ap (λ k. length (dropped_words (fates (goal.at.returns c).At-loop-row) k)) n;
+  report_after = c.loop-row.invariant.4
+      ∙ ap (λ k. over (dropped_words (fates (goal.at.returns c).At-loop-row) k) c.args.report.now) n;
+}

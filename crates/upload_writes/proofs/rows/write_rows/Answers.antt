@@ -66,13 +66,13 @@ room l h e =
 abbrev AtTest : Type 0
 AtTest = After-shared_slice_known-in-loop-place-2-1
 
-fate_is : (k : AtTest) →  get_or k.args.fates.now k.wide.result 0 ≡ get_or k.args.fates.now (row k.before.before.before.before) 0
-fate_is k =  ap (λ r. get_or k.args.fates.now r 0) k.wide.ensures
+fate_is : (k : AtTest) → get_or k.args.fates.now k.wide.result 0 ≡ get_or k.args.fates.now (row k.before.before.before.before) 0
+fate_is k = ap (λ r. get_or k.args.fates.now r 0) k.wide.ensures
 
-is_kept_lem : (c : Then-fate-eq-KEPT) →  is_kept_in c.args.fates.now ((get_or (c.args.list.now) c.loop-place.place 0)) ≡ true
+is_kept_lem : (c : Then-fate-eq-KEPT) → is_kept_in c.args.fates.now ((get_or (c.args.list.now) c.loop-place.place 0)) ≡ true
 is_kept_lem c = eq-eqb _ _ (sym (fate_is c.before) ∙ c.if-fate-eq-KEPT.true)
 
-not_kept : (c : Else-fate-eq-KEPT) →  is_kept_in c.args.fates.now ((get_or (c.args.list.now) c.loop-place.place 0)) ≡ false
+not_kept : (c : Else-fate-eq-KEPT) → is_kept_in c.args.fates.now ((get_or (c.args.list.now) c.loop-place.place 0)) ≡ false
 not_kept c = ne_eqb _ _ (λ e. c.if-fate-eq-KEPT.false (fate_is c.before ∙ e))
 
 pub loop-place-init : goal.loop-place-init
@@ -86,7 +86,7 @@ bounds-fates-wide c =
     omega (arith, c.wide.ensures, judged (goal.at.bounds-fates-wide c).At-loop-place (omega arith))
 
 pub fields-words-requires : goal.fields-words-requires
-fields-words-requires c =  named (goal.at.fields-words-requires c).At-loop-place (omega arith)
+fields-words-requires c = named (goal.at.fields-words-requires c).At-loop-place (omega arith)
 
 pub copy_in-requires : goal.copy_in-requires
 copy_in-requires c =

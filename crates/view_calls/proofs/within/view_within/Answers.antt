@@ -51,7 +51,7 @@ counted m =
     ∙ number_visible m.args.rows.now m.args.grant.now m.args.membership (flags m) m.flag_members.ensures
     (row_count (tables m.before.before.before.before.before.before.before.before.before.before.before.before.before.before.before))
 
-are_marked : (m : Marks) → 
+are_marked : (m : Marks) →
     marks m ≡ over (marks_of (visible m.args.rows.now m.args.grant.now m.args.membership) (row_count (tables m.before.before.before.before.before.before.before.before.before.before.before.before.before.before.before))) m.args.marks.now
 are_marked m =
     m.mark-seen.ensures.marks_after
@@ -84,7 +84,7 @@ shown_is m =
 
 -- there is a mark for each row
 marks_there : (m : Marks) → row_count (tables m.before.before.before.before.before.before.before.before.before.before.before.before.before.before.before) ≤ length (marks m)
-marks_there m =  omega (arith, m.requires.right.sized.few, m.requires.marks_len, m.mark-seen.auto)
+marks_there m = omega (arith, m.requires.right.sized.few, m.requires.marks_len, m.mark-seen.auto)
 
 has : (e : Else-not-has_room) → let a = (start e).args in
     tables_room_for e.mark-seen.result (length a.view-rows.now) (length a.view-pos.now) (length a.view-osp.now) ≡ true
@@ -95,10 +95,10 @@ fits : (e : Else-not-has_room) → let a = (start e).args in
 fits e = room_parts _ _ _ _ (has e)
 
 pub flag_members-requires : goal.flag_members-requires
-flag_members-requires c =  record { right = c.requires.right; grant_value = right_ascends c.args.grant.now c.requires.grant_value; unflagged = c.requires.unflagged }
+flag_members-requires c = record { right = c.requires.right; grant_value = right_ascends c.args.grant.now c.requires.grant_value; unflagged = c.requires.unflagged }
 
 pub mark-seen-requires : goal.mark-seen-requires
-mark-seen-requires c =  record { rows_right = rows_right (tables (goal.at.mark-seen-requires c).Start) c.requires.right; grant_value = right_ascends c.args.grant.now c.requires.grant_value; column_count_in_bounds = (c.flag_members.ensures.long, omega (arith, c.requires.right.sized.few, c.requires.marks_len)) }
+mark-seen-requires c = record { rows_right = rows_right (tables (goal.at.mark-seen-requires c).Start) c.requires.right; grant_value = right_ascends c.args.grant.now c.requires.grant_value; column_count_in_bounds = (c.flag_members.ensures.long, omega (arith, c.requires.right.sized.few, c.requires.marks_len)) }
 
 pub has_room-requires : goal.has_room-requires
 has_room-requires c = seen_few (goal.at.has_room-requires c).After-mark-seen
@@ -109,13 +109,13 @@ returns-then-not-has_room c =
     (sym c.has_room.ensures ∙ not-true c.has_room.result c.if-not-has_room.true-raw)
 
 pub write_rows-requires : goal.write_rows-requires
-write_rows-requires c =  record { column_count_len_bound = (c.requires.right.sized.few, marks_there (goal.at.write_rows-requires c).After-mark-seen); seen_value = (shown_is (goal.at.write_rows-requires c).After-mark-seen, (fits (goal.at.write_rows-requires c).Else-not-has_room).for_rows) }
+write_rows-requires c = record { column_count_len_bound = (c.requires.right.sized.few, marks_there (goal.at.write_rows-requires c).After-mark-seen); seen_value = (shown_is (goal.at.write_rows-requires c).After-mark-seen, (fits (goal.at.write_rows-requires c).Else-not-has_room).for_rows) }
 
 pub write_numbers-requires : goal.write_numbers-requires
-write_numbers-requires c =  record { list_value = pos_named (tables (goal.at.write_numbers-requires c).Start) c.requires.right (length (marks (goal.at.write_numbers-requires c).After-mark-seen)) (marks_there (goal.at.write_numbers-requires c).After-mark-seen); seen_value = (counted (goal.at.write_numbers-requires c).After-mark-seen ∙ sym (ap length (pos_are (goal.at.write_numbers-requires c).After-mark-seen) ∙ (view_counts (lent (goal.at.write_numbers-requires c).Start)).pos), (fits (goal.at.write_numbers-requires c).Else-not-has_room).for_pos, seen_few (goal.at.write_numbers-requires c).After-mark-seen) }
+write_numbers-requires c = record { list_value = pos_named (tables (goal.at.write_numbers-requires c).Start) c.requires.right (length (marks (goal.at.write_numbers-requires c).After-mark-seen)) (marks_there (goal.at.write_numbers-requires c).After-mark-seen); seen_value = (counted (goal.at.write_numbers-requires c).After-mark-seen ∙ sym (ap length (pos_are (goal.at.write_numbers-requires c).After-mark-seen) ∙ (view_counts (lent (goal.at.write_numbers-requires c).Start)).pos), (fits (goal.at.write_numbers-requires c).Else-not-has_room).for_pos, seen_few (goal.at.write_numbers-requires c).After-mark-seen) }
 
 pub write_numbers-requires-2 : goal.write_numbers-requires-2
-write_numbers-requires-2 c =  record { list_value = osp_named (tables (goal.at.write_numbers-requires-2 c).Start) c.requires.right (length (marks (goal.at.write_numbers-requires-2 c).After-mark-seen)) (marks_there (goal.at.write_numbers-requires-2 c).After-mark-seen); seen_value = (counted (goal.at.write_numbers-requires-2 c).After-mark-seen ∙ sym (ap length (osp_are (goal.at.write_numbers-requires-2 c).After-mark-seen) ∙ (view_counts (lent (goal.at.write_numbers-requires-2 c).Start)).osp), (fits (goal.at.write_numbers-requires-2 c).Else-not-has_room).for_osp, seen_few (goal.at.write_numbers-requires-2 c).After-mark-seen) }
+write_numbers-requires-2 c = record { list_value = osp_named (tables (goal.at.write_numbers-requires-2 c).Start) c.requires.right (length (marks (goal.at.write_numbers-requires-2 c).After-mark-seen)) (marks_there (goal.at.write_numbers-requires-2 c).After-mark-seen); seen_value = (counted (goal.at.write_numbers-requires-2 c).After-mark-seen ∙ sym (ap length (osp_are (goal.at.write_numbers-requires-2 c).After-mark-seen) ∙ (view_counts (lent (goal.at.write_numbers-requires-2 c).Start)).osp), (fits (goal.at.write_numbers-requires-2 c).Else-not-has_room).for_osp, seen_few (goal.at.write_numbers-requires-2 c).After-mark-seen) }
 
 pub overflow_mul-result : goal.overflow_mul-result
 overflow_mul-result c =

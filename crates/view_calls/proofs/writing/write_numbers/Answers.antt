@@ -56,13 +56,13 @@ pub bounds-marks-wide : goal.bounds-marks-wide
 bounds-marks-wide c = omega (arith, c.wide.ensures, named (goal.at.bounds-marks-wide c).At-loop-used (omega arith))
 
 pub offset_bounds-view-used : goal.offset_bounds-view-used
-offset_bounds-view-used c =  omega (arith, c.requires.seen_value.1, c.loop-used.invariant.1)
+offset_bounds-view-used c = omega (arith, c.requires.seen_value.1, c.loop-used.invariant.1)
 
 pub bounds-view-used : goal.bounds-view-used
-bounds-view-used c =  omega (arith, c.requires.seen_value.1, c.loop-used.invariant.1)
+bounds-view-used c = omega (arith, c.requires.seen_value.1, c.loop-used.invariant.1)
 
 pub one_more-used-requires : goal.one_more-used-requires
-one_more-used-requires c =  omega (arith, c.requires.seen_value.2)
+one_more-used-requires c = omega (arith, c.requires.seen_value.2)
 
 pub overflow_add-place : goal.overflow_add-place
 overflow_add-place c = omega (arith, left (goal.at.overflow_add-place c).At-loop-used (omega arith))

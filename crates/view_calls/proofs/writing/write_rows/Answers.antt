@@ -84,7 +84,7 @@ pub one_more-used-requires : goal.one_more-used-requires
 one_more-used-requires c = omega (arith, few (goal.at.one_more-used-requires c).At-loop-used)
 
 pub overflow_add-row : goal.overflow_add-row
-overflow_add-row c =  omega (arith, left (goal.at.overflow_add-row c).At-loop-used (omega arith), c.requires.column_count_len_bound.0)
+overflow_add-row c = omega (arith, left (goal.at.overflow_add-row c).At-loop-used (omega arith), c.requires.column_count_len_bound.0)
 
 pub loop-used-smaller : goal.loop-used-smaller
 loop-used-smaller c = omega (arith, left (goal.at.loop-used-smaller c).At-loop-used (omega arith))
