@@ -14,7 +14,7 @@ use Rattle.conditions.specs.declared.Truth.{Truth}
 use Rattle.conditions.specs.declared.Truth.TheVariants.{True, False, Error}
 use Rattle.conditions.specs.Truth.{of_test, conjunction, disjunction, negation, equality, inequality, comparison, truth_of}
 use Rattle.sparql.specs.Terms.{Vocabulary, by_number, integer}
-use Rattle.sparql.specs.Expressions.{Outcome, boolean, logical_or, operate, equal, notEqual, less, greater, lessOrEqual, greaterOrEqual}
+use Rattle.sparql.specs.Expressions.{Outcome, boolean, logical_or, operate, equal, not_equal, less, greater, less_or_equal, greater_or_equal}
 use Rattle.sparql.specs.Reading.{term_of, operator_of}
 use Rattle.sparql.proofs.Terms.{Sort, a_number, a_text, a_name, sort_of, kind_other}
 use Rattle.sparql.proofs.Comparisons.{outcome_of, of_test_lem}
@@ -104,42 +104,42 @@ module _ (w : ℕ) where
       go false = not_both
 
 -- ---- as SPARQL has it
-module _ {M : Vocabulary} (c : Carrier by_number M) (isAbove : Bool) (z : ℤ) (far : FarNumber isAbove z) (w : ℕ) where
+module _ {M : Vocabulary} (c : Carrier by_number M) (is_above : Bool) (z : ℤ) (far : FarNumber is_above z) (w : ℕ) where
   value_below : term_value w < term_values
   value_below = omega arith
 
   abbrev tested : Bool → Outcome
   tested t = outcome_of (cond (eqb (term_kind w) number_kind) (of_test t) Error)
 
-  whole_less : operate less (carry_term c (term_of w)) (integer z) ≡ tested isAbove
+  whole_less : operate less (carry_term c (term_of w)) (integer z) ≡ tested is_above
   whole_less = go (sort_of w)
     where
-      go : Sort w → operate less (carry_term c (term_of w)) (integer z) ≡ tested isAbove
-      go (a_number p q) = simp (p, q, far.more (term_value w) value_below) (of_test_lem isAbove)
+      go : Sort w → operate less (carry_term c (term_of w)) (integer z) ≡ tested is_above
+      go (a_number p q) = simp (p, q, far.more (term_value w) value_below) (of_test_lem is_above)
       go (a_text p q) = simp (p, q)
       go (a_name p q) = simp (p, q)
 
-  whole_at_most : operate lessOrEqual (carry_term c (term_of w)) (integer z) ≡ tested isAbove
+  whole_at_most : operate less_or_equal (carry_term c (term_of w)) (integer z) ≡ tested is_above
   whole_at_most = go (sort_of w)
     where
-      go : Sort w → operate lessOrEqual (carry_term c (term_of w)) (integer z) ≡ tested isAbove
-      go (a_number p q) = simp (p, q, far.more (term_value w) value_below, far.apart (term_value w) value_below) (or-false isAbove)
+      go : Sort w → operate less_or_equal (carry_term c (term_of w)) (integer z) ≡ tested is_above
+      go (a_number p q) = simp (p, q, far.more (term_value w) value_below, far.apart (term_value w) value_below) (or-false is_above)
       go (a_text p q) = simp (p, q)
       go (a_name p q) = simp (p, q)
 
-  whole_greater : operate greater (carry_term c (term_of w)) (integer z) ≡ tested (not isAbove)
+  whole_greater : operate greater (carry_term c (term_of w)) (integer z) ≡ tested (not is_above)
   whole_greater = go (sort_of w)
     where
-      go : Sort w → operate greater (carry_term c (term_of w)) (integer z) ≡ tested (not isAbove)
-      go (a_number p q) = simp (p, q, far.fewer (term_value w) value_below) (of_test_lem (not isAbove))
+      go : Sort w → operate greater (carry_term c (term_of w)) (integer z) ≡ tested (not is_above)
+      go (a_number p q) = simp (p, q, far.fewer (term_value w) value_below) (of_test_lem (not is_above))
       go (a_text p q) = simp (p, q)
       go (a_name p q) = simp (p, q)
 
-  whole_at_least : operate greaterOrEqual (carry_term c (term_of w)) (integer z) ≡ tested (not isAbove)
+  whole_at_least : operate greater_or_equal (carry_term c (term_of w)) (integer z) ≡ tested (not is_above)
   whole_at_least = go (sort_of w)
     where
-      go : Sort w → operate greaterOrEqual (carry_term c (term_of w)) (integer z) ≡ tested (not isAbove)
-      go (a_number p q) = simp (p, q, far.fewer (term_value w) value_below, far.apart (term_value w) value_below) (or-false (not isAbove))
+      go : Sort w → operate greater_or_equal (carry_term c (term_of w)) (integer z) ≡ tested (not is_above)
+      go (a_number p q) = simp (p, q, far.fewer (term_value w) value_below, far.apart (term_value w) value_below) (or-false (not is_above))
       go (a_text p q) = simp (p, q)
       go (a_name p q) = simp (p, q)
 
@@ -151,10 +151,10 @@ module _ {M : Vocabulary} (c : Carrier by_number M) (isAbove : Bool) (z : ℤ) (
       go (a_text p q) = simp (p, q)
       go (a_name p q) = simp (p, q)
 
-  whole_unequal : operate notEqual (carry_term c (term_of w)) (integer z) ≡ outcome_of (negation (cond (eqb (term_kind w) text_kind) Error False))
+  whole_unequal : operate not_equal (carry_term c (term_of w)) (integer z) ≡ outcome_of (negation (cond (eqb (term_kind w) text_kind) Error False))
   whole_unequal = go (sort_of w)
     where
-      go : Sort w → operate notEqual (carry_term c (term_of w)) (integer z) ≡ outcome_of (negation (cond (eqb (term_kind w) text_kind) Error False))
+      go : Sort w → operate not_equal (carry_term c (term_of w)) (integer z) ≡ outcome_of (negation (cond (eqb (term_kind w) text_kind) Error False))
       go (a_number p q) = simp (p, q, far.apart (term_value w) value_below)
       go (a_text p q) = simp (p, q)
       go (a_name p q) = simp (p, q)

@@ -12,7 +12,7 @@ use Rattle.plans.specs.Conditions.{compared}
 use Rattle.conditions.specs.declared.Truth.TheVariants.{True, False, Error}
 use Rattle.conditions.specs.Truth.{of_test, negation, equality, inequality, comparison, truth_of}
 use Rattle.sparql.specs.Terms.{Vocabulary, by_number, iri}
-use Rattle.sparql.specs.Expressions.{operate, equal, notEqual, less, greater, lessOrEqual, greaterOrEqual, T, F, E}
+use Rattle.sparql.specs.Expressions.{operate, equal, not_equal, less, greater, less_or_equal, greater_or_equal, T, F, E}
 use Rattle.sparql.specs.Reading.{term_of, operator_of}
 use Rattle.sparql.proofs.Terms.{Sort, a_number, a_text, a_name, sort_of, other_kind}
 use Rattle.sparql.proofs.Comparisons.{outcome_of}
@@ -62,10 +62,10 @@ module _ {M : Vocabulary} (c : Carrier by_number M) (count : ℕ) (s : M.Name) (
       go (a_text p q) = simp (p, q)
       go (a_name p q) = simp (p, q, absent.apart w (inside p q))
 
-  string_unequal : operate notEqual (carry_term c (term_of w)) (iri s) ≡ T
+  string_unequal : operate not_equal (carry_term c (term_of w)) (iri s) ≡ T
   string_unequal = go (sort_of w)
     where
-      go : Sort w → operate notEqual (carry_term c (term_of w)) (iri s) ≡ T
+      go : Sort w → operate not_equal (carry_term c (term_of w)) (iri s) ≡ T
       go (a_number p q) = simp (p, q)
       go (a_text p q) = simp (p, q)
       go (a_name p q) = simp (p, q, absent.apart w (inside p q))
@@ -78,10 +78,10 @@ module _ {M : Vocabulary} (c : Carrier by_number M) (count : ℕ) (s : M.Name) (
       go (a_text p q) = simp (p, q)
       go (a_name p q) = simp (p, q)
 
-  string_at_most : operate lessOrEqual (carry_term c (term_of w)) (iri s) ≡ E
+  string_at_most : operate less_or_equal (carry_term c (term_of w)) (iri s) ≡ E
   string_at_most = go (sort_of w)
     where
-      go : Sort w → operate lessOrEqual (carry_term c (term_of w)) (iri s) ≡ E
+      go : Sort w → operate less_or_equal (carry_term c (term_of w)) (iri s) ≡ E
       go (a_number p q) = simp (p, q)
       go (a_text p q) = simp (p, q)
       go (a_name p q) = simp (p, q)
@@ -94,10 +94,10 @@ module _ {M : Vocabulary} (c : Carrier by_number M) (count : ℕ) (s : M.Name) (
       go (a_text p q) = simp (p, q)
       go (a_name p q) = simp (p, q)
 
-  string_at_least : operate greaterOrEqual (carry_term c (term_of w)) (iri s) ≡ E
+  string_at_least : operate greater_or_equal (carry_term c (term_of w)) (iri s) ≡ E
   string_at_least = go (sort_of w)
     where
-      go : Sort w → operate greaterOrEqual (carry_term c (term_of w)) (iri s) ≡ E
+      go : Sort w → operate greater_or_equal (carry_term c (term_of w)) (iri s) ≡ E
       go (a_number p q) = simp (p, q)
       go (a_text p q) = simp (p, q)
       go (a_name p q) = simp (p, q)

@@ -12,8 +12,8 @@ use Rattle.plans.specs.Conditions.{compared}
 use Rattle.conditions.specs.declared.Truth.TheVariants.{True, False, Error}
 use Rattle.conditions.specs.Truth.{of_test, negation, equality, inequality, comparison, truth_of}
 use Rattle.sparql.specs.Terms.{Vocabulary, by_number, text}
-use Rattle.sparql.specs.Expressions.{Outcome, F, logical_not, minusOne, one, is_minus_one, compares_equal}
-use Rattle.sparql.specs.Expressions.{is_one, operate, equal, notEqual, less, greater, lessOrEqual, greaterOrEqual}
+use Rattle.sparql.specs.Expressions.{Outcome, F, logical_not, minus_one, one, is_minus_one, compares_equal}
+use Rattle.sparql.specs.Expressions.{is_one, operate, equal, not_equal, less, greater, less_or_equal, greater_or_equal}
 use Rattle.sparql.specs.Reading.{term_of, operator_of}
 use Rattle.sparql.proofs.Terms.{Sort, a_number, a_text, a_name, sort_of, other_kind, kind_other}
 use Rattle.sparql.proofs.Comparisons.{outcome_of}
@@ -22,23 +22,23 @@ use Rattle.constants.specs.Constants.{with_no_text}
 use Rattle.constant_truths.specs.Absent.{AbsentText, TextWithin}
 
 -- ---- fn:compare where two texts differ
-minus_one : (t : Bool) → is_minus_one (cond t minusOne one) ≡ outcome_of (of_test t)
-minus_one true = refl
-minus_one false = refl
+minus_one_lem : (t : Bool) → is_minus_one (cond t minus_one one) ≡ outcome_of (of_test t)
+minus_one_lem true = refl
+minus_one_lem false = refl
 
-not_one : (t : Bool) → logical_not (is_one (cond t minusOne one)) ≡ outcome_of (of_test t)
+not_one : (t : Bool) → logical_not (is_one (cond t minus_one one)) ≡ outcome_of (of_test t)
 not_one true = refl
 not_one false = refl
 
-is_one_lem : (t : Bool) → is_one (cond t minusOne one) ≡ outcome_of (of_test (not t))
+is_one_lem : (t : Bool) → is_one (cond t minus_one one) ≡ outcome_of (of_test (not t))
 is_one_lem true = refl
 is_one_lem false = refl
 
-not_minus_one : (t : Bool) → logical_not (is_minus_one (cond t minusOne one)) ≡ outcome_of (of_test (not t))
+not_minus_one : (t : Bool) → logical_not (is_minus_one (cond t minus_one one)) ≡ outcome_of (of_test (not t))
 not_minus_one true = refl
 not_minus_one false = refl
 
-unequal : (t : Bool) → compares_equal (cond t minusOne one) ≡ F
+unequal : (t : Bool) → compares_equal (cond t minus_one one) ≡ F
 unequal true = refl
 unequal false = refl
 
@@ -108,13 +108,13 @@ module _ {M : Vocabulary} (c : Carrier by_number M) (count rank : ℕ) (s : M.Na
     where
       go : Sort w → operate less (carry_term c (term_of w)) (text s) ≡ tested (ltb (term_value w) rank)
       go (a_number p q) = simp (p, q)
-      go (a_text p q) = simp (p, q, first q, other q) (minus_one (ltb (term_value w) rank))
+      go (a_text p q) = simp (p, q, first q, other q) (minus_one_lem (ltb (term_value w) rank))
       go (a_name p q) = simp (p, q)
 
-  string_at_most : operate lessOrEqual (carry_term c (term_of w)) (text s) ≡ tested (ltb (term_value w) rank)
+  string_at_most : operate less_or_equal (carry_term c (term_of w)) (text s) ≡ tested (ltb (term_value w) rank)
   string_at_most = go (sort_of w)
     where
-      go : Sort w → operate lessOrEqual (carry_term c (term_of w)) (text s) ≡ tested (ltb (term_value w) rank)
+      go : Sort w → operate less_or_equal (carry_term c (term_of w)) (text s) ≡ tested (ltb (term_value w) rank)
       go (a_number p q) = simp (p, q)
       go (a_text p q) = simp (p, q, first q, other q) (not_one (ltb (term_value w) rank))
       go (a_name p q) = simp (p, q)
@@ -127,10 +127,10 @@ module _ {M : Vocabulary} (c : Carrier by_number M) (count rank : ℕ) (s : M.Na
       go (a_text p q) = simp (p, q, first q, other q) (is_one_lem (ltb (term_value w) rank))
       go (a_name p q) = simp (p, q)
 
-  string_at_least : operate greaterOrEqual (carry_term c (term_of w)) (text s) ≡ tested (not (ltb (term_value w) rank))
+  string_at_least : operate greater_or_equal (carry_term c (term_of w)) (text s) ≡ tested (not (ltb (term_value w) rank))
   string_at_least = go (sort_of w)
     where
-      go : Sort w → operate greaterOrEqual (carry_term c (term_of w)) (text s) ≡ tested (not (ltb (term_value w) rank))
+      go : Sort w → operate greater_or_equal (carry_term c (term_of w)) (text s) ≡ tested (not (ltb (term_value w) rank))
       go (a_number p q) = simp (p, q)
       go (a_text p q) = simp (p, q, first q, other q) (not_minus_one (ltb (term_value w) rank))
       go (a_name p q) = simp (p, q)
@@ -143,10 +143,10 @@ module _ {M : Vocabulary} (c : Carrier by_number M) (count rank : ℕ) (s : M.Na
       go (a_text p q) = simp (p, q, first q, other q) (unequal (ltb (term_value w) rank))
       go (a_name p q) = simp (p, q)
 
-  string_unequal : operate notEqual (carry_term c (term_of w)) (text s) ≡ outcome_of (negation (cond (eqb (term_kind w) number_kind) Error False))
+  string_unequal : operate not_equal (carry_term c (term_of w)) (text s) ≡ outcome_of (negation (cond (eqb (term_kind w) number_kind) Error False))
   string_unequal = go (sort_of w)
     where
-      go : Sort w → operate notEqual (carry_term c (term_of w)) (text s) ≡ outcome_of (negation (cond (eqb (term_kind w) number_kind) Error False))
+      go : Sort w → operate not_equal (carry_term c (term_of w)) (text s) ≡ outcome_of (negation (cond (eqb (term_kind w) number_kind) Error False))
       go (a_number p q) = simp (p, q)
       go (a_text p q) = simp (p, q, first q, other q) (ap logical_not (unequal (ltb (term_value w) rank)))
       go (a_name p q) = simp (p, q)

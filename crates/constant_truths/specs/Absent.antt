@@ -27,7 +27,7 @@ abbrev pub NameWithin : ℕ → ℕ → Type 0
 NameWithin count w = eqb (term_kind w) number_kind ≡ false → eqb (term_kind w) text_kind ≡ false → w < count
 
 -- a whole number above all that a table can hold, or below them all
-pub record FarNumber (isAbove : Bool) (z : ℤ) : Type 0 where
-  pub more : (v : ℕ) → v < term_values → is_less (whole_number v) z ≡ isAbove
-  pub fewer : (v : ℕ) → v < term_values → is_less z (whole_number v) ≡ not isAbove
+pub record FarNumber (is_above : Bool) (z : ℤ) : Type 0 where
+  pub more : (v : ℕ) → v < term_values → is_less (whole_number v) z ≡ is_above
+  pub fewer : (v : ℕ) → v < term_values → is_less z (whole_number v) ≡ not is_above
   pub apart : (v : ℕ) → v < term_values → same_integer (whole_number v) z ≡ false

@@ -32,13 +32,13 @@ abbrev pub with_above : ℕ → ℕ → Condition
 with_above o x =
     cond (leb o unequal_to) (with_no_number o x) (cond (leb o at_most) (compared at_most x greatest_number) (compared greater_than x greatest_number))
 
--- a variable and a constant on its right; `noName` and `noText` are the words after the last name and the last text
+-- a variable and a constant on its right; `no_name` and `no_text_word` are the words after the last name and the last text
 unfoldable pub compared_with : ℕ → ℕ → ℕ → ℕ → Constant → Condition
-compared_with noName noText o x (Term w) = compared o x w
-compared_with noName noText o x NoName = compared o x noName
-compared_with noName noText o x (NoText ranked) = with_no_text noText ranked o x
-compared_with noName noText o x Below = with_below o x
-compared_with noName noText o x Above = with_above o x
+compared_with no_name no_text_word o x (Term w) = compared o x w
+compared_with no_name no_text_word o x NoName = compared o x no_name
+compared_with no_name no_text_word o x (NoText ranked) = with_no_text no_text_word ranked o x
+compared_with no_name no_text_word o x Below = with_below o x
+compared_with no_name no_text_word o x Above = with_above o x
 
 -- ---- words behind the first ones of a buffer
 abbrev pub Appended : List ℕ → ℕ → List ℕ → List ℕ → ℕ → Type 0

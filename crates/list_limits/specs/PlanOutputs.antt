@@ -1,6 +1,7 @@
 -- The words that test 7 asks of an output, by the words of a plan, and when a plan is refused instead; and the call that says so, which lends no
 -- buffer. Assumes nothing: these are definitions.
-use Rattle.std.specs.Prelude.{ℕ, ◌≡◌, ◌↔◌, Option, none, some, List, [], ◌∷◌, map}
+use Rattle.std.proofs.Math.Option.{Option, none, some}
+use Rattle.std.specs.Prelude.{ℕ, ◌≡◌, ◌↔◌, List, [], ◌∷◌, map}
 use Rattle.words.specs.declared.Written.{Written}
 use Rattle.words.specs.declared.Written.TheVariants.{Words, Refused}
 use Rattle.words.specs.Answers.{refusal_in, words_in}

@@ -89,6 +89,8 @@ module _ (plan : List ℕ) (accepted : AllPass (plan_tests plan)) where
 
     gives_none : (w : Way) (x : ℕ) → WayRefusedBy plan lists x w → given plan lists w ≡ none
     unfolding given
+    gives_none empty x x3 = elim x3 [ ]
+    gives_none (turn _) x x5 = elim x5 [ ]
     gives_none (into a behind b) x (among_kept r) = rw (gives_none a x r)
     gives_none (into a behind b) x (among_lists r) = go (given plan lists a) (gives_none b x r)
       where
@@ -105,6 +107,8 @@ module _ (plan : List ℕ) (accepted : AllPass (plan_tests plan)) where
         (lends : (a b : Way) (behind x : List ℕ) → Over (into a behind b) → given plan lists b ≡ some x → list_right e x ≡ true) where
       by_two : (w : Way) (x : ℕ) → Over w → WayRefusedBy plan lists x w
           → ((x ≡ 13) × ((kept : List ℕ) × ((list : List ℕ) × (totals_fit e kept list ≡ false)))) ⊎ (x ≡ 14)
+      by_two empty x o x4 = elim x4 [ ]
+      by_two (turn _) x o x6 = elim x6 [ ]
       by_two (into a behind b) x o (among_kept r) = by_two a x (left a b behind o) r
       by_two (into a behind b) x o (among_lists r) = by_two b x (right a b behind o) r
       by_two (into a behind b) x o (merging kept list p q r) =

@@ -3,7 +3,7 @@ use mathlib.Core.Path.{◌≡◌, refl, ◌∙◌, ap, ap₂}
 use mathlib.Core.Option.{Option, none, some}
 use Rattle.sparql.specs.Terms.{Vocabulary, RdfTermOver, iri, integer, text, MappingOver}
 use Rattle.sparql.specs.Expressions.{PatternTermOver, variable, constant, logical_and, logical_or, logical_not, fn_compare, rdf_term_equal}
-use Rattle.sparql.specs.Expressions.{Operator, equal, notEqual, less, greater, lessOrEqual, greaterOrEqual, operate, compares_equal, is_minus_one, is_one}
+use Rattle.sparql.specs.Expressions.{Operator, equal, not_equal, less, greater, less_or_equal, greater_or_equal, operate, compares_equal, is_minus_one, is_one}
 use Rattle.sparql.specs.Expressions.{ExpressionOver, always, both, either, negated, compare, value_under, compare_values, evaluate}
 use Rattle.sparql_strings.specs.Carrying.{Carrier, Keeps, carry_term, carry_value, carry_mapping, carry_pattern_term, carry_expression}
 use Rattle.sparql_strings.proofs.Terms.{carry_lookup}
@@ -36,15 +36,15 @@ module _ {N M : Vocabulary} (c : Carrier N M) (k : Keeps c) where
   carry_operate equal (text a) (iri b) = refl
   carry_operate equal (text a) (integer b) = refl
   carry_operate equal (text a) (text b) = ap compares_equal (carry_text a b)
-  carry_operate notEqual (iri a) (iri b) = ap logical_not (carry_equal (iri a) (iri b))
-  carry_operate notEqual (iri a) (integer b) = refl
-  carry_operate notEqual (iri a) (text b) = refl
-  carry_operate notEqual (integer a) (iri b) = refl
-  carry_operate notEqual (integer a) (integer b) = refl
-  carry_operate notEqual (integer a) (text b) = refl
-  carry_operate notEqual (text a) (iri b) = refl
-  carry_operate notEqual (text a) (integer b) = refl
-  carry_operate notEqual (text a) (text b) = ap (λ z. logical_not (compares_equal z)) (carry_text a b)
+  carry_operate not_equal (iri a) (iri b) = ap logical_not (carry_equal (iri a) (iri b))
+  carry_operate not_equal (iri a) (integer b) = refl
+  carry_operate not_equal (iri a) (text b) = refl
+  carry_operate not_equal (integer a) (iri b) = refl
+  carry_operate not_equal (integer a) (integer b) = refl
+  carry_operate not_equal (integer a) (text b) = refl
+  carry_operate not_equal (text a) (iri b) = refl
+  carry_operate not_equal (text a) (integer b) = refl
+  carry_operate not_equal (text a) (text b) = ap (λ z. logical_not (compares_equal z)) (carry_text a b)
   carry_operate less (iri a) (iri b) = refl
   carry_operate less (iri a) (integer b) = refl
   carry_operate less (iri a) (text b) = refl
@@ -63,24 +63,24 @@ module _ {N M : Vocabulary} (c : Carrier N M) (k : Keeps c) where
   carry_operate greater (text a) (iri b) = refl
   carry_operate greater (text a) (integer b) = refl
   carry_operate greater (text a) (text b) = ap is_one (carry_text a b)
-  carry_operate lessOrEqual (iri a) (iri b) = refl
-  carry_operate lessOrEqual (iri a) (integer b) = refl
-  carry_operate lessOrEqual (iri a) (text b) = refl
-  carry_operate lessOrEqual (integer a) (iri b) = refl
-  carry_operate lessOrEqual (integer a) (integer b) = refl
-  carry_operate lessOrEqual (integer a) (text b) = refl
-  carry_operate lessOrEqual (text a) (iri b) = refl
-  carry_operate lessOrEqual (text a) (integer b) = refl
-  carry_operate lessOrEqual (text a) (text b) = ap (λ z. logical_not (is_one z)) (carry_text a b)
-  carry_operate greaterOrEqual (iri a) (iri b) = refl
-  carry_operate greaterOrEqual (iri a) (integer b) = refl
-  carry_operate greaterOrEqual (iri a) (text b) = refl
-  carry_operate greaterOrEqual (integer a) (iri b) = refl
-  carry_operate greaterOrEqual (integer a) (integer b) = refl
-  carry_operate greaterOrEqual (integer a) (text b) = refl
-  carry_operate greaterOrEqual (text a) (iri b) = refl
-  carry_operate greaterOrEqual (text a) (integer b) = refl
-  carry_operate greaterOrEqual (text a) (text b) = ap (λ z. logical_not (is_minus_one z)) (carry_text a b)
+  carry_operate less_or_equal (iri a) (iri b) = refl
+  carry_operate less_or_equal (iri a) (integer b) = refl
+  carry_operate less_or_equal (iri a) (text b) = refl
+  carry_operate less_or_equal (integer a) (iri b) = refl
+  carry_operate less_or_equal (integer a) (integer b) = refl
+  carry_operate less_or_equal (integer a) (text b) = refl
+  carry_operate less_or_equal (text a) (iri b) = refl
+  carry_operate less_or_equal (text a) (integer b) = refl
+  carry_operate less_or_equal (text a) (text b) = ap (λ z. logical_not (is_one z)) (carry_text a b)
+  carry_operate greater_or_equal (iri a) (iri b) = refl
+  carry_operate greater_or_equal (iri a) (integer b) = refl
+  carry_operate greater_or_equal (iri a) (text b) = refl
+  carry_operate greater_or_equal (integer a) (iri b) = refl
+  carry_operate greater_or_equal (integer a) (integer b) = refl
+  carry_operate greater_or_equal (integer a) (text b) = refl
+  carry_operate greater_or_equal (text a) (iri b) = refl
+  carry_operate greater_or_equal (text a) (integer b) = refl
+  carry_operate greater_or_equal (text a) (text b) = ap (λ z. logical_not (is_minus_one z)) (carry_text a b)
 
   pub carry_under : (μ : MappingOver N) (t : PatternTermOver N)
       → value_under (carry_mapping c μ) (carry_pattern_term c t) ≡ carry_value c (value_under μ t)

@@ -18,7 +18,7 @@ starts_with a cs = first_is (λ c. eqb c a) cs
 
 -- how many characters are blank or in comments, from # to the end of a line; a byte that is no UTF-8 is left, in a comment too
 unfoldable pub blanks_length : Bool → List ℕ → ℕ
-blanks_length inComment [] = 0
+blanks_length in_comment [] = 0
 blanks_length true (c ∷ cs) = cond (eqb c no_point) 0 (blanks_length (not (is_line_end c)) cs + 1)
 blanks_length false (c ∷ cs) = cond (eqb c 0x23) (blanks_length true cs + 1) (cond (is_blank c) (blanks_length false cs + 1) 0)
 

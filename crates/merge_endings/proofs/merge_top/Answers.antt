@@ -41,7 +41,7 @@ module _ (s : Start) where
         → Mergeable s.args.k s.args.vars.now s.args.keys.now s.args.kept.now s.args.given s.args.list.now
     may_merge r =
         let each = each_right ending front s.args.list.now p in
-        mergeable s.pre.0 s.pre.1 each.0 each.1
+        mergeable s.requires.0 s.requires.1 each.0 each.1
         (leb-true (length (merged ending front s.args.list.now)) (length s.args.kept.now) r)
 
 pub slice_bounds-are_best-end-2 : goal.slice_bounds-are_best-end-2
@@ -54,24 +54,24 @@ returns-then-not-are_best c =
 
 pub has_best_room-requires : goal.has_best_room-requires
 has_best_room-requires c =
-    let p = goes_on_fact (right (goal.at.has_best_room-requires c).After-are_best) c.are_best.ensures c.if-not-are_best.false-raw in
-    (c.requires.0.some, c.requires.0.narrow, c.requires.0.few, c.requires.1, (list_best (goal.at.has_best_room-requires c).After-are_best p).whole)
+    let p = goes_on_fact (right (goal.at.has_best_room-requires c).Start) c.are_best.ensures c.if-not-are_best.false-raw in
+    (c.requires.0.some, c.requires.0.narrow, c.requires.0.few, c.requires.1, (list_best (goal.at.has_best_room-requires c).Start p).whole)
 
 pub returns-then-not-has_best_room : goal.returns-then-not-has_best_room
 returns-then-not-has_best_room c =
-    let p = goes_on_fact (right (goal.at.returns-then-not-has_best_room c).After-are_best) c.are_best.ensures c.if-not-are_best.false-raw in
-    let e = c.has_best_room.ensures c.args.keys.now (kept_best (goal.at.returns-then-not-has_best_room c).After-are_best p) in
-    λ plan a. top_no_room _ a c.requires.1 p (refuses (room (goal.at.returns-then-not-has_best_room c).After-are_best) e c.if-not-has_best_room.true-raw)
+    let p = goes_on_fact (right (goal.at.returns-then-not-has_best_room c).Start) c.are_best.ensures c.if-not-are_best.false-raw in
+    let e = c.has_best_room.ensures c.args.keys.now (kept_best (goal.at.returns-then-not-has_best_room c).Start p) in
+    λ plan a. top_no_room _ a c.requires.1 p (refuses (room (goal.at.returns-then-not-has_best_room c).Start) e c.if-not-has_best_room.true-raw)
 
 pub merge_best-requires : goal.merge_best-requires
 merge_best-requires c =
-    let p = goes_on_fact (right (goal.at.merge_best-requires c).After-are_best) c.are_best.ensures c.if-not-are_best.false-raw in
-    let e = c.has_best_room.ensures c.args.keys.now (kept_best (goal.at.merge_best-requires c).After-are_best p) in
-    may_merge (goal.at.merge_best-requires c).After-are_best p (goes_on_fact (room (goal.at.merge_best-requires c).After-are_best) e c.if-not-has_best_room.false-raw)
+    let p = goes_on_fact (right (goal.at.merge_best-requires c).Start) c.are_best.ensures c.if-not-are_best.false-raw in
+    let e = c.has_best_room.ensures c.args.keys.now (kept_best (goal.at.merge_best-requires c).Start p) in
+    may_merge (goal.at.merge_best-requires c).Start p (goes_on_fact (room (goal.at.merge_best-requires c).Start) e c.if-not-has_best_room.false-raw)
 
 pub returns : goal.returns
 returns c =
-    let p = goes_on_fact (right (goal.at.returns c).After-are_best) c.are_best.ensures
+    let p = goes_on_fact (right (goal.at.returns c).Start) c.are_best.ensures
     c.if-not-are_best.false-raw in
-    let e = c.has_best_room.ensures c.args.keys.now (kept_best (goal.at.returns c).After-are_best p) in
-    λ plan a. top_merged _ a c.requires.1 p (goes_on_fact (room (goal.at.returns c).After-are_best) e c.if-not-has_best_room.false-raw) c.merge_best.ensures
+    let e = c.has_best_room.ensures c.args.keys.now (kept_best (goal.at.returns c).Start p) in
+    λ plan a. top_merged _ a c.requires.1 p (goes_on_fact (room (goal.at.returns c).Start) e c.if-not-has_best_room.false-raw) c.merge_best.ensures

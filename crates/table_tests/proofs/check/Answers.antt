@@ -40,18 +40,22 @@ fits c i = omega (arith, c.type_inv.rows i)
 abbrev looked : After-years_alike-alike → Tables
 looked f = (tables_of f.args.rows.now f.args.pos.now f.args.osp.now)
 
-alike : (f : After-years_alike-alike) → ascends Spo (looked f) ≡ true → f.years_alike-alike.result ≡ true → OneYear (looked f).rows
-alike f u h =
-    let z = sized f.before.before in
+alike : (f : After-years_alike-alike) → Sized (looked f) → ascends Spo (looked f) ≡ true → f.years_alike-alike.result ≡ true
+    → OneYear (looked f).rows
+alike f z u h =
     let n : length (looked f).pos ≡ row_count (looked f) = z.pos_length in
     one_year (looked f) u (eqb-true _ _ (rw (← n) (sym f.years_alike-alike.ensures ∙ h)))
 
 -- what the orders say where kinds and years are right
-by_orders : (w : After-walk-orders) → let t = (tables_of w.args.rows.now w.args.pos.now w.args.osp.now) in
-    (kinds_right t ≡ true) × (years_right t ≡ true) → number_of (first_failing (table_tests t)) ≡ refusal_after w.walk-orders.result
-by_orders w p =
-    orders_say ((tables_of w.args.rows.now w.args.pos.now w.args.osp.now)) (sized w.before.before.before) (fits w.before.before.before) p w.years_alike-alike.result (alike w.before)
-    ∙ ap refusal_after (sym w.walk-orders.ensures)
+abbrev walked : After-walk-orders → Tables
+walked w = (tables_of w.args.rows.now w.args.pos.now w.args.osp.now)
+
+by_orders : (w : After-walk-orders) → Sized (walked w) → Words (walked w).rows
+    → (ascends Spo (walked w) ≡ true → w.years_alike-alike.result ≡ true → OneYear (walked w).rows)
+    → (kinds_right (walked w) ≡ true) × (years_right (walked w) ≡ true)
+    → number_of (first_failing (table_tests (walked w))) ≡ refusal_after w.walk-orders.result
+by_orders w z fit one p =
+    orders_say (walked w) z fit p w.years_alike-alike.result one ∙ ap refusal_after (sym w.walk-orders.ensures)
 
 pub returns-then-not-lengths_right : goal.returns-then-not-lengths_right
 returns-then-not-lengths_right c = sym (lengths_first (lent (goal.at.returns-then-not-lengths_right c).Start) (sym c.lengths_right.ensures ∙ not-true _ c.if-not-lengths_right.true-raw))
@@ -71,13 +75,9 @@ pub walk-orders-requires : goal.walk-orders-requires
 walk-orders-requires c = let z = sized (goal.at.walk-orders-requires c).Else-not-lengths_right in record { sized = z; nonzero = omega (arith, c.if-pos-eq0.false) }
 
 pub passes-requires : goal.passes-requires
-passes-requires c = let z = sized (goal.at.passes-requires c).Else-not-lengths_right in record {
-  sized = z;
-  nonzero = omega (arith, c.if-pos-eq0.false);
-  last_named = λ e o.
-      all_named (looked (goal.at.passes-requires c).After-years_alike-alike) z (fits (goal.at.passes-requires c).Else-not-lengths_right) c.years_alike-alike.result (alike (goal.at.passes-requires c).After-years_alike-alike) (sym c.walk-orders.ensures ∙ e)
-      o (row_count (looked (goal.at.passes-requires c).After-years_alike-alike) - 1) (omega (arith, c.if-pos-eq0.false));
-}
+passes-requires c = let z = sized (goal.at.passes-requires c).Else-not-lengths_right in record { sized = z; nonzero = omega (arith, c.if-pos-eq0.false); last_named = λ e o.
+            all_named (looked (goal.at.passes-requires c).After-years_alike-alike) z (fits (goal.at.passes-requires c).Else-not-lengths_right) c.years_alike-alike.result (alike (goal.at.passes-requires c).After-years_alike-alike (sized (goal.at.passes-requires c).Else-not-lengths_right)) (sym c.walk-orders.ensures ∙ e)
+            o (row_count (looked (goal.at.passes-requires c).After-years_alike-alike) - 1) (omega (arith, c.if-pos-eq0.false)) }
 
 pub returns-then-passes : goal.returns-then-passes
 returns-then-passes c =
@@ -86,9 +86,9 @@ returns-then-passes c =
     let fit = fits (goal.at.returns-then-passes c).Else-not-lengths_right in
     let y = c.passes.ensures c.if-passes.true in
     let r = sym c.walk-orders.ensures ∙ y.all_right in
-    let one = alike (goal.at.returns-then-passes c).After-years_alike-alike (own_up t z fit _ (alike (goal.at.returns-then-passes c).After-years_alike-alike) r) y.one in
-    let says = ends_say t one (all_named t z fit _ (alike (goal.at.returns-then-passes c).After-years_alike-alike) r) (all_up t z fit _ (alike (goal.at.returns-then-passes c).After-years_alike-alike) r) y.ends in
-    sym (orders_say t z fit says _ (alike (goal.at.returns-then-passes c).After-years_alike-alike) ∙ ap refusal_after r)
+    let one = alike (goal.at.returns-then-passes c).After-years_alike-alike z (own_up t z fit _ (alike (goal.at.returns-then-passes c).After-years_alike-alike (sized (goal.at.returns-then-passes c).Else-not-lengths_right)) r) y.one in
+    let says = ends_say t one (all_named t z fit _ (alike (goal.at.returns-then-passes c).After-years_alike-alike (sized (goal.at.returns-then-passes c).Else-not-lengths_right)) r) (all_up t z fit _ (alike (goal.at.returns-then-passes c).After-years_alike-alike (sized (goal.at.returns-then-passes c).Else-not-lengths_right)) r) y.ends in
+    sym (orders_say t z fit says _ (alike (goal.at.returns-then-passes c).After-years_alike-alike (sized (goal.at.returns-then-passes c).Else-not-lengths_right)) ∙ ap refusal_after r)
 
 pub first_refusal-requires : goal.first_refusal-requires
 first_refusal-requires c = let z = sized (goal.at.first_refusal-requires c).Else-not-lengths_right in omega arith
@@ -98,4 +98,5 @@ returns c =
     let t = checked (goal.at.returns c).Else-not-lengths_right in
     c.first_refusal.ensures
     ∙ ap (λ n. refusal_with n c.walk-orders.result) (rows_alone t.rows t.pos t.osp)
-    ∙ sym (refusal_with_lem t (sized (goal.at.returns c).Else-not-lengths_right) c.walk-orders.result (by_orders (goal.at.returns c).After-walk-orders))
+    ∙ sym (refusal_with_lem t (sized (goal.at.returns c).Else-not-lengths_right) c.walk-orders.result (by_orders (goal.at.returns c).After-walk-orders (sized (goal.at.returns c).Else-not-lengths_right)
+    (fits (goal.at.returns c).Else-not-lengths_right) (alike (goal.at.returns c).After-years_alike-alike (sized (goal.at.returns c).Else-not-lengths_right))))

@@ -1,5 +1,5 @@
 -- `table_tests::ends_right` meets its contract: the last row, and the rows that POS and OSP have last.
-use Prim.Native.Nat.{◌-◌}
+use Prim.Native.Nat.{ℕ, ◌-◌}
 use mathlib.Core.Path.{◌≡◌, ◌∙◌, ap, ap₂}
 use native.Mathlib.Omega.{arith}
 use lib.ListN.{length}
@@ -12,18 +12,14 @@ use Rattle.table_tests.proofs.ends_right.Goals.{After-number_at-by_object, After
 abbrev lent : Start → Tables
 lent s = tables_of s.args.rows.now s.args.pos.now s.args.osp.now
 
--- the last place, by the length of a list
-last_is : (s : Start) → length s.args.pos.now - 1 ≡ row_count (lent s) - 1
-last_is s = let z = s.requires.sized.pos_length in omega arith
-
-own_last : (o : After-own_row-own) → o.own_row-own.result.0 ≡ row_of_last Spo (lent o.before.before.before.before)
-own_last o = o.own_row-own.ensures ∙ last_is o.before.before.before.before
+own_last : (o : After-own_row-own) → o.own_row-own.result.0 ≡ row_of_last Spo ((tables_of o.args.rows.now o.args.pos.now o.args.osp.now))
+own_last o = o.own_row-own.ensures ∙ ap (λ (k : ℕ). k - 1) o.requires.sized.pos_length
 
 pos_last : (n : After-number_at-by_predicate) → n.number_at-by_predicate.result.0 ≡ row_of_last Pos (tables_of n.args.rows.now n.args.pos.now n.args.osp.now)
-pos_last n = n.number_at-by_predicate.ensures ∙ ap (row_at Pos (tables_of n.args.rows.now n.args.pos.now n.args.osp.now)) (last_is n.before.before.before.before.before)
+pos_last n = n.number_at-by_predicate.ensures ∙ ap (λ (k : ℕ). row_at Pos (tables_of n.args.rows.now n.args.pos.now n.args.osp.now) (k - 1)) n.requires.sized.pos_length
 
 osp_last : (n : After-number_at-by_object) → n.number_at-by_object.result.0 ≡ row_of_last Osp (tables_of n.args.rows.now n.args.pos.now n.args.osp.now)
-osp_last n = n.number_at-by_object.ensures ∙ ap (row_at Osp (tables_of n.args.rows.now n.args.pos.now n.args.osp.now)) (last_is n.before.before.before.before.before.before)
+osp_last n = n.number_at-by_object.ensures ∙ ap (λ (k : ℕ). row_at Osp (tables_of n.args.rows.now n.args.pos.now n.args.osp.now) (k - 1)) n.requires.sized.pos_length
 
 pub field-predicate-requires : goal.field-predicate-requires
 field-predicate-requires c =

@@ -11,20 +11,18 @@ slice_bounds-sort-end-2 c =
 
 pub sort-requires : goal.sort-requires
 sort-requires c = let up = c.args.upload.now in
-    let n = length-take-le c.mark_kinds-right.result c.mark_kinds-right.new.list c.mark_kinds-right.ensures.listed.fits in record { list_value = front_named up c.mark_kinds-right.new.list c.mark_kinds-right.result c.mark_kinds-right.ensures.listed; list_in_bounds = omega (arith, n, c.mark_kinds-right.ensures.listed.fits, c.mark_kinds-right.auto.1, c.requires.list_in_bounds) }
+    let n = length-take-le c.mark_kinds-right.result c.mark_kinds-right.new.list c.mark_kinds-right.ensures.listed.fits in record { list_value = front_named up c.mark_kinds-right.new.list c.mark_kinds-right.result c.mark_kinds-right.ensures.listed; list_in_bounds = omega (arith, n, c.mark_kinds-right.ensures.listed.fits, c.mark_kinds-right.auto.fates, c.requires.list_in_bounds) }
 
 pub slice_bounds-mark_repeats-end-2 : goal.slice_bounds-mark_repeats-end-2
 slice_bounds-mark_repeats-end-2 c =
-    let s = start (goal.at.slice_bounds-mark_repeats-end-2 c).After-list-2-1 in
-    front_length s.args.upload.now c.mark_kinds-right.last.1.0 c.mark_kinds-right.result c.mark_kinds-right.ensures.listed c.sort.new.list c.sort.ensures
+    front_length c.args.upload.now c.mark_kinds-right.new.list c.mark_kinds-right.result c.mark_kinds-right.ensures.listed c.sort.new.list c.sort.ensures
 
 pub mark_repeats-requires : goal.mark_repeats-requires
-mark_repeats-requires c = let s = start (goal.at.mark_repeats-requires c).After-list-2-1 in record { list_value = sorted_named s.args.upload.now c.mark_kinds-right.last.1.0 c.mark_kinds-right.result c.mark_kinds-right.ensures.listed c.sort.new.list c.sort.ensures; upload_in_bounds = omega (arith, c.mark_kinds-right.kept.1, s.pre.0.judged) }
+mark_repeats-requires c = record { list_value = sorted_named c.args.upload.now c.mark_kinds-right.new.list c.mark_kinds-right.result c.mark_kinds-right.ensures.listed c.sort.new.list c.sort.ensures; upload_in_bounds = omega (arith, c.mark_kinds-right.auto.fates, c.requires.fits.judged) }
 
 pub returns : goal.returns
-returns c = let s = start (goal.at.returns c).After-list-2-1 in
-    let up = s.args.upload.now in record {
-      listed = listed up c.mark_kinds-right.last.1.0 c.mark_kinds-right.result c.mark_kinds-right.ensures.listed c.sort.last.1.1.0 c.sort.ensures;
-      judged = judged up c.mark_kinds-right.last.1.0 c.mark_kinds-right.result c.mark_kinds-right.ensures.listed c.sort.last.1.1.0 c.sort.ensures _ _
-          (omega (arith, c.mark_kinds-right.kept.1, s.pre.0.judged)) c.mark_kinds-right.ensures.judged c.mark_repeats.ensures;
-    }
+returns c = let up = c.args.upload.now in record {
+  listed = listed up c.mark_kinds-right.new.list c.mark_kinds-right.result c.mark_kinds-right.ensures.listed c.sort.new.list c.sort.ensures;
+  judged = judged up c.mark_kinds-right.new.list c.mark_kinds-right.result c.mark_kinds-right.ensures.listed c.sort.new.list c.sort.ensures _ _
+      (omega (arith, c.mark_kinds-right.auto.fates, c.requires.fits.judged)) c.mark_kinds-right.ensures.judged c.mark_repeats.ensures;
+}

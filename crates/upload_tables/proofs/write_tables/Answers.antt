@@ -36,6 +36,6 @@ write_lists-requires c =
 
 pub returns : goal.returns
 returns c = let a = c.args in
-    let rows : c.write_rows-end.last.1.1.1.0 ≡ over (made_rows a.upload.now) a.rows.now =
+    let rows : c.write_rows-end.new.rows ≡ over (made_rows a.upload.now) a.rows.now =
     c.write_rows-end.ensures.rows_after ∙ ap (λ ws. over ws a.rows.now) (words_made (goal.at.returns c).Start) in
     let first = ap₂ take (sym (made_size (goal.at.returns c).Start)) rows ∙ take_over (made_rows a.upload.now) a.rows.now in record { value = c.write_rows-end.ensures.value ∙ ap length (words_made (goal.at.returns c).Start) ∙ made_size (goal.at.returns c).Start; rows_after = rows; pos_after = c.write_lists.ensures.pos_after ∙ ap (λ rs. over (row_numbers Pos rs) a.pos.now) first; osp_after = c.write_lists.ensures.osp_after ∙ ap (λ rs. over (row_numbers Osp rs) a.osp.now) first }

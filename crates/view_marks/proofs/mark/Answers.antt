@@ -47,7 +47,7 @@ loop-row-init c =
     )
 
 pub next_seen-this-requires : goal.next_seen-this-requires
-next_seen-this-requires c = let p = c.requires in record { rows_right = p.0; grant_value = p.1.0; row_in_bounds = (omega arith, p.1.1.0); from_bound = c.loop-row.invariant.4 (omega arith); seen_value = c.loop-row.invariant.5 }
+next_seen-this-requires c = record { rows_right = c.requires.rows_right; grant_value = c.requires.grant_value; row_in_bounds = (omega arith, c.requires.column_count_in_bounds.0); from_bound = c.loop-row.invariant.4 (omega arith); seen_value = c.loop-row.invariant.5 }
 
 pub one_more-number-requires : goal.one_more-number-requires
 one_more-number-requires c =

@@ -8,19 +8,18 @@ use Rattle.view_marks.proofs.Subjects.{seen_alike, first_next}
 use Rattle.view_marks.proofs.next_seen.Goals as goal
 
 pub first_seen-requires : goal.first_seen-requires
-first_seen-requires c = let p = c.requires in record { rows_right = p.0; grant_value = p.1.0; first_of_subject = first_next c.args.rows.now p.0 c.args.row p.1.1.0.0 (λ h. absurd (omega arith)); column_count_in_bounds = p.1.1.0.1; from_bound = zero-le }
+first_seen-requires c = record { rows_right = c.requires.rows_right; grant_value = c.requires.grant_value; first_of_subject = first_next c.args.rows.now c.requires.rows_right c.args.row c.requires.row_in_bounds.0 (λ h. absurd (omega arith)); column_count_in_bounds = c.requires.row_in_bounds.1; from_bound = zero-le }
 
 -- the first of another year
 pub first_seen-requires-then-year-field : goal.first_seen-requires-then-year-field
 first_seen-requires-then-year-field c = let rows = c.args.rows.now in
-    let row = c.args.row in
-    let p = c.requires in record {
-      rows_right = p.0;
-      grant_value = p.1.0;
-      first_of_subject = first_next rows p.0 row p.1.1.0.0
+    let row = c.args.row in record {
+      rows_right = c.requires.rows_right;
+      grant_value = c.requires.grant_value;
+      first_of_subject = first_next rows c.requires.rows_right row c.requires.row_in_bounds.0
           (λ h. rw (ne_eqb (field_of rows (row - 1) year_column) (field_of rows row year_column)
           (λ e. c.if-year-field.true (c.field-year.ensures ∙ e ∙ sym c.field.ensures))));
-      column_count_in_bounds = p.1.1.0.1;
+      column_count_in_bounds = c.requires.row_in_bounds.1;
       from_bound = zero-le;
     }
 
@@ -38,16 +37,15 @@ returns-then-earlier-field c =
 pub first_seen-requires-2 : goal.first_seen-requires-2
 first_seen-requires-2 c = let rows = c.args.rows.now in
     let row = c.args.row in
-    let p = c.requires in
     let e = sym c.field-year.ensures ∙ c.if-year-field.false ∙ c.field.ensures in record {
-      rows_right = p.0;
-      grant_value = p.1.0;
-      first_of_subject = first_next rows p.0 row p.1.1.0.0
+      rows_right = c.requires.rows_right;
+      grant_value = c.requires.grant_value;
+      first_of_subject = first_next rows c.requires.rows_right row c.requires.row_in_bounds.0
           (λ h. rw (
             eq-eqb (field_of rows (row - 1) year_column) (field_of rows row year_column) e,
             ne_eqb (field_of rows (row - 1) subject_column) (field_of rows row subject_column)
                 (λ d. c.if-earlier-field.false (c.field-earlier.ensures ∙ d ∙ sym c.field-2.ensures)),
           ));
-      column_count_in_bounds = p.1.1.0.1;
-      from_bound = p.1.1.1.0 (omega arith) e;
+      column_count_in_bounds = c.requires.row_in_bounds.1;
+      from_bound = c.requires.from_bound (omega arith) e;
     }

@@ -33,7 +33,7 @@ abbrev year_word : Loop → ℕ
 year_word l = field_of (rows l) l.loop-place.place year_column
 
 abbrev end : Loop → ℕ
-end l = range_end (tables l.before.before.before.before.before.before) (year_prefix Spo (year_word l))
+end l = range_end ((tables_of l.args.rows.now l.args.pos.now l.args.osp.now)) (year_prefix Spo (year_word l))
 
 there : (c : In-loop-place) → c.loop-place.place < row_count (tables_of c.args.rows.now c.args.pos.now c.args.osp.now)
 there c = omega arith

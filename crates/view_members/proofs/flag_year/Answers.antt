@@ -31,19 +31,19 @@ abbrev year : Loop → ℕ
 year l = l.args.year
 
 abbrev row : Loop → ℕ
-row l = row_at Pos (tables l.before.before.before.before.before.before.before.before) l.loop-place.place
+row l = row_at Pos ((tables_of l.args.rows.now l.args.pos.now l.args.osp.now)) l.loop-place.place
 
 -- the range ends among the places
-most : (l : Loop) → range_end (tables l.before.before.before.before.before.before.before.before) (members_of (year l) (membership l)) ≤ row_count (tables l.before.before.before.before.before.before.before.before)
-most l = end_le_count (tables l.before.before.before.before.before.before.before.before) (members_of (year l) (membership l))
+most : (l : Loop) → range_end ((tables_of l.args.rows.now l.args.pos.now l.args.osp.now)) (members_of (year l) (membership l)) ≤ row_count ((tables_of l.args.rows.now l.args.pos.now l.args.osp.now))
+most l = end_le_count ((tables_of l.args.rows.now l.args.pos.now l.args.osp.now)) (members_of (year l) (membership l))
 
 inside : (c : In-loop-place) → c.loop-place.place < range_end (tables_of c.args.rows.now c.args.pos.now c.args.osp.now) (members_of (c.args.year) (c.args.membership))
 inside c = omega (arith, c.loop-place.invariant.3)
 
 there : (c : In-loop-place) → c.loop-place.place < row_count (tables_of c.args.rows.now c.args.pos.now c.args.osp.now)
-there c = omega (arith, inside c, most c.before)
+there c = omega (arith, inside c, end_le_count (tables_of c.args.rows.now c.args.pos.now c.args.osp.now) (members_of c.args.year c.args.membership))
 
-long : (l : Loop) → row_count (tables l.before.before.before.before.before.before.before.before) ≤ length l.loop-place.flags
+long : (l : Loop) → row_count ((tables_of l.args.rows.now l.args.pos.now l.args.osp.now)) ≤ length l.loop-place.flags
 long l = omega (arith, l.requires.flagged_as.long, l.loop-place.invariant.0)
 
 pub halved-start-requires : goal.halved-start-requires

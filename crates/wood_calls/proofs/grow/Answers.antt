@@ -69,9 +69,9 @@ write_tables-end-requires c = let a = c.args in
     let r = room_parts (count (goal.at.write_tables-end-requires c).After-wide-count) (length a.rows.now) (length a.pos.now) (length a.osp.now) (has (goal.at.write_tables-end-requires c).Else-not-has_room) in record { stems_le_most_stems = (asked_few a.stems a.year (asked (goal.at.write_tables-end-requires c).After-wide-count), asked_ended a.stems a.year (asked (goal.at.write_tables-end-requires c).After-wide-count), counted (goal.at.write_tables-end-requires c).After-wide-count); column_count_in_bounds = (r.for_rows, r.for_pos, r.for_osp); most_rows_in_bounds = enough (length {A = ℕ} (replicate (most_rows / 2) 0)) (length-replicate {A = ℕ} (most_rows / 2) 0) }
 
 pub returns : goal.returns
-returns c = let g = c.write_tables-end.ensures in
+returns c =
     let shown = call_told grow_schema grow_is_right (lent (goal.at.returns c).Start)
     (same_result (wood_in (lent (goal.at.returns c).Start)) (lent (goal.at.returns c).Start).buffers (rows_for (lent (goal.at.returns c).Start).stems) (grow_counts (lent (goal.at.returns c).Start)) c.write_tables-end.result (count (goal.at.returns c).After-wide-count) _ _ _
-    (g.0 ∙ ap (λ n. n * column_count) (counted (goal.at.returns c).After-wide-count)) (counted (goal.at.returns c).After-wide-count) g.1.0 g.1.1.0 g.1.1.1
+    (c.write_tables-end.ensures.value ∙ ap (λ n. n * column_count) (counted (goal.at.returns c).After-wide-count)) (counted (goal.at.returns c).After-wide-count) c.write_tables-end.ensures.rows_after c.write_tables-end.ensures.pos_after c.write_tables-end.ensures.osp_after
     ∙ served (lent (goal.at.returns c).Start) (asked (goal.at.returns c).After-wide-count) (count (goal.at.returns c).After-wide-count) (counted (goal.at.returns c).After-wide-count) (has (goal.at.returns c).Else-not-has_room)) in
     record { osp_after = shown.0; number = shown.1 }

@@ -1,13 +1,15 @@
 -- `merge_backwards` meets its contract: the words that are done and the untouched ones behind them make up the merged list.
-use Prim.Native.Nat.{ℕ, ◌+◌, ◌-◌, ◌≤◌}
+use Prim.Native.Nat.{ℕ, ◌+◌, ◌-◌, ◌≤◌, ◌/◌}
 use native.Mathlib.Omega.{arith}
 use mathlib.Core.Path.{◌≡◌, refl, sym, ◌∙◌}
-use lib.ListN.{length}
+use lib.ListN.{length, drop}
+use mathlib.Core.List.{◌++◌}
 use Rattle.lists.specs.declared.Comes.{Comes}
 use Rattle.lists.specs.declared.Comes.TheVariants.{Before, Same, After}
 use Rattle.list_group_merges.proofs.WalkSteps.{old_left, new_left}
 use Rattle.list_group_merges.proofs.HalfMerges.{half_start, half_below, half_first, half_room, half_new, half_old, half_puts}
-use Rattle.list_group_merges.proofs.HalfMerges.{half_next, half_end}
+use Rattle.list_group_merges.specs.MergingBackwards.{merged_records}
+use Rattle.list_group_merges.proofs.HalfMerges.{HalfMerged, half_next, half_end}
 use Rattle.list_group_merges.proofs.merge_backwards.merge_backwards.Goals as goal
 use Rattle.list_group_merges.proofs.merge_backwards.merge_backwards.Goals.{After-put_record}
 
@@ -27,8 +29,9 @@ old_there p s told other = half_old p.loop-y.invariant (omega arith) s (sym p.pi
 -- the invariant of the next turn, by the side
 goes_on_fact : (p : Placed) (s : Comes) → side p ≡ s →
     let a = p.args in
-    invariant-loop a.g a.kept.now a.used a.list.now a.words (a.g + 8) a.used (length a.list.now) a.words
-    p.put_record.last.1.0 (old_left a.g s p.loop-y.x) (new_left a.g s p.loop-y.y) (p.loop-y.to - (a.g + 8))
+    HalfMerged a.g a.kept.now a.list.now
+    (merged_records a.g a.kept.now a.list.now (a.used / (a.g + 8)) (length a.list.now / (a.g + 8)) ++ drop a.words a.kept.now)
+    p.put_record.new.kept (old_left a.g s p.loop-y.x) (new_left a.g s p.loop-y.y) (p.loop-y.to - (a.g + 8))
 goes_on_fact p s told = rw (sym told) (half_next p.loop-y.invariant (omega arith) (side p) (sym p.pick-side.ensures) _ p.put_record.ensures)
 
 pub loop-y-init : goal.loop-y-init
@@ -56,7 +59,7 @@ pub overflow_sub-y : goal.overflow_sub-y
 overflow_sub-y c = new_there (goal.at.overflow_sub-y c).After-put_record Before c.in-Before.is
 
 pub loop-y-smaller-in-Before : goal.loop-y-smaller-in-Before
-loop-y-smaller-in-Before c = omega (arith, sub-y c)
+loop-y-smaller-in-Before c = omega (arith, new_there (goal.at.loop-y-smaller-in-Before c).After-put_record Before c.in-Before.is)
 
 pub loop-y-preserved-in-Before : goal.loop-y-preserved-in-Before
 loop-y-preserved-in-Before c = goes_on_fact (goal.at.loop-y-preserved-in-Before c).After-put_record Before c.in-Before.is
@@ -65,7 +68,10 @@ pub overflow_sub-x : goal.overflow_sub-x
 overflow_sub-x c = old_there (goal.at.overflow_sub-x c).After-put_record After c.in-After.is (λ p. let z : ◌≡◌ {A = ℕ} 0 1 = cc in omega arith)
 
 pub loop-y-smaller-in-After : goal.loop-y-smaller-in-After
-loop-y-smaller-in-After c = omega (arith, sub-x c)
+loop-y-smaller-in-After c = omega (
+  arith,
+  old_there (goal.at.loop-y-smaller-in-After c).After-put_record After c.in-After.is (λ p. let z : ◌≡◌ {A = ℕ} 0 1 = cc in omega arith),
+)
 
 pub loop-y-preserved-in-After : goal.loop-y-preserved-in-After
 loop-y-preserved-in-After c = goes_on_fact (goal.at.loop-y-preserved-in-After c).After-put_record After c.in-After.is
@@ -77,7 +83,7 @@ pub overflow_sub-y-in-Same : goal.overflow_sub-y-in-Same
 overflow_sub-y-in-Same c = new_there (goal.at.overflow_sub-y-in-Same c).After-put_record Same c.in-Same.is
 
 pub loop-y-smaller : goal.loop-y-smaller
-loop-y-smaller c = omega (arith, sub-y-2 c)
+loop-y-smaller c = omega (arith, new_there (goal.at.loop-y-smaller c).After-put_record Same c.in-Same.is)
 
 pub loop-y-preserved : goal.loop-y-preserved
 loop-y-preserved c = goes_on_fact (goal.at.loop-y-preserved c).After-put_record Same c.in-Same.is

@@ -19,7 +19,7 @@ union_of-requires c = (
 pub returns-then-kept-w : goal.returns-then-kept-w
 returns-then-kept-w c =
     λ vs m e. merge_small c.args.g c.args.kept.now c.args.used c.args.list.now c.requires.1 c.requires.2
-    c.type_inv.kept
+    c.slice_known-1.given
     c.type_inv.list vs m e c.in-Records.n
     (sym c.union_of.ensures ∙ c.in-Records.is) c.if-kept-w.true
 
@@ -44,14 +44,14 @@ merge_backwards-requires c =
 pub returns-in-Overflows : goal.returns-in-Overflows
 returns-in-Overflows c =
     λ vs m e. merge_over c.args.g c.args.kept.now c.args.used c.args.list.now c.requires.1 c.requires.2
-    c.type_inv.kept c.type_inv.list vs m e
+    c.slice_known-1.given c.type_inv.list vs m e
     (sym c.union_of.ensures ∙ c.in-Overflows.is)
 
 pub returns-else-kept-w : goal.returns-else-kept-w
 returns-else-kept-w c =
     λ vs m e.
     merge_words c.args.g c.args.kept.now c.args.used c.args.list.now c.requires.1 c.requires.2
-    c.type_inv.kept
+    c.slice_known-1.given
     c.type_inv.list vs m e
     c.in-Records.n
     (sym c.union_of.ensures

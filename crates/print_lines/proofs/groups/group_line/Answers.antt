@@ -25,7 +25,8 @@ returns c = let a = c.args in
     let e = group_fields_most a.keys a.group.now (omega (arith, c.requires)) (omega (arith, c.requires)) (λ i. (word i).fits) in record {
       line = rw (group_text (group_in a.keys a.group.now))
           (whole_line group_word (group_fields (group_in a.keys a.group.now))
-          c.put_bytes-next.result c.put_fields-end.result c.put_byte.result a.line.now c.put_bytes-next.last.0 c.put_fields-end.new.line c.put_byte.new.line
+          c.put_bytes-next.result c.put_fields-end.result c.put_byte.result a.line.now c.put_bytes-next.new.line c.put_fields-end.new.line c.put_byte.new.line
           (omega (arith, c.requires)) c.put_bytes-next.ensures c.put_fields-end.ensures c.put_byte.ensures);
       room = omega (arith, c.put_bytes-next.ensures.0, c.put_fields-end.ensures.0, c.put_byte.ensures.0);
     }
+

@@ -19,12 +19,11 @@ returns-then-number-ne0 c =
     let a = c.args in
     let v = survey_of a.rows.now a.pos.now a.osp.now a.survey in
     let j : Joining = record { owner = a.owner; allowance = a.allowance; plan = a.plan.now; state = a.state.now } in
-    let f = c.join_right.ensures in
     let g = c.room_right-room.ensures in
     let e = join_number v a.plan.now a.state.now
     ((a.seen.lined && a.seen.rested) && (not (ltb a.seen.place a.seen.waiting) && not (ltb a.seen.found a.seen.resting)))
     (room_by a.seen.room a.seen.spare a.given a.kept 1) c.first_of-number.result c.query_number.result c.lists_number-late.result
-    c.first_of-number.ensures c.query_number.ensures (c.lists_number-late.ensures ∙ (λ i. number_of (first_failing (top_up_tests_by (f i) (g i))))) in
+    c.first_of-number.ensures c.query_number.ensures (c.lists_number-late.ensures ∙ (λ i. number_of (first_failing (top_up_tests_by (c.join_right.ensures i) (g i))))) in
     λ line aside is.
     subst (λ (d : Queueing). Decides (lent_as line a.given aside a.kept) d (join_queue_of v (lent_as line a.given aside a.kept) j))
     (sym c.refused.ensures)
@@ -34,24 +33,22 @@ pub entry_of-requires : goal.entry_of-requires
 entry_of-requires c =
     let a = c.args in
     let v = survey_of a.rows.now a.pos.now a.osp.now a.survey in
-    let f = c.join_right.ensures in
     let g = c.room_right-room.ensures in
     let entries = (a.seen.lined && a.seen.rested) && (not (ltb a.seen.place a.seen.waiting) && not (ltb a.seen.found a.seen.resting)) in
     let e = join_number v a.plan.now a.state.now entries
     (room_by a.seen.room a.seen.spare a.given a.kept 1) c.first_of-number.result c.query_number.result c.lists_number-late.result
-    c.first_of-number.ensures c.query_number.ensures (c.lists_number-late.ensures ∙ (λ i. number_of (first_failing (top_up_tests_by (f i) (g i))))) in
+    c.first_of-number.ensures c.query_number.ensures (c.lists_number-late.ensures ∙ (λ i. number_of (first_failing (top_up_tests_by (c.join_right.ensures i) (g i))))) in
     joined_short v a.plan.now a.state.now entries a.seen a.given a.kept (sym e ∙ c.if-number-ne0.false)
 
 pub admitted-requires : goal.admitted-requires
 admitted-requires c =
     let a = c.args in
     let v = survey_of a.rows.now a.pos.now a.osp.now a.survey in
-    let f = c.join_right.ensures in
     let g = c.room_right-room.ensures in
     let entries = (a.seen.lined && a.seen.rested) && (not (ltb a.seen.place a.seen.waiting) && not (ltb a.seen.found a.seen.resting)) in
     let e = join_number v a.plan.now a.state.now entries
     (room_by a.seen.room a.seen.spare a.given a.kept 1) c.first_of-number.result c.query_number.result c.lists_number-late.result
-    c.first_of-number.ensures c.query_number.ensures (c.lists_number-late.ensures ∙ (λ i. number_of (first_failing (top_up_tests_by (f i) (g i))))) in
+    c.first_of-number.ensures c.query_number.ensures (c.lists_number-late.ensures ∙ (λ i. number_of (first_failing (top_up_tests_by (c.join_right.ensures i) (g i))))) in
     let r = joined_room v a.plan.now a.state.now entries a.seen a.given a.kept (sym e ∙ c.if-number-ne0.false) in
     let h = r.entries in omega arith
 
@@ -60,12 +57,11 @@ returns c =
     let a = c.args in
     let v = survey_of a.rows.now a.pos.now a.osp.now a.survey in
     let j : Joining = record { owner = a.owner; allowance = a.allowance; plan = a.plan.now; state = a.state.now } in
-    let f = c.join_right.ensures in
     let g = c.room_right-room.ensures in
     let e = join_number v a.plan.now a.state.now
     ((a.seen.lined && a.seen.rested) && (not (ltb a.seen.place a.seen.waiting) && not (ltb a.seen.found a.seen.resting)))
     (room_by a.seen.room a.seen.spare a.given a.kept 1) c.first_of-number.result c.query_number.result c.lists_number-late.result
-    c.first_of-number.ensures c.query_number.ensures (c.lists_number-late.ensures ∙ (λ i. number_of (first_failing (top_up_tests_by (f i) (g i))))) in
+    c.first_of-number.ensures c.query_number.ensures (c.lists_number-late.ensures ∙ (λ i. number_of (first_failing (top_up_tests_by (c.join_right.ensures i) (g i))))) in
     λ line aside is.
     subst (λ (d : Queueing). Decides (lent_as line a.given aside a.kept) d (join_queue_of v (lent_as line a.given aside a.kept) j))
     (sym (c.admitted.ensures ∙ ap (λ (x : Entry). admitted_by x a.given a.kept) c.entry_of.ensures))

@@ -12,31 +12,27 @@ use Rattle.queue_tests.proofs.topping.top_up.Goals as goal
 pub returns-then-number-ne0 : goal.returns-then-number-ne0
 returns-then-number-ne0 c =
     let a = c.args in
-    let f = c.top_up_right.ensures in
     let g = c.room_right-room.ensures in
     λ line aside is its.
     subst (λ (d : Queueing). Decides (lent_as line a.given aside a.kept) d (top_up_of (lent_as line a.given aside a.kept) a.owner a.amount))
     (sym c.refused.ensures)
     (top_up_refuses line a.given aside a.kept a.owner a.amount a.seen is c.lists_number-number.result
-    (c.lists_number-number.ensures ∙ (λ i. number_of (first_failing (top_up_tests_by (f i) (g i))))) c.if-number-ne0.true)
+    (c.lists_number-number.ensures ∙ (λ i. number_of (first_failing (top_up_tests_by (c.top_up_right.ensures i) (g i))))) c.if-number-ne0.true)
 
 pub topped-requires : goal.topped-requires
 topped-requires c =
-    let f = c.top_up_right.ensures in
     let g = c.room_right-room.ensures in
-    let e = sym (c.lists_number-number.ensures ∙ (λ i. number_of (first_failing (top_up_tests_by (f i) (g i))))) ∙ c.if-number-ne0.false in
+    let e = sym (c.lists_number-number.ensures ∙ (λ i. number_of (first_failing (top_up_tests_by (c.top_up_right.ensures i) (g i))))) ∙ c.if-number-ne0.false in
     let h = passed_room c.args.seen c.args.given c.args.kept c.args.amount e in
     let k = passed_entries c.args.seen c.args.given c.args.kept c.args.amount e in
     let r = h.entries in
-    let w = c.requires in
     (omega arith, omega arith)
 
 pub returns : goal.returns
 returns c =
     let a = c.args in
-    let f = c.top_up_right.ensures in
     let g = c.room_right-room.ensures in
-    let e = sym (c.lists_number-number.ensures ∙ (λ i. number_of (first_failing (top_up_tests_by (f i) (g i))))) ∙ c.if-number-ne0.false in
+    let e = sym (c.lists_number-number.ensures ∙ (λ i. number_of (first_failing (top_up_tests_by (c.top_up_right.ensures i) (g i))))) ∙ c.if-number-ne0.false in
     λ line aside is its.
     subst (λ (d : Queueing). Decides (lent_as line a.given aside a.kept) d (top_up_of (lent_as line a.given aside a.kept) a.owner a.amount))
     (sym (c.topped.ensures ∙ ap (topped_by a.seen.found a.given a.kept) c.with_allowance.ensures))

@@ -44,7 +44,6 @@ turn_outcome-requires c =
     let r = roomy a.seen.room a.seen.spare a.given a.kept 0 p.room_right_fact in
     let e = r.entries in
     let o = p.some_wait in
-    let b = c.requires in
     (omega arith, omega arith)
 
 pub returns : goal.returns

@@ -43,7 +43,7 @@ entry_with-requires c =
     let e = c.turn-turned.ensures.output_after in
     let b = bounded i in
     let f = ap (λ (r : TurnResult). r.answer.steps) e in
-    let h = b.steps in let w = c.requires in
+    let h = b.steps in
     omega arith
 
 pub returns : goal.returns

@@ -25,7 +25,7 @@ asked s = plan_of s.args.plan.now
 abbrev words : Start → List ℕ
 words s = s.args.state.now
 
-shape : (c : After-shared_slice_known-6-1) → shape_behind (asked c.before.before.before.before.before.before) (words c.before.before.before.before.before.before) ≡ true
+shape : (c : After-shared_slice_known-6-1) → shape_behind ((plan_of c.args.plan.now)) ((c.args.state.now)) ≡ true
 shape c = c.requires.state_value
 
 -- the terms of the branch that the first word names
@@ -56,37 +56,33 @@ pub terms-terms-requires : goal.terms-terms-requires
 terms-terms-requires c = given_read _ _ c.branch_part-part.ensures.branch
 
 pub places_right-walk-requires : goal.places_right-walk-requires
-places_right-walk-requires c = let e = c.cursor_in-from.ensures in record { right = c.requires.right; inside = level_there c.args.plan.now (words (goal.at.places_right-walk-requires c).Start) c.requires.plan_value (shape (goal.at.places_right-walk-requires c).After-shared_slice_known-6-1) c.cursor_in-from.result e.0 e.2 _ (terms_are (goal.at.places_right-walk-requires c).After-terms-terms) }
+places_right-walk-requires c = record { right = c.requires.right; inside = level_there c.args.plan.now (words (goal.at.places_right-walk-requires c).Start) c.requires.plan_value (shape (goal.at.places_right-walk-requires c).After-shared_slice_known-6-1) c.cursor_in-from.result c.cursor_in-from.ensures.0 c.cursor_in-from.ensures.2 _ (terms_are (goal.at.places_right-walk-requires c).After-terms-terms) }
 
 pub level_of-requires : goal.level_of-requires
 level_of-requires c =
-    let e = c.cursor_in-from.ensures in
-    (level_there c.args.plan.now (words (goal.at.level_of-requires c).Start) c.requires.plan_value (shape (goal.at.level_of-requires c).After-shared_slice_known-6-1) c.cursor_in-from.result e.0 e.2 _ (terms_are (goal.at.level_of-requires c).After-terms-terms)).0
+    (level_there c.args.plan.now (words (goal.at.level_of-requires c).Start) c.requires.plan_value (shape (goal.at.level_of-requires c).After-shared_slice_known-6-1) c.cursor_in-from.result c.cursor_in-from.ensures.0 c.cursor_in-from.ensures.2 _ (terms_are (goal.at.level_of-requires c).After-terms-terms)).0
 
 pub returns-then-walk : goal.returns-then-walk
 returns-then-walk c = let passes = c.if-walk.true in
     let ws = words (goal.at.returns-then-walk c).Start in
-    let e = c.cursor_in-from.ensures in
     let plan = c.args.plan.now in
     let from = c.cursor_in-from.result in
-    let g = c.branch_part-part.ensures in
     let k = c.places_right-walk.ensures.ends passes in record {
-      refused_value = sym (loads plan ws c.requires.plan_value (shape (goal.at.returns-then-walk c).After-shared_slice_known-6-1) from e.0 e.2 _ (terms_are (goal.at.returns-then-walk c).After-terms-terms) (lent (goal.at.returns-then-walk c).Start) _ c.places_right-walk.ensures.right_value passes);
+      refused_value = sym (loads plan ws c.requires.plan_value (shape (goal.at.returns-then-walk c).After-shared_slice_known-6-1) from c.cursor_in-from.ensures.0 c.cursor_in-from.ensures.2 _ (terms_are (goal.at.returns-then-walk c).After-terms-terms) (lent (goal.at.returns-then-walk c).Start) _ c.places_right-walk.ensures.right_value passes);
       from_value = λ z. (
-        e.0,
-        loads_held plan ws c.requires.plan_value (shape (goal.at.returns-then-walk c).After-shared_slice_known-6-1) from e.0 e.2 _ (terms_are (goal.at.returns-then-walk c).After-terms-terms) (lent (goal.at.returns-then-walk c).Start) _ c.places_right-walk.ensures.right_value
-            passes (begins plan c.branch_part-part.result.now c.branch.result _ (branch_start c.branch.result plan) from.at g.0 g.1
-            c.branch.ensures e.1) e.3 _ (c.places_right-walk.ensures.bound_after passes) _ c.level_of.ensures _ _,
+        c.cursor_in-from.ensures.0,
+        loads_held plan ws c.requires.plan_value (shape (goal.at.returns-then-walk c).After-shared_slice_known-6-1) from c.cursor_in-from.ensures.0 c.cursor_in-from.ensures.2 _ (terms_are (goal.at.returns-then-walk c).After-terms-terms) (lent (goal.at.returns-then-walk c).Start) _ c.places_right-walk.ensures.right_value
+            passes (begins plan c.branch_part-part.result.now c.branch.result _ (branch_start c.branch.result plan) from.at c.branch_part-part.ensures.start c.branch_part-part.ensures.branch
+            c.branch.ensures c.cursor_in-from.ensures.1) c.cursor_in-from.ensures.3 _ (c.places_right-walk.ensures.bound_after passes) _ c.level_of.ensures _ _,
       );
-      ends = λ z. loads_ends plan ws c.requires.plan_value (shape (goal.at.returns-then-walk c).After-shared_slice_known-6-1) from e.0 e.2 _ (terms_are (goal.at.returns-then-walk c).After-terms-terms) (lent (goal.at.returns-then-walk c).Start) _ (c.places_right-walk.ensures.bound_after passes)
+      ends = λ z. loads_ends plan ws c.requires.plan_value (shape (goal.at.returns-then-walk c).After-shared_slice_known-6-1) from c.cursor_in-from.ensures.0 c.cursor_in-from.ensures.2 _ (terms_are (goal.at.returns-then-walk c).After-terms-terms) (lent (goal.at.returns-then-walk c).Start) _ (c.places_right-walk.ensures.bound_after passes)
           c.level_of.result _ _ k.0 k.1 k.2;
     }
 
 pub returns : goal.returns
-returns c = let e = c.cursor_in-from.ensures in
-    let n = c.refused.ensures in record {
-      refused_value = n ∙ sym (loads_not c.args.plan.now (words (goal.at.returns c).Start) c.requires.plan_value (shape (goal.at.returns c).After-shared_slice_known-6-1) c.cursor_in-from.result e.0 e.2 _
-          (terms_are (goal.at.returns c).After-terms-terms) (lent (goal.at.returns c).Start) _ c.places_right-walk.ensures.right_value c.if-walk.false);
-      from_value = λ z. absurd (omega (arith, z, n));
-      ends = λ z. absurd (omega (arith, z, n));
-    }
+returns c = record {
+  refused_value = c.refused.ensures ∙ sym (loads_not c.args.plan.now (words (goal.at.returns c).Start) c.requires.plan_value (shape (goal.at.returns c).After-shared_slice_known-6-1) c.cursor_in-from.result c.cursor_in-from.ensures.0 c.cursor_in-from.ensures.2 _
+      (terms_are (goal.at.returns c).After-terms-terms) (lent (goal.at.returns c).Start) _ c.places_right-walk.ensures.right_value c.if-walk.false);
+  from_value = λ z. absurd (omega (arith, z, c.refused.ensures));
+  ends = λ z. absurd (omega (arith, z, c.refused.ensures));
+}

@@ -35,23 +35,23 @@ abbrev Counted : Type 0
 Counted = After-count_kept-kept
 
 abbrev fates : Counted → List ℕ
-fates k = k.judge-right.last.1.1.1.0
+fates k = k.judge-right.new.fates
 
-fates_right : (k : Counted) → Judged (upload k.before.before.before.before.before.before.before.before.before.before.before.before.before.before.before.before.before.before.before) (fates k)
+fates_right : (k : Counted) → Judged ((k.args.upload.now)) (fates k)
 fates_right k = k.judge-right.ensures.judged
 
-kept_is : (k : Counted) → k.count_kept-kept.result ≡ kept_count (upload k.before.before.before.before.before.before.before.before.before.before.before.before.before.before.before.before.before.before.before)
-kept_is k = k.count_kept-kept.ensures ∙ kept_counted (upload k.before.before.before.before.before.before.before.before.before.before.before.before.before.before.before.before.before.before.before) (fates k) (fates_right k)
+kept_is : (k : Counted) → k.count_kept-kept.result ≡ kept_count ((k.args.upload.now))
+kept_is k = k.count_kept-kept.ensures ∙ kept_counted ((k.args.upload.now)) (fates k) (fates_right k)
 
-dropped : (k : Counted) → upload_count (upload k.before.before.before.before.before.before.before.before.before.before.before.before.before.before.before.before.before.before.before) - k.count_kept-kept.result ≡ dropped_count (upload k.before.before.before.before.before.before.before.before.before.before.before.before.before.before.before.before.before.before.before)
-dropped k = dropped_is (upload k.before.before.before.before.before.before.before.before.before.before.before.before.before.before.before.before.before.before.before) k.count_kept-kept.result (kept_is k)
+dropped : (k : Counted) → upload_count ((k.args.upload.now)) - k.count_kept-kept.result ≡ dropped_count ((k.args.upload.now))
+dropped k = dropped_is ((k.args.upload.now)) k.count_kept-kept.result (kept_is k)
 
 pub judge-right-requires : goal.judge-right-requires
 judge-right-requires c = record { fits = record { few = few (goal.at.judge-right-requires c).Start; listed = omega (arith, few (goal.at.judge-right-requires c).Start, c.requires.list_len.0); judged = omega (arith, few (goal.at.judge-right-requires c).Start, c.requires.list_len.1) }; list_in_bounds = omega (arith, c.requires.list_len.0, c.requires.list_len.2) }
 
 pub count_kept-kept-requires : goal.count_kept-kept-requires
 count_kept-kept-requires c =
-    (omega (arith, few (goal.at.count_kept-kept-requires c).Start, c.requires.list_len.1, c.judge-right.auto.1), omega (arith, few (goal.at.count_kept-kept-requires c).Start))
+    (omega (arith, few (goal.at.count_kept-kept-requires c).Start, c.requires.list_len.1, c.judge-right.auto.spare), omega (arith, few (goal.at.count_kept-kept-requires c).Start))
 
 pub overflow_sub-count : goal.overflow_sub-count
 overflow_sub-count c = omega (arith, kept_is c, kept_most (upload (goal.at.overflow_sub-count c).Start))
@@ -79,30 +79,30 @@ fits c = room_parts _ _ _ _ _ _ (has c)
 
 pub slice_bounds-write_tables-end-2 : goal.slice_bounds-write_tables-end-2
 slice_bounds-write_tables-end-2 c =
-    sym (length-take-le c.judge-right.result c.judge-right.last.1.0 c.judge-right.ensures.listed.fits)
+    sym (length-take-le c.judge-right.result c.judge-right.new.list c.judge-right.ensures.listed.fits)
 
 pub write_tables-end-requires : goal.write_tables-end-requires
 write_tables-end-requires c = let f = fits (goal.at.write_tables-end-requires c).Else-not-has_room in record {
   ready_to_write = record {
     few = few (goal.at.write_tables-end-requires c).Start;
     listed = c.judge-right.ensures.listed.front;
-    long = omega (arith, few (goal.at.write_tables-end-requires c).Start, c.requires.list_len.1, c.judge-right.kept.1);
+    long = omega (arith, few (goal.at.write_tables-end-requires c).Start, c.requires.list_len.1, c.judge-right.auto.spare);
     judged = fates_right (goal.at.write_tables-end-requires c).After-count_kept-kept;
     counted = kept_is (goal.at.write_tables-end-requires c).After-count_kept-kept;
   };
   column_count_in_bounds = (f.for_rows, f.for_pos, f.for_osp);
-  most_rows_in_bounds = omega (arith, c.requires.list_len.2, c.judge-right.kept.1);
+  most_rows_in_bounds = omega (arith, c.requires.list_len.2, c.judge-right.auto.spare);
 }
 
 pub write_report-told-requires : goal.write_report-told-requires
-write_report-told-requires c = record { count_in_bounds = (omega (arith, few (goal.at.write_report-told-requires c).Start, c.requires.list_len.1, c.judge-right.kept.1), omega (arith, few (goal.at.write_report-told-requires c).Start)); count_in_bounds_2 = omega (arith, ap length (report_words_lem (upload (goal.at.write_report-told-requires c).Start) (fates (goal.at.write_report-told-requires c).After-count_kept-kept) (fates_right (goal.at.write_report-told-requires c).After-count_kept-kept)), report_length (upload (goal.at.write_report-told-requires c).Start), dropped (goal.at.write_report-told-requires c).After-count_kept-kept, (fits (goal.at.write_report-told-requires c).Else-not-has_room).for_report) }
+write_report-told-requires c = record { count_in_bounds = (omega (arith, few (goal.at.write_report-told-requires c).Start, c.requires.list_len.1, c.judge-right.auto.spare), omega (arith, few (goal.at.write_report-told-requires c).Start)); count_in_bounds_2 = omega (arith, ap length (report_words_lem (upload (goal.at.write_report-told-requires c).Start) (fates (goal.at.write_report-told-requires c).After-count_kept-kept) (fates_right (goal.at.write_report-told-requires c).After-count_kept-kept)), report_length (upload (goal.at.write_report-told-requires c).Start), dropped (goal.at.write_report-told-requires c).After-count_kept-kept, (fits (goal.at.write_report-told-requires c).Else-not-has_room).for_report) }
 
 pub returns : goal.returns
 returns c =
     let up = upload (goal.at.returns c).Start in
     let n = kept_is (goal.at.returns c).After-count_kept-kept in
     let report = report_words_lem up (fates (goal.at.returns c).After-count_kept-kept) (fates_right (goal.at.returns c).After-count_kept-kept) in
-    same_result (lent (goal.at.returns c).Start) c.write_tables-end.result c.count_kept-kept.result c.write_report-told.result c.write_tables-end.last.1.1.1.1.0 c.write_tables-end.last.1.1.1.1.1.0
-    c.write_tables-end.last.1.1.1.1.1.1.0 c.write_report-told.new.report (c.write_tables-end.ensures.value ∙ ap (λ m. m * column_count) n) n (c.write_report-told.ensures.value ∙ ap length report)
+    same_result (lent (goal.at.returns c).Start) c.write_tables-end.result c.count_kept-kept.result c.write_report-told.result c.write_tables-end.new.rows c.write_tables-end.new.pos
+    c.write_tables-end.new.osp c.write_report-told.new.report (c.write_tables-end.ensures.value ∙ ap (λ m. m * column_count) n) n (c.write_report-told.ensures.value ∙ ap length report)
     c.write_tables-end.ensures.rows_after c.write_tables-end.ensures.pos_after c.write_tables-end.ensures.osp_after (c.write_report-told.ensures.report_after ∙ ap (λ ws. over ws c.args.report.now) report)
     ∙ served (lent (goal.at.returns c).Start) c.requires.upload_value c.count_kept-kept.result (upload_count up - c.count_kept-kept.result) n (dropped (goal.at.returns c).After-count_kept-kept) (has (goal.at.returns c).Else-not-has_room)

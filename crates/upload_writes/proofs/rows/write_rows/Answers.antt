@@ -18,7 +18,7 @@ use Rattle.tables.specs.RowLists.{in_rows}
 use Rattle.upload_writes.specs.Writing.{is_kept_in, kept_words}
 use Rattle.upload_writes.proofs.Written.{written_none, written_yes, written_no, written_part}
 use Rattle.upload_writes.proofs.rows.write_rows.Goals as goal
-use Rattle.upload_writes.proofs.rows.write_rows.Goals.{After-shared_slice_known-in-loop-place-2-1, At-loop-place, Else-fate-eq-KEPT, Then-fate-eq-KEPT}
+use Rattle.upload_writes.proofs.rows.write_rows.Goals.{At-loop-place, Else-fate-eq-KEPT, Then-fate-eq-KEPT}
 
 abbrev Loop : Type 0
 Loop = At-loop-place
@@ -63,17 +63,11 @@ room l h e =
     omega (arith, l.loop-place.invariant.2)
 
 -- what the test of a fate says
-abbrev AtTest : Type 0
-AtTest = After-shared_slice_known-in-loop-place-2-1
-
-fate_is : (k : AtTest) → get_or k.args.fates.now k.wide.result 0 ≡ get_or k.args.fates.now (row k.before.before.before.before) 0
-fate_is k = ap (λ r. get_or k.args.fates.now r 0) k.wide.ensures
-
 is_kept_lem : (c : Then-fate-eq-KEPT) → is_kept_in c.args.fates.now ((get_or (c.args.list.now) c.loop-place.place 0)) ≡ true
-is_kept_lem c = eq-eqb _ _ (sym (fate_is c.before) ∙ c.if-fate-eq-KEPT.true)
+is_kept_lem c = eq-eqb _ _ (sym (ap (λ r. get_or c.args.fates.now r 0) c.wide.ensures) ∙ c.if-fate-eq-KEPT.true)
 
 not_kept : (c : Else-fate-eq-KEPT) → is_kept_in c.args.fates.now ((get_or (c.args.list.now) c.loop-place.place 0)) ≡ false
-not_kept c = ne_eqb _ _ (λ e. c.if-fate-eq-KEPT.false (fate_is c.before ∙ e))
+not_kept c = ne_eqb _ _ (λ e. c.if-fate-eq-KEPT.false (ap (λ r. get_or c.args.fates.now r 0) c.wide.ensures ∙ e))
 
 pub loop-place-init : goal.loop-place-init
 loop-place-init c =

@@ -39,24 +39,24 @@ lent s =
     s.args.view-rows.now s.args.view-pos.now s.args.view-osp.now
 
 abbrev marks : Marks → List ℕ
-marks m = m.mark-seen.last.1.1.1.0
+marks m = m.mark-seen.new.marks
 
 abbrev flags : Marks → List ℕ
-flags m = m.flag_members.last.1.1.1.1.1.0
+flags m = m.flag_members.new.flags
 
 -- as many are counted as are visible
-counted : (m : Marks) → m.mark-seen.result ≡ seen_in (lent m.before.before.before.before.before.before.before.before.before.before.before.before.before.before.before)
+counted : (m : Marks) → m.mark-seen.result ≡ seen_in ((view_input m.args.rows.now m.args.pos.now m.args.osp.now m.args.grant.now m.args.membership m.args.view-rows.now m.args.view-pos.now m.args.view-osp.now))
 counted m =
     m.mark-seen.ensures.value
     ∙ number_visible m.args.rows.now m.args.grant.now m.args.membership (flags m) m.flag_members.ensures
-    (row_count (tables m.before.before.before.before.before.before.before.before.before.before.before.before.before.before.before))
+    (row_count ((tables_of m.args.rows.now m.args.pos.now m.args.osp.now)))
 
 are_marked : (m : Marks) →
-    marks m ≡ over (marks_of (visible m.args.rows.now m.args.grant.now m.args.membership) (row_count (tables m.before.before.before.before.before.before.before.before.before.before.before.before.before.before.before))) m.args.marks.now
+    marks m ≡ over (marks_of (visible m.args.rows.now m.args.grant.now m.args.membership) (row_count ((tables_of m.args.rows.now m.args.pos.now m.args.osp.now)))) m.args.marks.now
 are_marked m =
     m.mark-seen.ensures.marks_after
     ∙ ap (λ ws. over ws m.args.marks.now)
-    (marks_visible m.args.rows.now m.args.grant.now m.args.membership (flags m) m.flag_members.ensures (row_count (tables m.before.before.before.before.before.before.before.before.before.before.before.before.before.before.before)))
+    (marks_visible m.args.rows.now m.args.grant.now m.args.membership (flags m) m.flag_members.ensures (row_count ((tables_of m.args.rows.now m.args.pos.now m.args.osp.now))))
 
 seen_few : (m : Marks) → m.mark-seen.result ≤ most_rows
 seen_few m =
@@ -64,33 +64,33 @@ seen_few m =
     omega (arith, counted m, m.requires.right.sized.few)
 
 -- what the marks show
-rows_are : (m : Marks) → shown_words m.args.rows.now (marks m) ≡ (view_in (lent m.before.before.before.before.before.before.before.before.before.before.before.before.before.before.before)).rows
+rows_are : (m : Marks) → shown_words m.args.rows.now (marks m) ≡ (view_in ((view_input m.args.rows.now m.args.pos.now m.args.osp.now m.args.grant.now m.args.membership m.args.view-rows.now m.args.view-pos.now m.args.view-osp.now))).rows
 rows_are m =
-    shown_rows (tables m.before.before.before.before.before.before.before.before.before.before.before.before.before.before.before) m.requires.right m.args.grant.now m.args.membership m.args.marks.now (marks m) (are_marked m)
+    shown_rows ((tables_of m.args.rows.now m.args.pos.now m.args.osp.now)) m.requires.right m.args.grant.now m.args.membership m.args.marks.now (marks m) (are_marked m)
 
-pos_are : (m : Marks) → shown_numbers (marks m) m.args.pos.now ≡ (view_in (lent m.before.before.before.before.before.before.before.before.before.before.before.before.before.before.before)).pos
+pos_are : (m : Marks) → shown_numbers (marks m) m.args.pos.now ≡ (view_in ((view_input m.args.rows.now m.args.pos.now m.args.osp.now m.args.grant.now m.args.membership m.args.view-rows.now m.args.view-pos.now m.args.view-osp.now))).pos
 pos_are m =
-    shown_pos (tables m.before.before.before.before.before.before.before.before.before.before.before.before.before.before.before) m.requires.right m.args.grant.now m.args.membership m.args.marks.now (marks m) (are_marked m)
+    shown_pos ((tables_of m.args.rows.now m.args.pos.now m.args.osp.now)) m.requires.right m.args.grant.now m.args.membership m.args.marks.now (marks m) (are_marked m)
 
-osp_are : (m : Marks) → shown_numbers (marks m) m.args.osp.now ≡ (view_in (lent m.before.before.before.before.before.before.before.before.before.before.before.before.before.before.before)).osp
+osp_are : (m : Marks) → shown_numbers (marks m) m.args.osp.now ≡ (view_in ((view_input m.args.rows.now m.args.pos.now m.args.osp.now m.args.grant.now m.args.membership m.args.view-rows.now m.args.view-pos.now m.args.view-osp.now))).osp
 osp_are m =
-    shown_osp (tables m.before.before.before.before.before.before.before.before.before.before.before.before.before.before.before) m.requires.right m.args.grant.now m.args.membership m.args.marks.now (marks m) (are_marked m)
+    shown_osp ((tables_of m.args.rows.now m.args.pos.now m.args.osp.now)) m.requires.right m.args.grant.now m.args.membership m.args.marks.now (marks m) (are_marked m)
 
 -- as many are shown as are counted
-shown_is : (m : Marks) → m.mark-seen.result ≡ passed_before (shown_by (marks m)) (row_count (tables m.before.before.before.before.before.before.before.before.before.before.before.before.before.before.before))
+shown_is : (m : Marks) → m.mark-seen.result ≡ passed_before (shown_by (marks m)) (row_count ((tables_of m.args.rows.now m.args.pos.now m.args.osp.now)))
 shown_is m =
     counted m
-    ∙ sym (shown_count (tables m.before.before.before.before.before.before.before.before.before.before.before.before.before.before.before) m.requires.right m.args.grant.now m.args.membership m.args.marks.now (marks m) (are_marked m))
+    ∙ sym (shown_count ((tables_of m.args.rows.now m.args.pos.now m.args.osp.now)) m.requires.right m.args.grant.now m.args.membership m.args.marks.now (marks m) (are_marked m))
 
 -- there is a mark for each row
-marks_there : (m : Marks) → row_count (tables m.before.before.before.before.before.before.before.before.before.before.before.before.before.before.before) ≤ length (marks m)
+marks_there : (m : Marks) → row_count ((tables_of m.args.rows.now m.args.pos.now m.args.osp.now)) ≤ length (marks m)
 marks_there m = omega (arith, m.requires.right.sized.few, m.requires.marks_len, m.mark-seen.auto)
 
-has : (e : Else-not-has_room) → let a = (start e).args in
+has : (e : Else-not-has_room) → let a = e.args in
     tables_room_for e.mark-seen.result (length a.view-rows.now) (length a.view-pos.now) (length a.view-osp.now) ≡ true
 has e = sym e.has_room.ensures ∙ not-false e.has_room.result e.if-not-has_room.false-raw
 
-fits : (e : Else-not-has_room) → let a = (start e).args in
+fits : (e : Else-not-has_room) → let a = e.args in
     RowsFit e.mark-seen.result (length a.view-rows.now) (length a.view-pos.now) (length a.view-osp.now)
 fits e = room_parts _ _ _ _ (has e)
 
@@ -124,7 +124,7 @@ overflow_mul-result c =
 pub returns : goal.returns
 returns c =
     same_result (view_in (lent (goal.at.returns c).Start)) (lent (goal.at.returns c).Start).buffers (seen_in (lent (goal.at.returns c).Start)) (view_counts (lent (goal.at.returns c).Start)) _ _
-    c.write_rows.last.1.1.1.0 c.write_numbers.new.view c.write_numbers-2.new.view (ap (λ n. n * column_count) (counted (goal.at.returns c).After-mark-seen)) (counted (goal.at.returns c).After-mark-seen)
+    c.write_rows.new.view c.write_numbers.new.view c.write_numbers-2.new.view (ap (λ n. n * column_count) (counted (goal.at.returns c).After-mark-seen)) (counted (goal.at.returns c).After-mark-seen)
     (c.write_rows.ensures ∙ ap (λ ws. over ws c.args.view-rows.now) (rows_are (goal.at.returns c).After-mark-seen))
     (c.write_numbers.ensures ∙ ap (λ ws. over ws c.args.view-pos.now) (pos_are (goal.at.returns c).After-mark-seen))
     (c.write_numbers-2.ensures ∙ ap (λ ws. over ws c.args.view-osp.now) (osp_are (goal.at.returns c).After-mark-seen))
