@@ -28,24 +28,24 @@ pub returns-then-loaded-ne-ACCEPTED : goal.returns-then-loaded-ne-ACCEPTED
 returns-then-loaded-ne-ACCEPTED c = let t = tables_of c.args.rows.now c.args.pos.now c.args.osp.now in
     let q = plan_of c.args.plan.now in
     let ws = take c.args.given c.args.state.now in
-    let shown = (
-      state_fails c.args.given (length c.args.state.now) (shape_right t q ws) (survey_right c.args.survey ws) (places_right t q ws)
-          (threshold_right q.ending c.args.threshold.now) c.if-given-state.false _ c.load-loaded.ensures.refused_value c.if-loaded-ne-ACCEPTED.true,
-      c.load-loaded.ensures.1,
-    ) in
-    record { refused_value = shown.0; from_value = shown.1.0; ends = shown.1.1 }
+    record {
+      refused_value = state_fails c.args.given (length c.args.state.now) (shape_right t q ws) (survey_right c.args.survey ws) (places_right t q ws)
+          (threshold_right q.ending c.args.threshold.now) c.if-given-state.false _ c.load-loaded.ensures.refused_value c.if-loaded-ne-ACCEPTED.true;
+      from_value = c.load-loaded.ensures.from_value;
+      ends = c.load-loaded.ensures.ends;
+    }
 
 pub returns-then-threshold_right : goal.returns-then-threshold_right
 returns-then-threshold_right c = let t = tables_of c.args.rows.now c.args.pos.now c.args.osp.now in
     let q = plan_of c.args.plan.now in
     let ws = take c.args.given c.args.state.now in
-    let shown = (
-      threshold_passes_lem c.args.given (length c.args.state.now) (shape_right t q ws) (survey_right c.args.survey ws) (places_right t q ws)
+    record {
+      refused_value = threshold_passes_lem c.args.given (length c.args.state.now) (shape_right t q ws) (survey_right c.args.survey ws) (places_right t q ws)
           (threshold_right q.ending c.args.threshold.now) c.if-given-state.false _ c.load-loaded.ensures.refused_value c.if-loaded-ne-ACCEPTED.false
-          c.threshold_right.result (rw c.ending_part.ensures.1 at c.threshold_right.ensures) c.if-threshold_right.true,
-      c.load-loaded.ensures.1,
-    ) in
-    record { refused_value = shown.0; from_value = shown.1.0; ends = shown.1.1 }
+          c.threshold_right.result (rw c.ending_part.ensures.1 at c.threshold_right.ensures) c.if-threshold_right.true;
+      from_value = c.load-loaded.ensures.from_value;
+      ends = c.load-loaded.ensures.ends;
+    }
 
 pub returns : goal.returns
 returns c = let t = tables_of c.args.rows.now c.args.pos.now c.args.osp.now in

@@ -30,9 +30,9 @@ load-requires c = let z = sym c.check-number.ensures ∙ c.if-number-ne-ACCEPTED
 pub returns : goal.returns
 returns c = let i = turn_input c.args.rows.now c.args.pos.now c.args.osp.now c.args.survey c.args.plan.now c.args.state.now
     c.args.given c.args.quantum c.args.threshold.now c.args.output.now in
-    let shown = (
-      late_decides i (sym c.check-number.ensures ∙ c.if-number-ne-ACCEPTED.false) (ending_at c.ending_part.result.now) c.ending_part.ensures.1
-          c.sizes-size.result c.sizes-size.ensures c.if-size-ne-ACCEPTED.false _ c.load.ensures.refused_value,
-      c.load.ensures.1,
-    ) in
-    record { refused_value = shown.0; from_value = shown.1.0; ends = shown.1.1 }
+    record {
+      refused_value = late_decides i (sym c.check-number.ensures ∙ c.if-number-ne-ACCEPTED.false) (ending_at c.ending_part.result.now) c.ending_part.ensures.1
+          c.sizes-size.result c.sizes-size.ensures c.if-size-ne-ACCEPTED.false _ c.load.ensures.refused_value;
+      from_value = c.load.ensures.from_value;
+      ends = c.load.ensures.ends;
+    }
