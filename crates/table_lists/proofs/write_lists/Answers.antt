@@ -12,7 +12,6 @@ use Rattle.tables.specs.Tables.{column_count, most_rows}
 use Rattle.tables.specs.RowLists.{Room, row_numbers}
 use Rattle.tables.proofs.RowNumbers.{list_length}
 use Rattle.table_lists.proofs.write_lists.Goals as goal
-use Rattle.table_lists.proofs.write_lists.Goals.{After-write_list}
 
 module _ (rows : List ℕ) (count : ℕ) (there : count * column_count ≤ length rows) where
   abbrev firsts : List ℕ
@@ -29,10 +28,6 @@ module _ (rows : List ℕ) (count : ℕ) (there : count * column_count ≤ lengt
   over_list o part buffer e =
       let n : count ≡ length (row_numbers o firsts) = omega (arith, length-take-le (count * column_count) rows there, list_length o firsts) in
       ap (λ l. l ++ drop count buffer) e ∙ ap (λ k. row_numbers o firsts ++ drop k buffer) n
-
--- from `write-list-arg6` back to `write-list`
-abbrev at-write-list : After-write-list-arg6 → After-write_list
-at-write-list p = p.before.before.before.before.before.before.before
 
 pub slice_bounds-write_list-end : goal.slice_bounds-write_list-end
 slice_bounds-write_list-end c =
@@ -58,9 +53,12 @@ slice_bounds-write_list-end-6 c =
 pub write_list-requires-2 : goal.write_list-requires-2
 write_list-requires-2 c =
     room c.args.rows.now c.args.count c.requires.column_count_in_bounds.0 _ _ (length-take-le c.args.count c.args.osp.now c.requires.column_count_in_bounds.2) c.requires.count_le_most_rows.0
-    (omega (arith, c.requires.count_le_most_rows.1, c.write_list.auto.1))
+    (omega (arith, c.requires.count_le_most_rows.1, c.write_list.auto.spare))
 
 pub returns : goal.returns
-returns c = let q = at-write-list (goal.at.returns c).After-write_list-arg-4-1 in
-    let p = q.write-list in
-    let s = q in record { pos_after = over_list s.args.rows.now s.args.count s.pre.1.0 Pos p.last.1.1.0 s.args.pos.now p.ensures; osp_after = over_list s.args.rows.now s.args.count s.pre.1.0 Osp c.write_list-2.new.list s.args.osp.now c.write_list-2.ensures }
+returns c =
+    let there = c.requires.column_count_in_bounds.0 in
+    record {
+      pos_after = over_list c.args.rows.now c.args.count there Pos c.write_list.new.list c.args.pos.now c.write_list.ensures;
+      osp_after = over_list c.args.rows.now c.args.count there Osp c.write_list-2.new.list c.args.osp.now c.write_list-2.ensures;
+    }
