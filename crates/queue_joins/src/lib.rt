@@ -25,9 +25,9 @@ pub fn join(
     plan: &[u32],
     state: &[u32],
 ) -> Queued
-    ensures { record { answer = result; buffers = record { line = line.exit.now; aside = aside.new } }
+    ensures { record { answer = result; buffers = record { line = line.new; aside = aside.new } }
         ≡ join_queue_of (survey_of rows.now pos.now osp.now survey)
-        (lent_as line.entry.now given aside.old kept)
+        (lent_as line.old given aside.old kept)
         (record { owner = owner; allowance = allowance; plan = plan.now; state = state.now }) }
 {
     let seen = look(line, given, aside, kept, owner);
@@ -48,8 +48,8 @@ pub fn top_up(
     owner: u32,
     amount: u64,
 ) -> Queued
-    ensures { record { answer = result; buffers = record { line = line.exit.now; aside = aside.new } }
-        ≡ top_up_of (lent_as line.entry.now given aside.old kept) owner amount }
+    ensures { record { answer = result; buffers = record { line = line.new; aside = aside.new } }
+        ≡ top_up_of (lent_as line.old given aside.old kept) owner amount }
 {
     let seen = look(line, given, aside, kept, owner);
     let e = entry_at(aside, seen.found);

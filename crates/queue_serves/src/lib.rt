@@ -23,9 +23,9 @@ pub fn serve(
     threshold: &[u32],
     output: &mut [u32],
 ) -> Service
-    ensures { record { answer = result; buffers = record { line = line.exit.now; aside = aside.new; output = output.new } }
+    ensures { record { answer = result; buffers = record { line = line.new; aside = aside.new; output = output.new } }
         ≡ serve_of (survey_of rows.now pos.now osp.now survey)
-        (lent_as line.entry.now given aside.old kept)
+        (lent_as line.old given aside.old kept)
         (record { quantum = quantum; threshold = threshold.now; output = output.old }) }
 {
     let seen = look(line, given, aside, kept, 0);

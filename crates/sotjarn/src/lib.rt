@@ -1,5 +1,5 @@
 // The calls for programs in other languages: an answer is a struct of numbers, and a buffer its address and its length in words, of strings in bytes.
-// bindings/c/sotjarn.h declares them for C. Those over lists of entries are walked by hand.
+// bindings/c/sotjarn.h declares them for C.
 #![tactic(auto)]
 
 ghost use Rattle.std.specs.Prelude.{◌≡◌};

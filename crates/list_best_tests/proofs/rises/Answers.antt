@@ -59,13 +59,3 @@ loop-at-preserved c =
 pub returns : goal.returns
 returns c =
     rising_end c.requires.0 c.loop-at.invariant (omega arith)
--- LOST part-comes-before-start-2 : tie.Need-slice-bounds-comes-before-start-2 invariant-loop decreases-loop
--- LOST part-comes-before-start-2 c =
--- LOST     let l = c.before.before in
--- LOST     let s = l.before.before.before.before in
--- LOST     omega (arith, second s.requires.0 l.loop.invariant (omega arith))
--- LOST part-comes-before-end-2 : tie.Need-slice-bounds-comes-before-end-2 invariant-loop decreases-loop
--- LOST part-comes-before-end-2 c =
--- LOST     let l = c.before.before in
--- LOST     let s = l.before.before.before.before in
--- LOST     omega (arith, second s.requires.0 l.loop.invariant (omega arith))

@@ -22,5 +22,3 @@ returns c = let a = c.args in
           (whole_line row_word (term_fields a.row.now)
           c.put_bytes-next.result c.put_terms-end.result c.put_byte.result a.line.now c.put_bytes-next.last.0 c.put_terms-end.new.line c.put_byte.new.line
           (omega (arith, c.requires)) c.put_bytes-next.ensures c.put_terms-end.ensures c.put_byte.ensures); room = omega (arith, c.requires, c.put_bytes-next.ensures.0, c.put_terms-end.ensures.0, c.put_byte.ensures.0) }
--- LOST slice-aggregate-put-bytes : tie.Need-slice-aggregate-put-bytes
--- LOST slice-aggregate-put-bytes c = search rules

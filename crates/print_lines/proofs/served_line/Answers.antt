@@ -40,7 +40,3 @@ returns c = let a = c.args in
           (placed_then named counted 0 c.put_named-after_number.result c.put_named-after_steps.result a.line.now c.put_named-after_number.last.0 c.put_named-after_steps.new.line (omega arith)
           c.put_named-after_number.ensures c.put_named-after_steps.ensures)
           c.put_bytes.ensures)); room = omega (arith, pre, c.put_named-after_number.ensures.0, c.put_named-after_steps.ensures.0, c.put_bytes.ensures.0) }
--- LOST slice-aggregate-put-named : tie.Need-slice-aggregate-put-named
--- LOST slice-aggregate-put-named c = search rules
--- LOST slice-aggregate-put-named-2 : tie.Need-slice-aggregate-put-named-2
--- LOST slice-aggregate-put-named-2 c = search rules

@@ -17,9 +17,3 @@ returns-in-Full c = let x = c.served_line-in-Full.ensures in record { line = rw 
 pub returns-in-Refused : goal.returns-in-Refused
 unfolding turn_line
 returns-in-Refused c = let x = c.refused_line.ensures in record { line = rw c.in-Refused.is x.0; room = x.1 }
--- LOST slice-aggregate-served-line : tie.Need-slice-aggregate-served-line
--- LOST slice-aggregate-served-line c = search rules
--- LOST slice-aggregate-served-line-2 : tie.Need-slice-aggregate-served-line-2
--- LOST slice-aggregate-served-line-2 c = search rules
--- LOST slice-aggregate-served-line-3 : tie.Need-slice-aggregate-served-line-3
--- LOST slice-aggregate-served-line-3 c = search rules

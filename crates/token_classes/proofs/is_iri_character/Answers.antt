@@ -16,5 +16,3 @@ pub returns : goal.returns
 returns c =
     let z = c.args.c in
     rw (lt-ltb 0x20 z c.if-c-le32.false, lt-ltb z 0x110000 c.if-c-ge1114112.false) (ap not c.one_of.ensures)
--- LOST slice-aggregate-one-of : tie.Need-slice-aggregate-one-of
--- LOST slice-aggregate-one-of c = search rules

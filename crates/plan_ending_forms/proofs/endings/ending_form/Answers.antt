@@ -121,7 +121,3 @@ returns-else-p-eq-REGISTERS_WORDS c =
 
 pub returns-in-Invalid : goal.returns-in-Invalid
 returns-in-Invalid c =  sym (form_invalid (words (goal.at.returns-in-Invalid c).After-ending_kind_of) c.ending_kind_of.result (kind_is (goal.at.returns-in-Invalid c).After-ending_kind_of) c.in-Invalid.is)
--- LOST part-all-wanted-start-2 : tie.Need-slice-bounds-all-wanted-start-2
--- LOST part-all-wanted-start-2 c = omega arith
--- LOST part-all-wanted-end-2 : tie.Need-slice-bounds-all-wanted-end-2
--- LOST part-all-wanted-end-2 c = omega arith

@@ -26,5 +26,3 @@ returns c = let a = c.args in
           (whole_line group_word (group_fields (group_in a.keys a.group.now))
           c.put_bytes-next.result c.put_fields-end.result c.put_byte.result a.line.now c.put_bytes-next.last.0 c.put_fields-end.new.line c.put_byte.new.line
           (omega (arith, c.requires)) c.put_bytes-next.ensures c.put_fields-end.ensures c.put_byte.ensures); room = omega (arith, c.put_bytes-next.ensures.0, c.put_fields-end.ensures.0, c.put_byte.ensures.0) }
--- LOST slice-aggregate-put-bytes : tie.Need-slice-aggregate-put-bytes
--- LOST slice-aggregate-put-bytes c = search rules

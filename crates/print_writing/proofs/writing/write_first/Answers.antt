@@ -5,5 +5,3 @@ use Rattle.print_writing.proofs.writing.write_first.Goals as goal
 
 pub slice_bounds-text-end : goal.slice_bounds-text-end
 slice_bounds-text-end c = simp length-take (omega arith)
--- LOST slice-aggregate-fail : tie.Need-slice-aggregate-fail
--- LOST slice-aggregate-fail c = search rules

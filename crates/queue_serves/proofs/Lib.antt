@@ -1,2 +1,0 @@
-pub mod ServeChanges
-pub mod ServeSlots
