@@ -20,7 +20,7 @@ put_best-requires c =
     c.variables-vars.result.now c.variables-vars.ensures (sym c.ending_kind.ensures ∙ c.in-Top.is)
     c.best_count.result c.best_count.ensures c.keys.result.now c.keys.ensures
 
-pub measured-requires : goal.decreases-requires
+pub measured-requires : goal.measured-requires
 measured-requires c =
     (c.requires.ending_value, sym c.ending_kind.ensures ∙ c.in-Group.is)
 

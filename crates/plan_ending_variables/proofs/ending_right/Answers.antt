@@ -39,7 +39,7 @@ pub keys-requires : goal.keys-requires
 keys-requires c =
     sym c.ending_form.ensures ∙ not-false c.ending_form.result c.if-not-ending_form.false-raw
 
-pub measured-requires : goal.decreases-requires
+pub measured-requires : goal.measured-requires
 measured-requires c =
     (sym c.ending_form.ensures ∙ form_is (goal.at.measured-requires c).After-ending_kind, sym c.ending_kind.ensures ∙ c.in-Group.is)
 
