@@ -8,11 +8,11 @@ use Rattle.plan_parts.proofs.body_part.Goals as goal
 
 pub slice_bounds-result-count : goal.slice_bounds-result-count
 slice_bounds-result-count c =
-     omega (arith, ap length c.from_head-part.ensures, plan_words_fact c.args.plan.now c.requires)
+    omega (arith, ap length c.from_head-part.ensures, plan_words_fact c.args.plan.now c.requires)
 
 pub slice_bounds-result-start : goal.slice_bounds-result-start
 slice_bounds-result-start c =
-     omega (arith, ap length c.from_head-part.ensures, plan_words_fact c.args.plan.now c.requires)
+    omega (arith, ap length c.from_head-part.ensures, plan_words_fact c.args.plan.now c.requires)
 
 pub returns : goal.returns
 returns c = rest_of c.from_head-part.result.now 1 ∙ ap (drop 1) c.from_head-part.ensures

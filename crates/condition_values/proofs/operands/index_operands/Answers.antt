@@ -21,7 +21,7 @@ overflow_cast-lefts c =
     )
 
 pub bounds-lefts-at : goal.bounds-lefts-at
-bounds-lefts-at c =  omega (arith, c.requires.1)
+bounds-lefts-at c = omega (arith, c.requires.1)
 
 pub loop-at-preserved : goal.loop-at-preserved
 loop-at-preserved c =

@@ -5,7 +5,7 @@ use Rattle.conditions.proofs.Places.{no_left, left_found}
 use Rattle.condition_values.proofs.operands.left_words.Goals as goal
 
 pub returns-then-p-eq0 : goal.returns-then-p-eq0
-returns-then-p-eq0 c =  sym (no_left c.args.p.now c.if-p-eq0.true)
+returns-then-p-eq0 c = sym (no_left c.args.p.now c.if-p-eq0.true)
 
 pub returns-in-Wrong : goal.returns-in-Wrong
 returns-in-Wrong c =

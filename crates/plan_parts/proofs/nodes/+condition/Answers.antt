@@ -1,6 +1,6 @@
 -- `condition` meets its contract: each arm is the case of what the first word begins. The depth left falls.
 use Prim.Native.Nat.{ℕ, ◌+◌, ◌-◌, ◌≤◌, ◌<◌}
-use mathlib.Core.Path.{◌≡◌, sym, ◌∙◌}
+use mathlib.Core.Path.{sym, ◌∙◌}
 use native.Mathlib.Omega.{arith}
 use lib.ListN.{length}
 use Rattle.plans.proofs.Trees.{no_depth, no_words, at_wrong, at_always, at_compared, at_not, at_half, at_two, part_small, first_words}

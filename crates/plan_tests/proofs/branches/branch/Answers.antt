@@ -33,7 +33,7 @@ returns-then-p-at c =
     rw (branch_short args.p.now c.pattern_count-n.result c.pattern_count-n.ensures.0 c.if-n-eq0.false c.if-p-at.true)
 
 pub returns-then-nodes-gt-MOST_NODES : goal.returns-then-nodes-gt-MOST_NODES
-returns-then-nodes-gt-MOST_NODES c =  sym (branch_read (goal.at.returns-then-nodes-gt-MOST_NODES c).After-condition c.in-Reads.is ∙ rw (lt-leb _ _ c.if-nodes-gt-MOST_NODES.true))
+returns-then-nodes-gt-MOST_NODES c = sym (branch_read (goal.at.returns-then-nodes-gt-MOST_NODES c).After-condition c.in-Reads.is ∙ rw (lt-leb _ _ c.if-nodes-gt-MOST_NODES.true))
 
 pub overflow_add-result : goal.overflow_add-result
 overflow_add-result c =
