@@ -19,7 +19,7 @@ lent s = let a = s.args in
 abbrev Given : Type 0
 Given = Else-not-given_right
 
-right : (g : Given) → given_right (lent g.before.before.before.before.before.before.before.before).kind (lent g.before.before.before.before.before.before.before.before).bytes (lent g.before.before.before.before.before.before.before.before).ends ≡ true
+right : (g : Given) → given_right g.args.kind g.args.bytes.now g.args.ends.now ≡ true
 right g = sym g.given_right.ensures ∙ not-false _ g.if-not-given_right.false-raw
 
 -- ---- past test 27
@@ -75,5 +75,5 @@ pub returns : goal.returns
 returns c = let i = given (goal.at.returns c).Else-not-has_room in
     let e = c.write_dictionary-extent.ensures in
     let shown = call_told number_call number_is_right i
-    (served i (right (goal.at.returns c).Else-not-given_right) (has (goal.at.returns c).Else-not-has_room) _ _ _ _ _ _ e.0.0 e.0.1 e.1.0 e.1.1.0 e.1.1.1.0 e.1.1.1.1) in
+    (served i (right (goal.at.returns c).Else-not-given_right) (has (goal.at.returns c).Else-not-has_room) _ _ _ _ _ _ e.bytes_value.0 e.bytes_value.1 e.bytes e.ends e.numbers e.places) in
     record { places_after = shown.0; number = shown.1 }

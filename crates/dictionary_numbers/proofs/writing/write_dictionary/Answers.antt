@@ -18,10 +18,30 @@ sorted d =
     d.sort.ensures ∙ ap (sort_by (place_before d.args.bytes.now d.args.ends.now)) (d.list_places.ensures ∙ ap numbers d.requires.numbers_len.1)
 
 pub sort-requires : goal.sort-requires
-sort-requires c = record { list_value = rw (c.list_places.ensures, c.requires.numbers_len.1) (numbers_within c.args.bytes.now c.args.ends.now); list_in_bounds = omega (arith, c.list_places.auto.0, c.requires.numbers_len); ends_value = c.requires.ends_value }
+sort-requires c =
+    record {
+      ends_value = c.requires.ends_value;
+      list_value = rw (c.list_places.ensures, c.requires.numbers_len.1) (numbers_within c.args.bytes.now c.args.ends.now);
+      list_in_bounds = omega (arith, c.list_places.auto.list, c.requires.numbers_len);
+    }
 
 pub write_strings-requires : goal.write_strings-requires
-write_strings-requires c = let p = c.requires in record { ends_value = p.0; places_value = sorted (goal.at.write_strings-requires c).After-sort; ends_len_bound = (p.1.0.0, omega (arith, c.sort.auto.1, p.1.1.0)); bytes_in_bounds = (p.1.0.1, p.1.0.2) }
+write_strings-requires c =
+    let p = c.requires in
+    record {
+      ends_value = p.ends_value;
+      places_value = sorted (goal.at.write_strings-requires c).After-sort;
+      ends_len_bound = (p.ends_len_bound.0, omega (arith, c.sort.auto.spare, p.numbers_len.0));
+      bytes_in_bounds = (p.ends_len_bound.1, p.ends_len_bound.2);
+    }
 
 pub returns : goal.returns
-returns c = let e = c.write_strings.ensures in record { bytes_value = e.0; bytes = e.1.0; ends = e.1.1.0; numbers = e.1.1.1; places = sorted (goal.at.returns c).After-sort }
+returns c =
+    let e = c.write_strings.ensures in
+    record {
+      bytes_value = e.bytes_value;
+      bytes = e.bytes;
+      ends = e.ends;
+      numbers = e.numbers;
+      places = sorted (goal.at.returns c).After-sort;
+    }
