@@ -6,10 +6,10 @@ use Rattle.print_writing.proofs.LineBytes.{line_is}
 use Rattle.print_writing.proofs.lines.print_registers.Goals as goal
 
 pub list_line-n-requires : goal.list_line-n-requires
-list_line-n-requires c =
+list_line-n-requires g c =
     omega (arith, list_most c.args.list.now (λ i. (word i).fits), c.requires)
 
 pub write_list-requires : goal.write_list-requires
-write_list-requires c =
+write_list-requires g c =
     let e = list_most c.args.list.now (λ i. (word i).fits) in
     line_is _ (replicate 256 0) c.list_line-n.new.line c.list_line-n.result c.list_line-n.ensures (omega (arith, e, c.requires, c.list_line-n.ensures.0))
