@@ -25,5 +25,5 @@ returns c =
     let e = list_length c.args.list.now in
     rw (list_text a.list.now)
     (whole_line list_word (number_fields a.list.now)
-    c.put_bytes-next.result c.put_numbers-end.result c.put_byte.result a.line.now c.put_bytes-next.last.0 c.put_numbers-end.new.line c.put_byte.new.line
+    c.put_bytes-next.result c.put_numbers-end.result c.put_byte.result a.line.now c.put_bytes-next.new.line c.put_numbers-end.new.line c.put_byte.new.line
     (omega (arith, c.requires)) c.put_bytes-next.ensures c.put_numbers-end.ensures c.put_byte.ensures)

@@ -21,7 +21,7 @@ returns c = let a = c.args in
     let e = terms_most c.args.row.now in record {
       line = rw (row_text a.row.now)
           (whole_line row_word (term_fields a.row.now)
-          c.put_bytes-next.result c.put_terms-end.result c.put_byte.result a.line.now c.put_bytes-next.last.0 c.put_terms-end.new.line c.put_byte.new.line
+          c.put_bytes-next.result c.put_terms-end.result c.put_byte.result a.line.now c.put_bytes-next.new.line c.put_terms-end.new.line c.put_byte.new.line
           (omega (arith, c.requires)) c.put_bytes-next.ensures c.put_terms-end.ensures c.put_byte.ensures);
       room = omega (arith, c.requires, c.put_bytes-next.ensures.0, c.put_terms-end.ensures.0, c.put_byte.ensures.0);
     }

@@ -15,13 +15,13 @@ put_named-after_number-requires c =
 
 pub put_named-after_steps-requires : goal.put_named-after_steps-requires
 put_named-after_steps-requires c =
-    let d = length_long c.args.number (omega (arith, c.fits)) in
+    let d = length_long c.args.number (omega (arith, c.ranges)) in
     let e = length_word c.long.result (omega arith) in
     omega (arith, c.requires)
 
 pub put_bytes-requires : goal.put_bytes-requires
 put_bytes-requires c =
-    let d = length_long c.args.number (omega (arith, c.fits)) in
+    let d = length_long c.args.number (omega (arith, c.ranges)) in
     let e = length_word c.long.result (omega (arith, c.long.ensures)) in
     omega (arith, c.requires)
 
@@ -29,7 +29,7 @@ pub returns : goal.returns
 returns c = let a = c.args in
     let pre = c.requires in
     let steps = c.long.result in
-    let d = length_long a.number (omega (arith, c.fits)) in
+    let d = length_long a.number (omega (arith, c.ranges)) in
     let e = length_word steps (omega (arith, c.long.ensures)) in
     let named = turn_word ++ number_field a.number in
     let counted = steps_word ++ number_field steps in
@@ -38,7 +38,7 @@ returns c = let a = c.args in
           (placed_front (named ++ counted ++ a.ending.now) a.line.now c.put_bytes.new.line c.put_bytes.result
           (placed_then (named ++ counted) a.ending.now 0 c.put_named-after_steps.result c.put_bytes.result a.line.now c.put_named-after_steps.new.line c.put_bytes.new.line
           (omega arith)
-          (placed_then named counted 0 c.put_named-after_number.result c.put_named-after_steps.result a.line.now c.put_named-after_number.last.0 c.put_named-after_steps.new.line (omega arith)
+          (placed_then named counted 0 c.put_named-after_number.result c.put_named-after_steps.result a.line.now c.put_named-after_number.new.line c.put_named-after_steps.new.line (omega arith)
           c.put_named-after_number.ensures c.put_named-after_steps.ensures)
           c.put_bytes.ensures));
       room = omega (arith, pre, c.put_named-after_number.ensures.0, c.put_named-after_steps.ensures.0, c.put_bytes.ensures.0);

@@ -44,6 +44,6 @@ returns c =
     let e = three_length x y z in
     let n = length-append x y in
     placed_then (x ++ y) z a.at c.put_total-after_numbers.result c.put_group_sum.result a.line.now c.put_total-after_numbers.new.line c.put_group_sum.new.line (omega arith)
-    (placed_then x y a.at c.put_total-after_rows.result c.put_total-after_numbers.result a.line.now c.put_total-after_rows.last.0 c.put_total-after_numbers.new.line (omega arith)
+    (placed_then x y a.at c.put_total-after_rows.result c.put_total-after_numbers.result a.line.now c.put_total-after_rows.new.line c.put_total-after_numbers.new.line (omega arith)
     c.put_total-after_rows.ensures c.put_total-after_numbers.ensures)
     c.put_group_sum.ensures
