@@ -5,14 +5,18 @@ ghost use Rattle.std.specs.Prelude.{◌≡◌, ◌≤◌, length, take};
 ghost use Rattle.print_reading.specs.declared.Layout.TheVariants.{Parts};
 ghost use Rattle.print_reading.specs.Files.{file_words, Laid, layout_of};
 
-use print_reading::{FileParts, Layout};
+use print_reading::{FileParts, Layout, read_full};
 use print_rounds::{SURVEY, run};
 use print_writing::print_refused;
+use std::fs::File;
+use std::io;
+use std::io::Read;
+use std::rt::Files;
 use turn_calls::STATE_WORDS;
 use words::Written;
 
 // Opens the query of `file`, whose words were read and whose `parts` were found, and runs it; a refusal is printed.
-fn print_query(bytes: &[u8], file: &[u32], parts: FileParts)
+fn print_query(rt: &(impl Print + Eprint), bytes: &[u8], file: &[u32], parts: FileParts)
     requires laid { (Laid parts) × (parts.words ≤ length file.now) }
     requires bytes_value { (layout_of bytes.now ≡ Parts parts) × (take parts.words file.now ≡ file_words bytes.now) }
 {
@@ -28,40 +32,51 @@ fn print_query(bytes: &[u8], file: &[u32], parts: FileParts)
     let mut state = [0u32; STATE_WORDS];
     let opened = turn_calls::open(rows, pos, osp, SURVEY, plan, &mut state);
     match opened {
-        Written::Words(n) => run(bytes, rows, pos, osp, plan, quantum, &mut state, n),
-        Written::Refused(x) => print_refused(bytes, x),
+        Written::Words(n) => run(rt, bytes, rows, pos, osp, plan, quantum, &mut state, n),
+        Written::Refused(x) => print_refused(rt, bytes, x),
     }
 }
 
 // Finds the parts of the file that has these `bytes`, and prints what its query answers.
-fn print_bytes(bytes: &[u8]) {
+fn print_bytes(rt: &(impl Print + Eprint), bytes: &[u8]) {
     let mut file = [0u32; 16384];
     let layout = print_reading::read_file(bytes, &mut file);
     match layout {
-        Layout::Parts(parts) => print_query(bytes, &file, parts),
-        Layout::Refused(x) => print_refused(bytes, x),
+        Layout::Parts(parts) => print_query(rt, bytes, &file, parts),
+        Layout::Refused(x) => print_refused(rt, bytes, x),
     }
 }
 
-// Reads the file `fd`; one byte more than a file may have tells that it is longer. A read that fails says so again when it is asked once more.
-fn print_file(fd: i32, path: &[u8]) {
+// Says on standard error why the file at `path` cannot be opened or read.
+fn fail(rt: &impl Eprint, path: &str, error: io::Error) {
+    let _ = eprintln!(rt; "{path}: {error}");
+}
+
+// Reads `file`; one byte more than a file may have tells that it is longer. A read that fails says so again when it is asked once more.
+fn print_file<F: Read>(rt: &(impl Print + Eprint), file: &mut F, path: &str) {
     let mut bytes = [0u8; 65537];
-    let n = io::read_full(fd, &mut bytes);
+    let n = read_full(file, &mut bytes);
     let mut more = [0u8; 1];
-    if libc::read(fd, &mut more) < 0 {
-        os::fail(path);
-        return;
+    match file.read(&mut more) {
+        Ok(_) => print_bytes(rt, &bytes[..n]),
+        Err(error) => fail(rt, path, error),
     }
-    print_bytes(&bytes[..n]);
 }
 
-// Prints what the query of the file at `path` answers; that it cannot be opened or read is said on standard error.
-pub fn print_path(path: &[u8]) {
-    let fd = os::open_read(path);
-    if fd < 0 {
-        os::fail(path);
-        return;
+// Opens the file at `path`, and prints what its query answers.
+fn print_opened<R: Files + Print + Eprint>(rt: &R, path: &str) {
+    match File::open(rt, path) {
+        Ok(mut file) => print_file(rt, &mut file, path),
+        Err(error) => fail(rt, path, error),
     }
-    print_file(fd, path);
-    libc::close(fd);
+}
+
+// Prints what the query of the file at `path` answers; that it cannot be opened or read, or that the path is not UTF-8, is said on standard error.
+pub fn print_path<R: Files + Print + Eprint>(rt: &R, path: &[u8]) {
+    match str::from_utf8(path) {
+        Ok(path) => print_opened(rt, path),
+        Err(error) => {
+            let _ = eprintln!(rt; "path: {error}");
+        }
+    }
 }

@@ -5,6 +5,9 @@ ghost use Rattle.std.specs.Prelude.{◌≡◌, ◌+◌, ◌/◌, ◌<◌, ◌≤
 ghost use Rattle.sequences.specs.Sequences.{over};
 ghost use Rattle.print_reading.specs.Files.{little_endian, file_words, word_bytes, most_file_bytes, parts_in, layout_of, read_of};
 
+mod filling;
+
+pub use filling::read_full;
 use tables::COLUMNS;
 
 // Where the parts of a file begin, in words, and the words in all; the rows begin after the row count and the quantum.

@@ -27,6 +27,7 @@ pub const MOST_TURNS: u64 = 18446744073709551615;
 
 // One turn of a file's query and its list, printed, from where the query stands after `made` turns.
 fn print_step(
+    rt: &(impl Print + Eprint),
     bytes: &[u8],
     rows: &[u32],
     pos: &[u32],
@@ -67,12 +68,13 @@ fn print_step(
     let turned = step.turned;
     let listed = turned.listed;
     let number = made + 1;
-    print_shown(bytes, number, turned, &output[..listed], lists);
+    print_shown(rt, bytes, number, turned, &output[..listed], lists);
     query_turns::outcome(step)
 }
 
 // The turns from an opening's state on, each printed: the loop of `query_plays::play`, with the rows of a turn printed where that keeps them.
 fn go_on(
+    rt: &(impl Print + Eprint),
     bytes: &[u8],
     rows: &[u32],
     pos: &[u32],
@@ -97,7 +99,7 @@ fn go_on(
     let mut made: u64 = 0;
     while made < MOST_TURNS {
         let went = print_step(
-            bytes, rows, pos, osp, plan, state, saved, quantum, output, kept, used, lists, made,
+            rt, bytes, rows, pos, osp, plan, state, saved, quantum, output, kept, used, lists, made,
         );
         match went {
             Went::On { saved: left, words } => {
@@ -117,6 +119,7 @@ fn go_on(
 
 // Runs an opened query with the printer's buffers: an output of exactly `OUTPUT_RECORDS` rows or records, and a kept list.
 pub fn run(
+    rt: &(impl Print + Eprint),
     bytes: &[u8],
     rows: &[u32],
     pos: &[u32],
@@ -134,6 +137,7 @@ pub fn run(
     let mut output = [0u32; 1024];
     let mut kept = [0u32; 8192];
     let played = go_on(
+        rt,
         bytes,
         rows,
         pos,
@@ -146,5 +150,5 @@ pub fn run(
         &mut kept,
         lists,
     );
-    print_played(bytes, &kept, played, lists);
+    print_played(rt, bytes, &kept, played, lists);
 }

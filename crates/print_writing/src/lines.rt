@@ -17,66 +17,72 @@ pub const REGISTERS: usize = 16;
 pub const TOTALS_WIDTH: usize = 8;
 
 // Prints `number`, by which a file is refused.
-pub fn print_refused(bytes: &[u8], number: u32)
+pub fn print_refused(rt: &(impl Print + Eprint), bytes: &[u8], number: u32)
     requires { RefusedBy bytes.now number }
 {
     let mut line = [0u8; 256];
     let n = print_lines::refused_line(&mut line, number);
-    write_refused(bytes, number, &line, n);
+    write_refused(rt, bytes, number, &line, n);
 }
 
 // Prints the line of the served turn `turned`, which is turn number `number` of the uncut run.
-pub fn print_turn(bytes: &[u8], number: u64, turned: Turned, list: &[u32])
+pub fn print_turn(
+    rt: &(impl Print + Eprint),
+    bytes: &[u8],
+    number: u64,
+    turned: Turned,
+    list: &[u32],
+)
     requires { TurnShown bytes.now number turned list.now }
 {
     let ending = turned.ending;
     let mut line = [0u8; 256];
     let n = print_lines::turn_line(&mut line, number, turned.steps, ending);
-    write_turn(bytes, number, turned, list, &line, n);
+    write_turn(rt, bytes, number, turned, list, &line, n);
 }
 
-fn print_row(row: &[u32])
+fn print_row(rt: &(impl Print + Eprint), row: &[u32])
     requires { length row.now ≤ most_row_variables }
 {
     let mut line = [0u8; 256];
     let n = print_lines::row_line(&mut line, row);
-    write_row(row, &line, n);
+    write_row(rt, row, &line, n);
 }
 
 // Prints `group`, a record; its keys are what stands before its totals.
-fn print_group(group: &[u32])
+fn print_group(rt: &(impl Print + Eprint), group: &[u32])
     requires { IsRecord (length group.now) }
 {
     let keys = group.len() - TOTALS_WIDTH;
     let mut line = [0u8; 256];
     let n = print_lines::group_line(&mut line, keys, group);
-    write_group(keys, group, &line, n);
+    write_group(rt, keys, group, &line, n);
 }
 
 // Prints all registers, in decimal.
-fn print_registers(list: &[u32])
+fn print_registers(rt: &(impl Print + Eprint), list: &[u32])
     requires { length list.now ≡ register_count }
 {
     let mut line = [0u8; 256];
     let n = print_lines::list_line(&mut line, list);
-    write_list(list, &line, n);
+    write_list(rt, list, &line, n);
 }
 
 // Prints `words`: a row or a record, or all registers. An invalid ending has none.
-fn print_record(kind: EndingKind, words: &[u32])
+fn print_record(rt: &(impl Print + Eprint), kind: EndingKind, words: &[u32])
     requires { HasWidth kind (length words.now) }
 {
     match kind {
-        EndingKind::Rows => print_row(words),
-        EndingKind::Top => print_row(words),
-        EndingKind::Group => print_group(words),
-        EndingKind::Registers => print_registers(words),
+        EndingKind::Rows => print_row(rt, words),
+        EndingKind::Top => print_row(rt, words),
+        EndingKind::Group => print_group(rt, words),
+        EndingKind::Registers => print_registers(rt, words),
         EndingKind::Invalid => {}
     }
 }
 
 // Prints the rows or records of `list`, each on its line, or its registers on one.
-pub fn print_list(lists: Listing, list: &[u32])
+pub fn print_list(rt: &(impl Print + Eprint), lists: Listing, list: &[u32])
     requires has_width { HasWidth lists.kind lists.width }
     requires width_len { length list.now % lists.width ≡ 0 }
 {
@@ -85,7 +91,7 @@ pub fn print_list(lists: Listing, list: &[u32])
     let mut at: usize = 0;
     while at < list.len() {
         let end = at + width;
-        print_record(kind, &list[at..end]);
+        print_record(rt, kind, &list[at..end]);
         at = end;
     }
 }

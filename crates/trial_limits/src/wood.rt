@@ -64,17 +64,17 @@ fn grow(rows: &mut [u32; ROW_WORDS], list: &mut [u32; ROWS]) {
 }
 
 // The quantum, over no rows.
-pub fn quanta() {
+pub fn quanta(rt: &impl Print) {
     let rows = [0u32; 1];
     let none = &rows[..0];
-    say_turned(b"quantum 1000000", turned(none, none, 1000000));
-    say_turned(b"quantum 1000001", turned(none, none, 1000001));
-    say_turned(b"quantum 1", turned(none, none, 1));
-    say_turned(b"quantum 0", turned(none, none, 0));
+    say_turned(rt, b"quantum 1000000", turned(none, none, 1000000));
+    say_turned(rt, b"quantum 1000001", turned(none, none, 1000001));
+    say_turned(rt, b"quantum 1", turned(none, none, 1));
+    say_turned(rt, b"quantum 0", turned(none, none, 0));
 }
 
 // One row of `year`.
-fn try_year(what: &[u8], year: u32) {
+fn try_year(rt: &impl Print, what: &[u8], year: u32) {
     let row = [
         Term::number(year).0,
         Term::name(0).0,
@@ -82,15 +82,15 @@ fn try_year(what: &[u8], year: u32) {
         Term::number(0).0,
     ];
     let list = [0u32; 1];
-    say_turned(what, turned(&row, &list, 2));
+    say_turned(rt, what, turned(&row, &list, 2));
 }
 
 // The years that a row may have: the first and the last, and those beside them.
-pub fn years() {
-    try_year(b"year 0", 0);
-    try_year(b"year 1", 1);
-    try_year(b"year 9999", 9999);
-    try_year(b"year 10000", 10000);
+pub fn years(rt: &impl Print) {
+    try_year(rt, b"year 0", 0);
+    try_year(rt, b"year 1", 1);
+    try_year(rt, b"year 9999", 9999);
+    try_year(rt, b"year 10000", 10000);
 }
 
 // One turn over the first `count` rows.
@@ -106,14 +106,14 @@ fn over_first(rows: &[u32], list: &[u32], count: u32) -> Turned {
 }
 
 // The number of rows: all but the last, and all.
-fn try_sizes(rows: &[u32; ROW_WORDS], list: &[u32; ROWS]) {
-    say_turned(b"65536 rows", over_first(rows, list, MOST_ROWS));
-    say_turned(b"65537 rows", turned(rows, list, 1000000));
+fn try_sizes(rt: &impl Print, rows: &[u32; ROW_WORDS], list: &[u32; ROWS]) {
+    say_turned(rt, b"65536 rows", over_first(rows, list, MOST_ROWS));
+    say_turned(rt, b"65537 rows", turned(rows, list, 1000000));
 }
 
-pub fn sizes() {
+pub fn sizes(rt: &impl Print) {
     let mut rows = [0u32; ROW_WORDS];
     let mut list = [0u32; ROWS];
     grow(&mut rows, &mut list);
-    try_sizes(&rows, &list);
+    try_sizes(rt, &rows, &list);
 }

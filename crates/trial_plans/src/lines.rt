@@ -1,5 +1,4 @@
 // What is printed: a heading for each cut, and a line for each row or group of its list.
-use libc::STDOUT_FILENO;
 use queries::Played;
 
 // The terms of a row, at most.
@@ -17,47 +16,48 @@ pub struct Form {
     pub width: usize,
 }
 
-fn say(text: &[u8]) {
-    io::write_all(STDOUT_FILENO, text);
+// Writes `text`; that it could not be written shows where the output is compared.
+fn say(rt: &impl Print, text: &[u8]) {
+    let _ = rt.write_all(text);
 }
 
 // The number `x` after its `name`.
-fn say_number(name: &[u8], x: u32) {
-    say(name);
-    io::print_decimal(STDOUT_FILENO, x as u64);
+fn say_number(rt: &impl Print, name: &[u8], x: u32) {
+    say(rt, name);
+    let _ = rt.print(x);
 }
 
 // The plan's `number`, the `quantum`, and `room`, the output's words.
-pub fn heading(number: u32, quantum: u32, room: u32) {
-    say_number(b"plan ", number);
-    say_number(b" quantum ", quantum);
-    say_number(b" output ", room);
-    say(b"\n");
+pub fn heading(rt: &impl Print, number: u32, quantum: u32, room: u32) {
+    say_number(rt, b"plan ", number);
+    say_number(rt, b" quantum ", quantum);
+    say_number(rt, b" output ", room);
+    say(rt, b"\n");
 }
 
-pub fn print_refused(x: u32) {
-    say_number(b"refused ", x);
-    say(b"\n");
+pub fn print_refused(rt: &impl Print, x: u32) {
+    say_number(rt, b"refused ", x);
+    say(rt, b"\n");
 }
 
 // Writes the first `n` bytes of `line`.
-fn write_first(line: &[u8], n: usize) {
+fn write_first(rt: &impl Print, line: &[u8], n: usize) {
     if n <= line.len() {
         let text = &line[..n];
-        say(text);
+        say(rt, text);
     }
 }
 
-fn print_row(row: &[u32]) {
+fn print_row(rt: &impl Print, row: &[u32]) {
     if row.len() <= MOST_TERMS {
         let mut line = [0u8; 256];
         let n = print_lines::row_line(&mut line, row);
-        write_first(&line, n);
+        write_first(rt, &line, n);
     }
 }
 
 // A group's record; its keys are what stands before its totals.
-fn print_group(group: &[u32]) {
+fn print_group(rt: &impl Print, group: &[u32]) {
     if group.len() < TOTALS_WIDTH {
         return;
     }
@@ -65,20 +65,20 @@ fn print_group(group: &[u32]) {
         let keys = group.len() - TOTALS_WIDTH;
         let mut line = [0u8; 256];
         let n = print_lines::group_line(&mut line, keys, group);
-        write_first(&line, n);
+        write_first(rt, &line, n);
     }
 }
 
-fn print_record(groups: bool, record: &[u32]) {
+fn print_record(rt: &impl Print, groups: bool, record: &[u32]) {
     if groups {
-        print_group(record);
+        print_group(rt, record);
     } else {
-        print_row(record);
+        print_row(rt, record);
     }
 }
 
 // The rows or groups of `list`, each on its line.
-fn print_list(form: Form, list: &[u32]) {
+fn print_list(rt: &impl Print, form: Form, list: &[u32]) {
     let width = form.width;
     if width == 0 {
         return;
@@ -86,25 +86,25 @@ fn print_list(form: Form, list: &[u32]) {
     let mut at: usize = 0;
     while width <= list.len() - at {
         let end = at + width;
-        print_record(form.groups, &list[at..end]);
+        print_record(rt, form.groups, &list[at..end]);
         at = end;
     }
 }
 
 // The list in the first `words` words of `kept`.
-fn print_kept(form: Form, kept: &[u32], words: usize) {
+fn print_kept(rt: &impl Print, form: Form, kept: &[u32], words: usize) {
     if words <= kept.len() {
         let list = &kept[..words];
-        print_list(form, list);
+        print_list(rt, form, list);
     }
 }
 
 // What a play has at its end.
-pub fn print_played(played: Played, form: Form, kept: &[u32]) {
+pub fn print_played(rt: &impl Print, played: Played, form: Form, kept: &[u32]) {
     match played {
-        Played::Finished(words) => print_kept(form, kept, words),
-        Played::Unfinished { saved: _, words: _ } => say(b"unfinished\n"),
-        Played::Stopped(x) => print_refused(x),
-        Played::Refused(x) => print_refused(x),
+        Played::Finished(words) => print_kept(rt, form, kept, words),
+        Played::Unfinished { saved: _, words: _ } => say(rt, b"unfinished\n"),
+        Played::Stopped(x) => print_refused(rt, x),
+        Played::Refused(x) => print_refused(rt, x),
     }
 }

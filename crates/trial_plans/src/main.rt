@@ -8,9 +8,9 @@ mod playing;
 ghost use Rattle.std.specs.Prelude.{◌≤◌, ◌<◌, length};
 ghost use Rattle.print_reading.specs.Files.{Laid};
 
-use libc::STDIN_FILENO;
 use lines::print_refused;
-use print_reading::{FileParts, Layout};
+use print_reading::{FileParts, Layout, read_full};
+use std::io::{Input, Read};
 
 // The woods that are read, and the words of one with its plans, at most.
 pub const MOST_WOODS: u32 = 1000;
@@ -31,16 +31,16 @@ fn pair(low: u8, high: u8) -> usize
 }
 
 // The words that follow, from the word that stands before them; 0 where there is none.
-fn words_ahead() -> usize {
+fn words_ahead<I: Read>(input: &mut I) -> usize {
     let mut head = [0u8; 4];
-    if io::read_full(STDIN_FILENO, &mut head) < 4 {
+    if read_full(input, &mut head) < 4 {
         return 0;
     }
     pair(head[0], head[1]) + 65536 * pair(head[2], head[3])
 }
 
 // The wood in `file`, and its plans behind it: `parts` says where they begin.
-fn play_wood(file: &[u32], parts: FileParts)
+fn play_wood(rt: &impl Print, file: &[u32], parts: FileParts)
     requires { (Laid parts) × (parts.words ≤ length file.now) }
 {
     let pos_at = parts.pos;
@@ -51,28 +51,28 @@ fn play_wood(file: &[u32], parts: FileParts)
     let pos = &file[pos_at..osp_at];
     let osp = &file[osp_at..plans_at];
     let plans = &file[plans_at..end];
-    playing::play_plans(rows, pos, osp, plans);
+    playing::play_plans(rt, rows, pos, osp, plans);
 }
 
 // A wood and its plans, from their bytes.
-fn play_bytes(bytes: &[u8]) {
+fn play_bytes(rt: &impl Print, bytes: &[u8]) {
     let mut file = [0u32; 16384];
     let layout = print_reading::read_file(bytes, &mut file);
     match layout {
-        Layout::Parts(parts) => play_wood(&file, parts),
-        Layout::Refused(x) => print_refused(x),
+        Layout::Parts(parts) => play_wood(rt, &file, parts),
+        Layout::Refused(x) => print_refused(rt, x),
     }
 }
 
 // Reads a wood and its plans, as many bytes as `bytes` has, and plays them.
-fn read_wood(bytes: &mut [u8]) {
-    let n = io::read_full(STDIN_FILENO, bytes);
-    play_bytes(&bytes[..n]);
+fn read_wood<I: Read>(rt: &impl Print, input: &mut I, bytes: &mut [u8]) {
+    let n = read_full(input, bytes);
+    play_bytes(rt, &bytes[..n]);
 }
 
 // The next wood and its plans; whether there was one.
-fn next_wood() -> bool {
-    let words = words_ahead();
+fn next_wood<I: Read>(rt: &impl Print, input: &mut I) -> bool {
+    let words = words_ahead(input);
     if words == 0 {
         return false;
     }
@@ -80,14 +80,15 @@ fn next_wood() -> bool {
         return false;
     }
     let mut bytes = [0u8; 65536];
-    read_wood(&mut bytes[..words * 4]);
+    read_wood(rt, input, &mut bytes[..words * 4]);
     true
 }
 
-fn main() {
+fn main(rt: HostRuntime) {
+    let mut input = rt.reader();
     let mut woods: u32 = 0;
     while woods < MOST_WOODS {
-        if !next_wood() {
+        if !next_wood(&rt, &mut input) {
             return;
         }
         woods += 1;

@@ -20,6 +20,7 @@ pub const MOST_TURNS: u64 = 18446744073709551615;
 
 // Opens `plan` and runs it in turns of `quantum` steps, over an output of `room` words; prints the rows, joined, or the merged list.
 fn play_cut(
+    rt: &impl Print,
     rows: &[u32],
     pos: &[u32],
     osp: &[u32],
@@ -46,11 +47,12 @@ fn play_cut(
         &mut output[..room],
         &mut kept,
     );
-    print_played(played, form, &kept);
+    print_played(rt, played, form, &kept);
 }
 
 // `plan` by each of its `cuts`.
 fn play_cuts(
+    rt: &impl Print,
     rows: &[u32],
     pos: &[u32],
     osp: &[u32],
@@ -63,8 +65,8 @@ fn play_cuts(
     while CUT_WORDS <= cuts.len() - at {
         let quantum = cuts[at];
         let room = cuts[at + 1];
-        heading(number, quantum, room);
-        play_cut(rows, pos, osp, plan, quantum, wide(room), form);
+        heading(rt, number, quantum, room);
+        play_cut(rt, rows, pos, osp, plan, quantum, wide(room), form);
         at += CUT_WORDS;
     }
 }
@@ -77,7 +79,7 @@ fn form_of(groups: u32, width: u32) -> Form {
 }
 
 // A plan with its cuts: an entry of the stored plans.
-fn play_entry(rows: &[u32], pos: &[u32], osp: &[u32], entry: &[u32]) {
+fn play_entry(rt: &impl Print, rows: &[u32], pos: &[u32], osp: &[u32], entry: &[u32]) {
     if entry.len() < HEAD_WORDS {
         return;
     }
@@ -88,6 +90,7 @@ fn play_entry(rows: &[u32], pos: &[u32], osp: &[u32], entry: &[u32]) {
     }
     let plan_at = HEAD_WORDS + cuts;
     play_cuts(
+        rt,
         rows,
         pos,
         osp,
@@ -99,7 +102,7 @@ fn play_entry(rows: &[u32], pos: &[u32], osp: &[u32], entry: &[u32]) {
 }
 
 // The plans of a wood: entries, each after the number of its words.
-pub fn play_plans(rows: &[u32], pos: &[u32], osp: &[u32], plans: &[u32]) {
+pub fn play_plans(rt: &impl Print, rows: &[u32], pos: &[u32], osp: &[u32], plans: &[u32]) {
     let mut at: usize = 0;
     while at < plans.len() {
         let start = at + 1;
@@ -108,7 +111,7 @@ pub fn play_plans(rows: &[u32], pos: &[u32], osp: &[u32], plans: &[u32]) {
             return;
         }
         let end = start + words;
-        play_entry(rows, pos, osp, &plans[start..end]);
+        play_entry(rt, rows, pos, osp, &plans[start..end]);
         at = end;
     }
 }

@@ -8,7 +8,7 @@ use Rattle.print_files.proofs.FileParts.{file_asks}
 use Rattle.print_files.proofs.print_query.Goals as goal
 
 pub run-requires : goal.run-requires
-run-requires c = let o = c.«open» in
+run-requires g c = let o = c.«open» in
     let a = c.args in record {
       started = started _ _ _ o.result (ap (λ (r : WordsResult). r.answer) o.ensures.0) _ (ap (λ (r : WordsResult). r.buffers) o.ensures.0) _
           c.in-Words.is;
@@ -16,7 +16,7 @@ run-requires c = let o = c.«open» in
     }
 
 pub print_refused-requires : goal.print_refused-requires
-print_refused-requires c =
+print_refused-requires g c =
     let o = c.«open» in
     let a = c.args in
     let asks = file_asks a.bytes.now a.file.now a.parts c.requires.bytes_value.0 c.requires.bytes_value.1 in

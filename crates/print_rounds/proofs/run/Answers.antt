@@ -16,14 +16,14 @@ use Rattle.print_rounds.proofs.Asking.{file_lists, file_opens, file_left}
 use Rattle.print_rounds.proofs.run.Goals as goal
 
 pub lists_of-lists-requires : goal.lists_of-lists-requires
-lists_of-lists-requires c =
+lists_of-lists-requires g c =
     let v = lent_survey c.args.rows.now c.args.pos.now c.args.osp.now in
     let p = c.args.plan.now in
     let form = started_form v p c.args.state.now c.args.opened c.requires.started in
     form
 
 pub overflow_mul-room : goal.overflow_mul-room
-overflow_mul-room c =
+overflow_mul-room g c =
     let v = lent_survey c.args.rows.now c.args.pos.now c.args.osp.now in
     let p = c.args.plan.now in
     let form = started_form v p c.args.state.now c.args.opened c.requires.started in
@@ -31,7 +31,7 @@ overflow_mul-room c =
     search rules
 
 pub slice_bounds-output-end : goal.slice_bounds-output-end
-slice_bounds-output-end c =
+slice_bounds-output-end g c =
     let v = lent_survey c.args.rows.now c.args.pos.now c.args.osp.now in
     let p = c.args.plan.now in
     let form = started_form v p c.args.state.now c.args.opened c.requires.started in
@@ -39,7 +39,7 @@ slice_bounds-output-end c =
     search rules
 
 pub slice_bounds-go_on-end-2 : goal.slice_bounds-go_on-end-2
-slice_bounds-go_on-end-2 c =
+slice_bounds-go_on-end-2 g c =
     let v = lent_survey c.args.rows.now c.args.pos.now c.args.osp.now in
     let p = c.args.plan.now in
     let form = started_form v p c.args.state.now c.args.opened c.requires.started in
@@ -47,14 +47,14 @@ slice_bounds-go_on-end-2 c =
     simp length-take (omega arith)
 
 pub go_on-played-requires : goal.go_on-played-requires
-go_on-played-requires c = let v = lent_survey c.args.rows.now c.args.pos.now c.args.osp.now in
+go_on-played-requires g c = let v = lent_survey c.args.rows.now c.args.pos.now c.args.osp.now in
     let p = c.args.plan.now in
     let form = started_form v p c.args.state.now c.args.opened c.requires.started in
     let h = some_words c.lists_of-lists.result.kind c.lists_of-lists.result.width (lists_width p c.lists_of-lists.result (form, c.lists_of-lists.ensures)) in
     let wide : c.lists_of-lists.result.width ≡ width (plan_of p).ending = ap (λ (x : Listing). x.width) c.lists_of-lists.ensures in record { lists_of = (form, c.lists_of-lists.ensures); started = c.requires.started; asks = (c.requires.asks, simp length-take (omega arith)) }
 
 pub print_played-requires : goal.print_played-requires
-print_played-requires c = let a = c.args in
+print_played-requires g c = let a = c.args in
     let v = lent_survey c.args.rows.now c.args.pos.now c.args.osp.now in
     let p = c.args.plan.now in
     let form = started_form v p c.args.state.now c.args.opened c.requires.started in

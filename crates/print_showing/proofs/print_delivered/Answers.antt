@@ -2,4 +2,4 @@
 use Rattle.print_showing.proofs.print_delivered.Goals as goal
 
 pub print_list-requires : goal.print_list-requires
-print_list-requires c = record { has_width = c.requires.has_width; width_len = c.requires.width_len c.in-Rows.is }
+print_list-requires g c = record { has_width = c.requires.has_width; width_len = c.requires.width_len c.in-Rows.is }

@@ -9,10 +9,10 @@ use Rattle.print_showing.proofs.TurnLists.{shown_whole}
 use Rattle.print_showing.proofs.print_shown.Goals as goal
 
 pub print_turn-requires : goal.print_turn-requires
-print_turn-requires c = c.requires.turn_shown (sym c.is_served.ensures ∙ c.if-is_served.true)
+print_turn-requires g c = c.requires.turn_shown (sym c.is_served.ensures ∙ c.if-is_served.true)
 
 pub print_delivered-requires : goal.print_delivered-requires
-print_delivered-requires c = let b = c.args.bytes.now in
+print_delivered-requires g c = let b = c.args.bytes.now in
     let p = file_plan b in
     let l = c.args.lists in
     let shown = c.requires.turn_shown (sym c.is_served.ensures ∙ c.if-is_served.true) in

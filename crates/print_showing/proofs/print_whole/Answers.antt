@@ -9,7 +9,7 @@ use Rattle.print_showing.proofs.KeptLists.{kept_whole}
 use Rattle.print_showing.proofs.print_whole.Goals as goal
 
 pub print_list-requires : goal.print_list-requires
-print_list-requires c = let b = c.args.bytes.now in
+print_list-requires g c = let b = c.args.bytes.now in
     let p = file_plan b in
     let l = c.args.lists in
     let wide : l.width ≡ width (plan_of p).ending = ap (λ (x : Listing). x.width) c.requires.lists_of.1 in record { has_width = lists_width p l c.requires.lists_of; width_len = rw wide (kept_whole (file_survey b) p c.args.list.now c.requires.can_open c.requires.list_shown) }

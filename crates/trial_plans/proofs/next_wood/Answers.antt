@@ -4,4 +4,4 @@ use lib.ListN.{length-take}
 use Rattle.trial_plans.proofs.next_wood.Goals as goal
 
 pub slice_bounds-read_wood-end : goal.slice_bounds-read_wood-end
-slice_bounds-read_wood-end c = simp length-take (omega arith)
+slice_bounds-read_wood-end g c = simp length-take (omega arith)

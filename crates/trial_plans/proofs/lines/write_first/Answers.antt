@@ -4,4 +4,4 @@ use lib.ListN.{length-take}
 use Rattle.trial_plans.proofs.lines.write_first.Goals as goal
 
 pub slice_bounds-text-end : goal.slice_bounds-text-end
-slice_bounds-text-end c = simp length-take (omega arith)
+slice_bounds-text-end g c = simp length-take (omega arith)
