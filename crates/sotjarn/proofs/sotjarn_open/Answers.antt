@@ -5,4 +5,4 @@ use Rattle.call_numbers.specs.Numbers.{written_numbers}
 use Rattle.sotjarn.proofs.sotjarn_open.Goals as goal
 
 pub returns : goal.returns
-returns c = let o = c.«open».ensures.0 in record { answer = c.written_numbers.ensures ∙ ap (λ (x : WordsResult). written_numbers x.answer) o; state = ap (λ (x : WordsResult). x.buffers) o }
+returns c = let o = c.«open».ensures.state_after in record { answer = c.written_numbers.ensures ∙ ap (λ (x : WordsResult). written_numbers x.answer) o; state = ap (λ (x : WordsResult). x.buffers) o }
