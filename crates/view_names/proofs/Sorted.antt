@@ -1,11 +1,11 @@
 -- Rows of strings that ascend by one strict order, whichever it is: what stands in both stands there in one sequence, so that this need not be asked.
 use Prim.Native.Nat.{ℕ}
 use mathlib.Core.Path.{◌≡◌, refl, sym, ◌∙◌, ap, subst}
-use mathlib.Core.Bool.{Bool, true, false}
+use mathlib.Core.Bool.{Bool, true, false, true≢false}
 use mathlib.Core.List.{List, [], ◌∷◌, Memᴰ}
 use borrow.Author.Tests.{eq-eqb}
 use Rattle.sequences.specs.Sequences.{keep}
-use Rattle.sequences.proofs.Booleans.{absurd_true, yes, no, decided}
+use Rattle.sequences.proofs.Booleans.{yes, no, decided}
 use Rattle.sequences.proofs.Each.{Each, each_keep, each_kept}
 use Rattle.sequences.proofs.EachMore.{each_weaken, each_both}
 use Rattle.sequences.proofs.Ascending.{Ascending}
@@ -28,8 +28,14 @@ unfolding keep
 kept_in_lem g [] = tt
 kept_in_lem g (x ∷ xs) =
     elim (decided (g x)) [
-      | yes h ↦ rw h (λ e. Memᴰ.head refl, each_weaken (λ y m e. Memᴰ.tail (m e)) xs (kept_in_lem g xs))
-      | no h ↦ rw h (λ e. absurd_true e refl, kept_in_lem g xs)
+      | yes h ↦
+          let k : keep g (x ∷ xs) ≡ x ∷ keep g xs = rw h in
+          subst (λ kept. Each (λ y. g y ≡ true → Memᴰ y kept) (x ∷ xs)) (sym k)
+          (λ e. Memᴰ.head refl, each_weaken (λ y m e. Memᴰ.tail (m e)) xs (kept_in_lem g xs))
+      | no h ↦
+          let k : keep g (x ∷ xs) ≡ keep g xs = rw h in
+          subst (λ kept. Each (λ y. g y ≡ true → Memᴰ y kept) (x ∷ xs)) (sym k)
+          (λ e. absurd (true≢false (sym e ∙ h)), kept_in_lem g xs)
     ]
 
 module _ (before : StringRow → StringRow → Bool) (asym : (x y : StringRow) → before x y ≡ true → before y x ≡ false) where

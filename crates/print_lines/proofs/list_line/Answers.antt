@@ -27,4 +27,3 @@ returns c =
     (whole_line list_word (number_fields a.list.now)
     c.put_bytes-next.result c.put_numbers-end.result c.put_byte.result a.line.now c.put_bytes-next.new.line c.put_numbers-end.new.line c.put_byte.new.line
     (omega (arith, c.requires)) c.put_bytes-next.ensures c.put_numbers-end.ensures c.put_byte.ensures)
-

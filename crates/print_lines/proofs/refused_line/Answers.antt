@@ -23,4 +23,3 @@ returns c = let a = c.args in
           c.put_byte.new.line (omega (arith, c.requires)) c.put_bytes-next.ensures c.put_number-end.ensures c.put_byte.ensures);
       room = omega (arith, c.put_bytes-next.ensures.0, c.put_number-end.ensures.0, c.put_byte.ensures.0);
     }
-

@@ -22,9 +22,12 @@ slice_bounds-print_shown-end-2 g c =
 
 pub print_shown-requires : goal.print_shown-requires
 print_shown-requires g c = let a = c.args in
-    let asks = c.requires.asks.0 in record { lists_of = file_lists a.bytes.now a.rows.now a.pos.now a.osp.now a.plan.now a.quantum asks a.lists c.requires.lists_of; turn_shown = λ f. file_turn a.bytes.now a.rows.now a.pos.now a.osp.now a.plan.now a.quantum asks _ _ _ (length a.output.now)
+    let asks = c.requires.asks.0 in record {
+      lists_of = file_lists a.bytes.now a.rows.now a.pos.now a.osp.now a.plan.now a.quantum asks a.lists c.requires.lists_of;
+      turn_shown = λ f. file_turn a.bytes.now a.rows.now a.pos.now a.osp.now a.plan.now a.quantum asks _ _ _ (length a.output.now)
           c.requires.asks.1
-          (turn_shown _ _ _ _ _ _ _ c.take_turn-step.ensures refl a.made c.requires.can_open c.requires.made_lt_most_turns.1 f) }
+          (turn_shown _ _ _ _ _ _ _ c.take_turn-step.ensures refl a.made c.requires.can_open c.requires.made_lt_most_turns.1 f);
+    }
 
 pub returns : goal.returns
 returns g c =

@@ -10,8 +10,8 @@ use Rattle.query_plays.proofs.go_on.Given as goal
 abbrev pub invariant-loop-n : goal.invariant-loop-n
 invariant-loop-n l =
     (l.n ≤ l.most) × (length l.state ≡ length l.initial.state) × (length l.output ≡ length l.initial.output) × (length l.kept ≡ length l.initial.kept)
-    × (rounds All (survey_of l.rows l.pos l.osp l.survey) l.plan l.quantum l.n (first_position l.opened (record { l.state = l.initial.state; l.output = l.initial.output; l.kept = l.initial.kept }))
-    ≡ record { went = On l.saved l.used; held = record { l.state = l.state; l.output = l.output; l.kept = l.kept } })
+    × (rounds All (survey_of l.rows l.pos l.osp l.survey) l.plan l.quantum l.n (first_position l.opened (record { state = l.initial.state; output = l.initial.output; kept = l.initial.kept }))
+    ≡ record { went = On l.saved l.used; held = record { state = l.state; output = l.output; kept = l.kept } })
 
 abbrev pub decreases-loop-n : goal.decreases-loop-n
 decreases-loop-n l = l.most - l.n

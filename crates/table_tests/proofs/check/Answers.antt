@@ -75,9 +75,13 @@ pub walk-orders-requires : goal.walk-orders-requires
 walk-orders-requires c = let z = sized (goal.at.walk-orders-requires c).Else-not-lengths_right in record { sized = z; nonzero = omega (arith, c.if-pos-eq0.false) }
 
 pub passes-requires : goal.passes-requires
-passes-requires c = let z = sized (goal.at.passes-requires c).Else-not-lengths_right in record { sized = z; nonzero = omega (arith, c.if-pos-eq0.false); last_named = λ e o.
-            all_named (looked (goal.at.passes-requires c).After-years_alike-alike) z (fits (goal.at.passes-requires c).Else-not-lengths_right) c.years_alike-alike.result (alike (goal.at.passes-requires c).After-years_alike-alike (sized (goal.at.passes-requires c).Else-not-lengths_right)) (sym c.walk-orders.ensures ∙ e)
-            o (row_count (looked (goal.at.passes-requires c).After-years_alike-alike) - 1) (omega (arith, c.if-pos-eq0.false)) }
+passes-requires c = let z = sized (goal.at.passes-requires c).Else-not-lengths_right in record {
+  sized = z;
+  nonzero = omega (arith, c.if-pos-eq0.false);
+  last_named = λ e o.
+      all_named (looked (goal.at.passes-requires c).After-years_alike-alike) z (fits (goal.at.passes-requires c).Else-not-lengths_right) c.years_alike-alike.result (alike (goal.at.passes-requires c).After-years_alike-alike (sized (goal.at.passes-requires c).Else-not-lengths_right)) (sym c.walk-orders.ensures ∙ e)
+      o (row_count (looked (goal.at.passes-requires c).After-years_alike-alike) - 1) (omega (arith, c.if-pos-eq0.false));
+}
 
 pub returns-then-passes : goal.returns-then-passes
 returns-then-passes c =

@@ -19,7 +19,7 @@ tables s = tables_of s.args.rows.now s.args.pos.now s.args.osp.now
 abbrev lent : Start → ViewInput
 lent s =
     view_input s.args.rows.now s.args.pos.now s.args.osp.now s.args.grant.now s.args.membership
-    s.args.view-rows.now s.args.view-pos.now s.args.view-osp.now
+    s.args.view_rows.now s.args.view_pos.now s.args.view_osp.now
 
 pub returns-then-refused-ne0 : goal.returns-then-refused-ne0
 returns-then-refused-ne0 c =

@@ -29,4 +29,3 @@ returns c = let a = c.args in
           (omega (arith, c.requires)) c.put_bytes-next.ensures c.put_fields-end.ensures c.put_byte.ensures);
       room = omega (arith, c.put_bytes-next.ensures.0, c.put_fields-end.ensures.0, c.put_byte.ensures.0);
     }
-

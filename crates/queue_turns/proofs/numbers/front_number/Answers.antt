@@ -16,7 +16,7 @@ slice_bounds-words-end c =
 pub slice_bounds-prepare-end : goal.slice_bounds-prepare-end
 slice_bounds-prepare-end c =
     let a = c.args in
-    sym (length-take-le c.planned-count.result a.e.plan (array-share-prefix-words (goal.at.slice_bounds-prepare-end c).After-planned-count))
+    sym (length-take-le c.planned-count.result a.e.plan (planned_within a.e c.planned-count.ensures.1.0 c.planned-count.result c.planned-count.ensures.0))
 
 pub returns : goal.returns
 returns c =

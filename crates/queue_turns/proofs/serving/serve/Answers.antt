@@ -38,7 +38,7 @@ turn_outcome-requires c =
     let entries = a.seen.lined && a.seen.rested in
     let room = room_by a.seen.room a.seen.spare a.given a.kept 0 in
     let late = c.list_number-late.ensures
-    ∙ (λ c. number_of (first_failing (queue_tests_by (c.lists_right.ensures (goal.at.turn_outcome-requires c).Start) (c.room_right-room.ensures (goal.at.turn_outcome-requires c).Start) (not (eqb a.seen.waiting 0))))) in
+    ∙ (λ i. number_of (first_failing (queue_tests_by (c.lists_right.ensures i) (c.room_right-room.ensures i) (not (eqb a.seen.waiting 0))))) in
     let p = passed entries room a.seen.waiting a.quantum c.list_number-late.result c.quantum_number.result late c.quantum_number.ensures
     (sym c.first_of.ensures ∙ c.if-first_of-ne0.false) in
     let r = roomy a.seen.room a.seen.spare a.given a.kept 0 p.room_right_fact in

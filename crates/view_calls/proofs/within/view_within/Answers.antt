@@ -36,7 +36,7 @@ tables s = tables_of s.args.rows.now s.args.pos.now s.args.osp.now
 abbrev lent : Start → ViewInput
 lent s =
     view_input s.args.rows.now s.args.pos.now s.args.osp.now s.args.grant.now s.args.membership
-    s.args.view-rows.now s.args.view-pos.now s.args.view-osp.now
+    s.args.view_rows.now s.args.view_pos.now s.args.view_osp.now
 
 abbrev marks : Marks → List ℕ
 marks m = m.mark-seen.new.marks
@@ -45,7 +45,7 @@ abbrev flags : Marks → List ℕ
 flags m = m.flag_members.new.flags
 
 -- as many are counted as are visible
-counted : (m : Marks) → m.mark-seen.result ≡ seen_in ((view_input m.args.rows.now m.args.pos.now m.args.osp.now m.args.grant.now m.args.membership m.args.view-rows.now m.args.view-pos.now m.args.view-osp.now))
+counted : (m : Marks) → m.mark-seen.result ≡ seen_in ((view_input m.args.rows.now m.args.pos.now m.args.osp.now m.args.grant.now m.args.membership m.args.view_rows.now m.args.view_pos.now m.args.view_osp.now))
 counted m =
     m.mark-seen.ensures.value
     ∙ number_visible m.args.rows.now m.args.grant.now m.args.membership (flags m) m.flag_members.ensures
@@ -64,15 +64,15 @@ seen_few m =
     omega (arith, counted m, m.requires.right.sized.few)
 
 -- what the marks show
-rows_are : (m : Marks) → shown_words m.args.rows.now (marks m) ≡ (view_in ((view_input m.args.rows.now m.args.pos.now m.args.osp.now m.args.grant.now m.args.membership m.args.view-rows.now m.args.view-pos.now m.args.view-osp.now))).rows
+rows_are : (m : Marks) → shown_words m.args.rows.now (marks m) ≡ (view_in ((view_input m.args.rows.now m.args.pos.now m.args.osp.now m.args.grant.now m.args.membership m.args.view_rows.now m.args.view_pos.now m.args.view_osp.now))).rows
 rows_are m =
     shown_rows ((tables_of m.args.rows.now m.args.pos.now m.args.osp.now)) m.requires.right m.args.grant.now m.args.membership m.args.marks.now (marks m) (are_marked m)
 
-pos_are : (m : Marks) → shown_numbers (marks m) m.args.pos.now ≡ (view_in ((view_input m.args.rows.now m.args.pos.now m.args.osp.now m.args.grant.now m.args.membership m.args.view-rows.now m.args.view-pos.now m.args.view-osp.now))).pos
+pos_are : (m : Marks) → shown_numbers (marks m) m.args.pos.now ≡ (view_in ((view_input m.args.rows.now m.args.pos.now m.args.osp.now m.args.grant.now m.args.membership m.args.view_rows.now m.args.view_pos.now m.args.view_osp.now))).pos
 pos_are m =
     shown_pos ((tables_of m.args.rows.now m.args.pos.now m.args.osp.now)) m.requires.right m.args.grant.now m.args.membership m.args.marks.now (marks m) (are_marked m)
 
-osp_are : (m : Marks) → shown_numbers (marks m) m.args.osp.now ≡ (view_in ((view_input m.args.rows.now m.args.pos.now m.args.osp.now m.args.grant.now m.args.membership m.args.view-rows.now m.args.view-pos.now m.args.view-osp.now))).osp
+osp_are : (m : Marks) → shown_numbers (marks m) m.args.osp.now ≡ (view_in ((view_input m.args.rows.now m.args.pos.now m.args.osp.now m.args.grant.now m.args.membership m.args.view_rows.now m.args.view_pos.now m.args.view_osp.now))).osp
 osp_are m =
     shown_osp ((tables_of m.args.rows.now m.args.pos.now m.args.osp.now)) m.requires.right m.args.grant.now m.args.membership m.args.marks.now (marks m) (are_marked m)
 
@@ -87,11 +87,11 @@ marks_there : (m : Marks) → row_count ((tables_of m.args.rows.now m.args.pos.n
 marks_there m = omega (arith, m.requires.right.sized.few, m.requires.marks_len, m.mark-seen.auto)
 
 has : (e : Else-not-has_room) → let a = e.args in
-    tables_room_for e.mark-seen.result (length a.view-rows.now) (length a.view-pos.now) (length a.view-osp.now) ≡ true
+    tables_room_for e.mark-seen.result (length a.view_rows.now) (length a.view_pos.now) (length a.view_osp.now) ≡ true
 has e = sym e.has_room.ensures ∙ not-false e.has_room.result e.if-not-has_room.false-raw
 
 fits : (e : Else-not-has_room) → let a = e.args in
-    RowsFit e.mark-seen.result (length a.view-rows.now) (length a.view-pos.now) (length a.view-osp.now)
+    RowsFit e.mark-seen.result (length a.view_rows.now) (length a.view_pos.now) (length a.view_osp.now)
 fits e = room_parts _ _ _ _ (has e)
 
 pub flag_members-requires : goal.flag_members-requires
@@ -125,7 +125,7 @@ pub returns : goal.returns
 returns c =
     same_result (view_in (lent (goal.at.returns c).Start)) (lent (goal.at.returns c).Start).buffers (seen_in (lent (goal.at.returns c).Start)) (view_counts (lent (goal.at.returns c).Start)) _ _
     c.write_rows.new.view c.write_numbers.new.view c.write_numbers-2.new.view (ap (λ n. n * column_count) (counted (goal.at.returns c).After-mark-seen)) (counted (goal.at.returns c).After-mark-seen)
-    (c.write_rows.ensures ∙ ap (λ ws. over ws c.args.view-rows.now) (rows_are (goal.at.returns c).After-mark-seen))
-    (c.write_numbers.ensures ∙ ap (λ ws. over ws c.args.view-pos.now) (pos_are (goal.at.returns c).After-mark-seen))
-    (c.write_numbers-2.ensures ∙ ap (λ ws. over ws c.args.view-osp.now) (osp_are (goal.at.returns c).After-mark-seen))
+    (c.write_rows.ensures ∙ ap (λ ws. over ws c.args.view_rows.now) (rows_are (goal.at.returns c).After-mark-seen))
+    (c.write_numbers.ensures ∙ ap (λ ws. over ws c.args.view_pos.now) (pos_are (goal.at.returns c).After-mark-seen))
+    (c.write_numbers-2.ensures ∙ ap (λ ws. over ws c.args.view_osp.now) (osp_are (goal.at.returns c).After-mark-seen))
     ∙ served (lent (goal.at.returns c).Start) (accepted (tables (goal.at.returns c).Start) c.requires.right) c.requires.grant_value c.mark-seen.result (counted (goal.at.returns c).After-mark-seen) (has (goal.at.returns c).Else-not-has_room)
