@@ -1,5 +1,6 @@
 # make                  the portable library and turn printer, by cargo, in seconds
-# make proved           the proved library and turn printer, by rt of the Rattle toolchain: some 11 minutes on two quiet cores
+# make proved           the proved library and turn printer, by rt of the Rattle toolchain; to prove all crates takes about an hour on four processors
+# make library          the proved library alone
 # make install          headers, the proved library, sotjarn.pc, the turn printer and its man page, under PREFIX (/usr/local); DESTDIR is put before it
 # make install PORTABLE=1   the same from the portable build, with its shared library and sotjarn_portable.pc; both may be installed side by side
 # make uninstall        takes the same files away, with the same PREFIX, DESTDIR and PORTABLE
@@ -24,9 +25,9 @@ endif
 headers = bindings/c/sotjarn.h bindings/c/sotjarn_words.h
 to = $(DESTDIR)$(abspath $(PREFIX))
 kept = $(to)/lib/sotjarn
-source = crates.txt $(shell find crates -type f -path '*/src/*' -o -type f -path '*/specs/*' -o -type f -path '*/proofs/*')
+source = crates.txt $(shell find crates -path '*/out' -prune -o -type f \( -path '*/src/*' -o -path '*/specs/*' -o -path '*/proofs/*' \) -print)
 
-.PHONY: portable proved rattle install uninstall test help
+.PHONY: portable proved library rattle install uninstall test help
 
 portable:
 	cargo build --release --manifest-path portable/Cargo.toml --target-dir portable/target
@@ -35,15 +36,20 @@ portable/target/release/libsotjarn_portable.a portable/target/release/libsotjarn
 
 proved: target/staticlib/libsotjarn.a target/bin/print_main
 
+library: target/staticlib/libsotjarn.a
+
 rattle:
 	@command -v rt > /dev/null || { echo "make: the proved library is built by 'rt' of the Rattle toolchain, which is not on the path;" >&2; \
 	  echo "make: 'make install PORTABLE=1' installs the portable library, which needs cargo alone" >&2; exit 1; }
 
 target/staticlib/libsotjarn.a: $(source) | rattle
-	rt staticlib sotjarn
+	cd crates/sotjarn && rt lib
+	install -D -m 644 crates/sotjarn/out/libsotjarn.a $@
 
+# rt keeps the program that it builds and runs
 target/bin/print_main: $(source) | rattle
-	rt check print_main
+	cd crates/print_main && rt run -- data/three_stems.words > /dev/null
+	install -D -m 755 crates/print_main/out/print_main $@
 
 install: $(library) $(shared) $(printer)
 	mkdir -p $(to)/bin $(to)/include $(to)/lib/pkgconfig $(to)/share/man/man1 $(kept)
@@ -67,4 +73,4 @@ test:
 	tests/all
 
 help:
-	@sed -n 's/^# //p' Makefile
+	@sed -n '/^$$/q; s/^# //p' Makefile

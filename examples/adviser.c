@@ -3,7 +3,7 @@
  * The view is the same word for word, so it keeps its number, and the query goes on from its saved state. Then a stem of the adviser's own stand is
  * remeasured, and the view is another one.
  *
- *     rt staticlib sotjarn
+ *     make library
  *     cc -Ibindings/c examples/adviser.c target/staticlib/libsotjarn.a -o adviser && ./adviser
  *
  * or without Rattle, by cargo alone:

@@ -1,7 +1,7 @@
 /* The best stem of the three-stem wood: its tables are made of an upload, in the order in which it was measured; then turns of four steps,
  * with the threshold sent once the kept list is full.
  *
- *     rt staticlib sotjarn
+ *     make library
  *     cc -Ibindings/c examples/best_of.c target/staticlib/libsotjarn.a -o best_of && ./best_of
  *
  * or without Rattle, by cargo alone:

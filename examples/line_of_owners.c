@@ -2,7 +2,7 @@
  * steps, and a top-up for whoever is set aside. What the service sends to a phone is printed: whose turn it was, its steps, how it ended, what is
  * left, and the rows or the total so far. An owner's answer is the one that it would get alone.
  *
- *     rt staticlib sotjarn
+ *     make library
  *     cc -Ibindings/c examples/line_of_owners.c target/staticlib/libsotjarn.a -o line_of_owners && ./line_of_owners
  *
  * or without Rattle, by cargo alone:

@@ -1,6 +1,6 @@
 /* A region: eight properties, each in tables of its own, asked by two threads in turns of 500 steps; the lists are merged as they come.
  *
- *     rt staticlib sotjarn
+ *     make library
  *     cc -pthread -Ibindings/c examples/region.c target/staticlib/libsotjarn.a -o region && ./region
  *
  * or without Rattle, by cargo alone:

@@ -9,7 +9,7 @@ ROOT = os.path.realpath(os.path.join(os.path.dirname(os.path.abspath(__file__)),
 HEADER = re.compile(r'(?P<opens>(?:(?:abbrev|unfoldable|opaque) )*)(?P<public>pub )?(?:(?P<kind>record|data) )?(?P<name>[^\s:{(]+)(?P<rest>.*)')
 COMMENT = re.compile(r'(^|\s)(--|//)(\s|$).*')
 IMPORT = re.compile(r'(?:pub |ghost )?use (\S+?)(?:\.\{(.*)\}| as (\S+))?;?')
-HERE = re.compile(r'Rattle·(\w+?)(?:·\w+)?\.(?:specs|proofs)\.declared\.(\w+).*|Rattle·(\w+?)(?:·\w+)?\.(specs|proofs)\.(.+)')
+HERE = re.compile(r'Rattle\.(\w+)\.(?:specs|proofs)\.declared\.(\w+).*|Rattle\.(\w+)\.(specs|proofs)\.(.+)')
 TYPE = re.compile(r'((?:^//.*\n)*)((?:^#\[.*\n)*)^pub (?:struct|enum) (\w+)(?:\(.*\);| \{(?:.*\n)*?\})', re.M)
 IN_TYPE = re.compile(r'(?<=[:(,] )\w+|(?<=\()\w+')
 WORD = re.compile(r'[^\s(){};,]+')
@@ -112,13 +112,13 @@ class Source:
 
     def meaning(self, name, item=None):
         """What a name means here: an item, a pair of a module and a name of the standard library, or None where it is bound."""
-        own = self.own(name, item)
+        alias, _, rest = name.partition('.')
+        own = self.own(name, item) or self.own(alias, item)
         if own is not None:
             return own
-        alias, _, rest = name.partition('.')
         if rest and alias in self.short:
             return in_module(self.short[alias], rest.split('.')[0])
-        used = next((n for n in (name, f'_{name}_', alias) if n in self.uses), None)
+        used = next((n for n in (name, f'◌{name}◌', alias) if n in self.uses), None)
         return in_module(*self.uses[used]) if used else None
 
 
@@ -156,14 +156,14 @@ def words(text, fields=()):
     for word, after in zip(found, [*found[1:], '']):
         if after in (':', '='):
             own |= {word} & set(fields)
-        elif not word.startswith('.') and word not in own:
+        elif not word.startswith('.') and word.partition('.')[0] not in own:
             yield word.rstrip('.')
 
 
 def in_module(module, name):
     """A name of a module: an item of a file, or a type of the code, of which the toolchain makes modules; of other modules both as they stand."""
     here = HERE.fullmatch(module)
-    if here is None:
+    if here is None or not os.path.exists(os.path.join(ROOT, 'crates', here[1] or here[3])):
         return module, name
     if here[2]:
         return types().get(here[2])

@@ -3,7 +3,8 @@
 
 usage: tools/respell.py [FOLDER]
 
-It ran once (a second run would turn more: names that fell together moved on), right after the toolchain's own port script, and is kept so that the port can be done again and compared (docs/PORT.md).
+It ran once (a second run would turn more: names that fell together moved on), right after the toolchain's own port script, and is kept
+so that the port can be done again and compared (docs/PORT.md).
 A row of tools/respell.tsv is: old, a tab, new, and a tab and '.' where the name is a field or a constructor, which stands behind a dot too.
 It turns whole names alone: in specs/ and proofs/ everywhere but in comments, where only names in backticks turn; in src/ the names in
 mixed case or with a dash, which no Rust name has; in edits the lines old: and new:.

@@ -11,6 +11,9 @@ CLAUSES = re.compile(r'^ *(?:requires|ensures) .*?(?=^ *\{$)', re.M | re.S)
 EDITED = re.compile(r'^file: (.*)$', re.M)
 WORD = re.compile(r'\[\]|[^\s(){}\[\];,]+(?![^\s(){}\[\];,]|\s+:\s)')
 NAMED = re.compile(r'`([^`\s]+)`')
+CLAUSE = re.compile(r'^ *(?:requires|ensures) (?:\w+ )?(?=\{)', re.M)
+# what is written of the proof of a function, in a folder with its name
+PROOFS = ('/Invariants.antt', '/Answers.antt', '/Proof.antt')
 
 
 def files(*patterns):
@@ -20,6 +23,11 @@ def files(*patterns):
 def bare(text):
     """A text without its comments."""
     return '\n'.join(definitions.COMMENT.sub('', line).rstrip() for line in text.split('\n'))
+
+
+def clauses(text):
+    """What the clauses of a file say, without their own names."""
+    return CLAUSE.sub('', '\n'.join(CLAUSES.findall(text)))
 
 
 def words(text):
@@ -50,14 +58,14 @@ def listed(use):
 
 def says(said, name):
     """Whether the words of a file say a name; an operator is said by its symbols. What a tactic takes is said where the tactic is called."""
-    return name in said or '_' in (name[0], name[-1]) and said.issuperset(filter(None, name.split('_')))
+    return name in said or '◌' in (name[0], name[-1]) and said.issuperset(filter(None, name.split('◌')))
 
 
 def imports(path):
     """Each name that a file imports and does not pass on, with its import and whether the file says it; what is imported for clauses, clauses say."""
     text = bare(definitions.read(path))
     body = USE.sub('', text) + '\n' + edits().get(path, '')
-    ghost = {word.partition('.')[0] for word in words(body if path.endswith('.antt') else '\n'.join(CLAUSES.findall(body)))}
+    ghost = {word.partition('.')[0] for word in words(body if path.endswith('.antt') else clauses(body))}
     code = ghost if path.endswith('.antt') else set(re.findall(r'\w+', body))
     for use in USE.finditer(text):
         if use['how'] != 'pub ':
@@ -74,11 +82,11 @@ def begun_with():
     """The theorems that function proofs give, worked cases (laws of no variable), and what clauses, edits and pages name."""
     pages = {name for path in files('*.md', 'docs/**/*.md') for name in NAMED.findall(definitions.read(path))}
     for item in all_items():
-        proof = item.path.endswith('/Proof.antt')
+        proof = item.path.endswith(PROOFS)
         if item.public if proof else item.name in pages or item.kind == 'law' and item.closed:
             yield item
     for path in files('crates/*/src/**/*.rt'):
-        yield from meant(path, ' '.join(CLAUSES.findall(bare(definitions.read(path)))))
+        yield from meant(path, clauses(bare(definitions.read(path))))
     for path, text in edits().items():
         yield from meant(path, text)
 
@@ -86,7 +94,7 @@ def begun_with():
 def meant(path, text, item=None):
     """The items that a text in a file names, an operator by its symbol."""
     said = words(text)
-    found = (definitions.source(path).meaning(word, item) for word in [*said, *(f'_{word}_' for word in said)])
+    found = (definitions.source(path).meaning(word, item) for word in [*said, *(f'◌{word}◌' for word in said)])
     return {other for other in found if isinstance(other, definitions.Item) and other is not item}
 
 

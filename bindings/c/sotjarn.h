@@ -3,7 +3,7 @@
  * queries of several owners in a queue: joining, serving and topping up; and dictionaries of names and of texts: strings numbered, the number of
  * a string and the string of a number.
  *
- * Link with libsotjarn.a, the proved library, which `rt staticlib sotjarn` writes to target/staticlib/; or with libsotjarn_portable.a,
+ * Link with libsotjarn.a, the proved library, which `make library` writes to target/staticlib/; or with libsotjarn_portable.a,
  * the same source without its proofs, which cargo makes in portable/. `make install` installs either. No call allocates, keeps an
  * address, or has a state of its own: calls on different buffers may run at the same time. sotjarn_words.h has terms, words of plans
  * and refusals by name.

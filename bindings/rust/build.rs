@@ -30,7 +30,7 @@ fn main() {
         }
         _ => {
             eprintln!("{LIBRARY} is missing: it is not in {}.", folder.display());
-            eprintln!("Run `rt staticlib sotjarn` first, at the root of the repository: it writes target/staticlib/{LIBRARY}.");
+            eprintln!("Run `make library` first, at the root of the repository: it writes target/staticlib/{LIBRARY}.");
             eprintln!("Without the feature `proved` the crate uses the portable engine and needs no library.");
             eprintln!("Where the library stands elsewhere, set {VARIABLE} to its folder.");
             exit(1);
