@@ -2,11 +2,13 @@
 //! is kept in the repository.
 //!
 //! Rattle's source is Rust but for what follows, and nothing else is changed:
-//!   - contracts (`requires { .. }`, `ensures { .. }`, `ghost { .. }`) and `ghost use ..;` are left out;
-//!   - plain data is copied there without being asked: each struct and enum gets `#[derive(Clone, Copy)]`, and those for C what lets Rust
-//!     compare and show them;
+//!   - contracts (`requires { .. }` and `ensures { .. }`, with or without a name, and `ghost { .. }`), `ghost use ..;` and
+//!     `#![tactic(..)]` are left out;
+//!   - structs and enums for C get what lets Rust compare and show them;
 //!   - crates are modules here: `crate::` and the names of the crates that a crate may use become paths to modules, all public;
-//!   - `std::` becomes a path to src/standard.rs, which has what the engine takes of Rattle's standard library;
+//!   - `std::` becomes a path to src/standard.rs, which has what the engine takes of Rattle's standard library, or to
+//!     src/bin/turns/standard.rs, which has what the printer takes; so do the names that stand in Rattle without a `use` and not in Rust.
+//!     `str::` becomes a path to Rust's module of that name;
 //!   - a function that is exported for C takes slices there, which rustc passes otherwise than Rattle does. Here it is a plain
 //!     function, and exports.rs gets one of the same name that takes addresses and lengths;
 //!   - rustc leaves calls in a step where Rattle leaves none, and a struct that is handed to a call is in memory. So the functions of some
@@ -24,8 +26,8 @@ use std::{env, fs, process};
 const CALLS: &str = "sotjarn";
 /// The crate of the turn printer, whose `print_path` the program `turns` calls: it and what it uses beside the library.
 const PRINTER: &str = "print_files";
-/// Rattle's own crates, which only the printer uses; src/bin/turns/ has modules of these names that stand in for them.
-const TOOLCHAIN: [&str; 3] = ["io", "os", "libc"];
+/// What Rattle has without a `use`, and Rust has not, or otherwise; only the printer uses it.
+const PRELUDE: [&str; 3] = ["Print", "Eprint", "eprintln"];
 /// The library's name, for paths from the program.
 const LIBRARY: &str = "sotjarn_portable";
 
@@ -85,7 +87,7 @@ fn stop(file: &Path, line: usize, what: &str) -> ! {
 enum Kind {
     /// Blanks and comments.
     Space,
-    /// A contract's clause or a `ghost use`.
+    /// A contract's clause, a `ghost use`, or the tactic of a file's proofs.
     Proof,
     /// Anything else: a name, keyword or number, a literal, a label, or a mark.
     Solid,
@@ -138,6 +140,7 @@ fn token(text: &str) -> Option<(Kind, usize)> {
         "ghost" => None,
         "b" if text[word..].starts_with('"') => quoted(text, '"').map(|n| (Kind::Solid, n)),
         "b" if text[word..].starts_with('\'') => quoted(text, '\'').map(|n| (Kind::Solid, n)),
+        "" if text.starts_with("#![tactic(") => text.find(']').map(|n| (Kind::Proof, n + 1)),
         "" if text.starts_with("//") => Some((Kind::Space, while_so(0, |c| c != '\n'))),
         "" if text.starts_with("/*") => None,
         "" if text.starts_with(char::is_whitespace) => Some((Kind::Space, while_so(0, char::is_whitespace))),
@@ -171,7 +174,8 @@ struct Export {
     answer: String,
 }
 
-/// A source file, and the path of its module. Its tokens but for blanks and proofs are numbered; `edits` has what is put in place of some.
+/// A source file, and the path of its module. Its tokens but for blanks and proofs are numbered; `edits` has what is put in place of some,
+/// and `grouped` those in the braces of a `use`, where no path begins.
 struct Source<'a> {
     file: &'a Path,
     module: String,
@@ -180,6 +184,7 @@ struct Source<'a> {
     edits: BTreeMap<usize, String>,
     modules: BTreeSet<&'a str>,
     imported: BTreeSet<&'a str>,
+    grouped: BTreeSet<usize>,
     for_c: BTreeSet<&'a str>,
     exports: Vec<Export>,
 }
@@ -189,9 +194,9 @@ impl<'a> Source<'a> {
     fn read(file: &'a Path, module: String, text: &'a str) -> Source<'a> {
         let tokens = tokens(file, text);
         let solid = (0..tokens.len()).filter(|&at| tokens[at].kind == Kind::Solid).collect();
-        let (edits, exports) = (BTreeMap::new(), Vec::new());
+        let (edits, exports, grouped) = (BTreeMap::new(), Vec::new(), BTreeSet::new());
         let (modules, imported, for_c) = (BTreeSet::new(), BTreeSet::new(), BTreeSet::new());
-        let mut source = Source { file, module, tokens, solid, edits, modules, imported, for_c, exports };
+        let mut source = Source { file, module, tokens, solid, edits, modules, imported, grouped, for_c, exports };
         let end = source.items(0);
         if end < source.solid.len() {
             source.stop(end, "a brace that closes nothing");
@@ -246,7 +251,10 @@ impl<'a> Source<'a> {
 
     /// The item at a number; answers the number of its last token.
     fn item(&mut self, start: usize) -> usize {
-        let first = if self.text(start) == "#" { self.find(start + 1, &["]"]) + 1 } else { start };
+        let mut first = start;
+        while self.text(first) == "#" {
+            first = self.find(first + 1, &["]"]) + 1;
+        }
         let mark = self.joined(start, first);
         let head = first + usize::from(self.text(first) == "pub");
         match (&mark[..], self.text(head), self.text(head + 1), self.text(head + 2)) {
@@ -257,15 +265,15 @@ impl<'a> Source<'a> {
                 head + 2
             }
             ("", "const" | "type", ..) => self.find(head, &[";"]),
-            ("" | "#[repr(C)]", "struct" | "enum", name, _) => {
-                let mut marks = "#[derive(Clone, Copy)]";
-                if !mark.is_empty() {
-                    self.for_c.insert(name);
-                    marks = "#[derive(Clone, Copy, Debug, PartialEq, Eq)]";
-                } else if self.text(head) == "struct" && self.name() == PACKED {
-                    marks = "#[derive(Clone, Copy)] #[repr(packed)]";
+            ("#[repr(C)]#[derive(Clone,Copy)]", "struct" | "enum", name, _) => {
+                self.for_c.insert(name);
+                self.put(first, format!("#[derive(Debug, PartialEq, Eq)] {}", self.text(first)));
+                self.find(head, &[";", "}"])
+            }
+            ("" | "#[derive(Clone,Copy)]", "struct" | "enum", ..) => {
+                if self.text(head) == "struct" && self.name() == PACKED {
+                    self.put(first, format!("#[repr(packed)] {}", self.text(first)));
                 }
-                self.put(first, format!("{marks} {}", self.text(first)));
                 self.find(head, &[";", "}"])
             }
             ("", "impl", _, "{") => self.items(head + 3),
@@ -277,7 +285,7 @@ impl<'a> Source<'a> {
                 }
                 self.find(head, &["}"])
             }
-            ("#[no_mangle]", "extern", "\"C\"", "fn") => {
+            ("#[unsafe(no_mangle)]", "extern", "\"C\"", "fn") => {
                 (start..first).chain(head..head + 2).for_each(|at| self.put(at, String::new()));
                 self.export(head + 3)
             }
@@ -285,13 +293,19 @@ impl<'a> Source<'a> {
         }
     }
 
-    /// A `use` of one name by its path, and the name that it brings in.
+    /// A `use` of names by their paths, and the names that it brings in.
     fn import(&mut self, head: usize) -> usize {
         let end = self.find(head, &[";"]);
-        if !(head + 1..end).all(|at| self.text(at) == "::" || self.text(at).chars().all(is_word)) {
-            self.stop(head, "a `use` of a form not known here");
+        for at in head + 1..end {
+            let (text, next) = (self.text(at), self.text(at + 1));
+            match text {
+                "{" if at > head + 1 => self.grouped.extend(at..end),
+                "::" | "," | "}" => {}
+                _ if !text.chars().all(is_word) => self.stop(head, "a `use` of a form not known here"),
+                _ if matches!(next, "," | "}" | ";") => _ = self.imported.insert(text),
+                _ => {}
+            }
         }
-        self.imported.insert(self.text(end - 1));
         end
     }
 
@@ -316,7 +330,13 @@ impl<'a> Source<'a> {
     fn translate_paths(&mut self, own: &str, roots: &BTreeMap<String, String>) {
         for at in 0..self.solid.len() {
             let head = self.text(at);
-            if self.text(at + 1) != "::" || (at > 0 && self.text(at - 1) == "::") {
+            if self.grouped.contains(&at) || (at > 0 && self.text(at - 1) == "::") {
+                continue;
+            }
+            if PRELUDE.contains(&head) {
+                self.put(at, format!("crate::standard::{head}"));
+            }
+            if self.text(at + 1) != "::" {
                 continue;
             }
             let is_module = self.modules.contains(head);
@@ -325,6 +345,7 @@ impl<'a> Source<'a> {
             match roots.get(head) {
                 _ if head == "crate" => self.put(at, format!("crate::{own}")),
                 _ if head == "std" => self.put(at, "crate::standard".to_string()),
+                _ if head == "str" => self.put(at, "core::str".to_string()),
                 Some(_) if is_module => self.stop(at, &format!("{head} is both a module and a crate that is used")),
                 Some(root) => self.put(at, format!("{root}::{head}")),
                 None if is_known || head.starts_with(char::is_uppercase) => {}
@@ -402,16 +423,17 @@ fn write(file: &Path, text: &str) {
 fn read_crates(file: &Path) -> Crates {
     let text = read(file);
     let lines = text.lines().enumerate().filter(|(_, line)| !line.trim().is_empty() && !line.starts_with('#'));
-    let entry = |(number, line): (usize, &str)| match line.split_once(':') {
-        Some((name, uses)) => (name.trim().to_string(), uses.split_whitespace().map(String::from).collect()),
-        None => stop(file, number + 1, "a line that names no crate"),
+    let words = |text: &str| text.split_whitespace().map(String::from).collect::<Vec<_>>();
+    let entry = |(number, line): (usize, &str)| match line.split_once(':').map(|(name, uses)| (words(name), words(uses))) {
+        Some((name, uses)) if !name.is_empty() => (name[0].clone(), uses), // a second word says what kind of library it is
+        _ => stop(file, number + 1, "a line that names no crate"),
     };
     lines.map(entry).collect()
 }
 
-/// Finds a crate and all that it uses, but for Rattle's own.
+/// Finds a crate and all that it uses.
 fn find_used(crates: &Crates, name: &str, found: &mut BTreeSet<String>) {
-    if TOOLCHAIN.contains(&name) || !found.insert(name.to_string()) {
+    if !found.insert(name.to_string()) {
         return;
     }
     match crates.get(name) {

@@ -1,15 +1,15 @@
 //! The turn printer: prints what the query of a file answers, turn by turn. It is the proved printer's own source, made into Rust by
-//! build.rs; the modules io, os and libc stand in for Rattle's. What is added here is the exit status, and why a query was refused.
+//! build.rs; the module standard stands in for Rattle's. What is added here is the exit status, and why a query was refused.
 
 #[cfg(not(target_pointer_width = "64"))]
 compile_error!("the turn printer counts the words of a file's rows in usize and needs 64 bits; the library does not");
 
-mod io;
-mod libc;
-mod os;
 mod refusals;
+mod standard;
 
+use standard::HostRuntime;
 use std::env;
+use std::ffi::OsStr;
 use std::process::ExitCode;
 
 include!(concat!(env!("OUT_DIR"), "/printer/modules.rs"));
@@ -33,12 +33,23 @@ fn refused(last: &[u8]) -> Option<u32> {
     text.strip_prefix("refused ")?.trim_end().parse().ok()
 }
 
-fn print_file(path: &std::ffi::OsStr) -> ExitCode {
-    print_path(&os::bytes(path));
-    if os::has_failed() {
+#[cfg(unix)]
+fn bytes(path: &OsStr) -> Vec<u8> {
+    std::os::unix::ffi::OsStrExt::as_bytes(path).to_vec()
+}
+
+#[cfg(not(unix))]
+fn bytes(path: &OsStr) -> Vec<u8> {
+    path.to_string_lossy().into_owned().into_bytes()
+}
+
+fn print_file(path: &OsStr) -> ExitCode {
+    let rt = HostRuntime::default();
+    print_path(&rt, &bytes(path));
+    if rt.has_failed() {
         return ExitCode::from(FAILED);
     }
-    match refused(&io::last_written()) {
+    match refused(&rt.last_written()) {
         Some(number) => {
             eprintln!("turns: refused by {number}: {}", refusals::reason(number));
             ExitCode::from(REFUSED)
