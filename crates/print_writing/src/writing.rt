@@ -5,15 +5,19 @@ ghost use Rattle.lists.specs.Groups.{group_in};
 ghost use Rattle.print_lines.specs.Lines.{turn_line, refused_line, row_line, group_line, list_line};
 ghost use Rattle.print_writing.specs.Shown.{TurnShown, RefusedBy, IsLine};
 
+use std::io::ErrorKind;
 use turns::Turned;
 
-// Writes the first `n` bytes of `line`; that they could not be written is said on standard error.
+// Writes the first `n` bytes of `line`; that they could not be written is said on standard error, but for a pipe that nobody reads any more, where
+// nothing is to be said.
 fn write_first(rt: &(impl Print + Eprint), line: &[u8], n: usize)
     requires { n ≤ length line.now }
 {
     let text = &line[..n];
     if let Err(error) = rt.write_all(text) {
-        let _ = eprintln!(rt; "standard output: {error}");
+        if error.kind() != ErrorKind::BrokenPipe {
+            let _ = eprintln!(rt; "standard output: {error}");
+        }
     }
 }
 
