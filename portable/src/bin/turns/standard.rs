@@ -64,8 +64,8 @@ impl HostRuntime {
 impl Files for HostRuntime {}
 
 impl Print for HostRuntime {
-    /// Output that cannot be written ends the program: a pipe that nobody reads any more without a word, as it ends the proved printer,
-    /// anything else with the reason, said once.
+    /// Output that cannot be written ends the program: a pipe that nobody reads any more without a word, anything else with the reason,
+    /// said once.
     fn write_all(&self, bytes: &[u8]) -> Result<()> {
         let mut output = io::stdout();
         if let Err(error) = output.write_all(bytes).and_then(|()| output.flush()) {
@@ -80,8 +80,11 @@ impl Print for HostRuntime {
 }
 
 impl Eprint for HostRuntime {
+    /// Writes a line, without the number that Rust puts behind the reason of an error.
     fn eprintln(&self, line: Arguments) -> Result<()> {
         self.failed.set(true);
-        writeln!(io::stderr(), "{line}")
+        let line = line.to_string();
+        let said = line.split(" (os error ").next().unwrap_or(&line);
+        writeln!(io::stderr(), "{said}")
     }
 }
