@@ -8,13 +8,13 @@ use Rattle.worked_cases.specs.Calls.{Case}
 use Rattle.worked_cases.specs.Literals.{stems, stem1, stem2, stem3, ending01, at_place, whole_from}
 
 -- ---- plan A with another condition: ?0 n10 n100, ?0 n12 ?1, the condition, rows ?0 ?1. It takes 10 steps whatever the condition keeps
-abbrev pub plan_aWith : List ℕ → List ℕ
-plan_aWith condition =
+abbrev pub plan_a_with : List ℕ → List ℕ
+plan_a_with condition =
     0x10000001 ∷ 0x20000002 ∷ 0xC0000000 ∷ 0x0000000A ∷ 0x00000064 ∷ 0xC0000000 ∷ 0x0000000C ∷ 0xC0000001
     ∷ (condition ++ ending01)
 
 abbrev pub keeps_rows : List ℕ → List ℕ → Case
-keeps_rows condition rows = whole_from stems (plan_aWith condition) (at_place 0xF0000000) 10 rows
+keeps_rows condition rows = whole_from stems (plan_a_with condition) (at_place 0xF0000000) 10 rows
 
 -- the rows that may be kept: none; n1 i45; n2 i310 and n3 i310; all three
 abbrev pub none_kept : List ℕ
