@@ -2,9 +2,9 @@
 //! is kept in the repository.
 //!
 //! Rattle's source is Rust but for what follows, and nothing else is changed:
-//!   - contracts (`requires { .. }` and `ensures { .. }`, with or without a name, and `ghost { .. }`), `ghost use ..;` and
-//!     `#![tactic(..)]` are left out;
-//!   - structs and enums for C get what lets Rust compare and show them;
+//!   - contracts (`requires { .. }` and `ensures { .. }`, with or without a name, and `ghost { .. }`), `ghost use ..;`, a ghost
+//!     member of a trait or an impl (`ghost name: { .. };`), `#![tactic(..)]` and `#[tactic(..)]` are left out;
+//!   - structs and enums for C get what lets Rust compare and show them, where they do not derive it themselves;
 //!   - crates are modules here: `crate::` and the names of the crates that a crate may use become paths to modules, all public;
 //!   - `std::` becomes a path to src/standard.rs, which has what the engine takes of Rattle's standard library, or to
 //!     src/bin/turns/standard.rs, which has what the printer takes; so do the names that stand in Rattle without a `use` and not in Rust.
@@ -58,14 +58,16 @@ const PUT_IN: [&str; 21] = [
 /// Those whose functions may be, also in a program that compiles the library in several units and does not optimise it as a whole. The
 /// searches of table_ranges and table_ends stay calls: put where they are called before those are optimised, they are slower. The
 /// walk of the check is here and not above for the same reason.
-const MAY_BE_PUT_IN: [&str; 10] = [
+const MAY_BE_PUT_IN: [&str; 12] = [
     "list_endings",
     "list_groups",
     "plan_parts",
     "plans",
+    "sorts",
     "step_levels",
     "table_readings",
     "table_row_orders",
+    "table_sorts",
     "table_walks",
     "tables",
     "words",
@@ -128,6 +130,16 @@ fn quoted(text: &str, quote: char) -> Option<usize> {
     None
 }
 
+/// Whether the marks of a struct or enum are none, or one list of derives.
+fn is_derive(mark: &str) -> bool {
+    mark.is_empty() || (mark.starts_with("#[derive(") && mark.find(']') == Some(mark.len() - 1))
+}
+
+/// Whether the marks of a struct or enum derive a trait.
+fn derives(mark: &str, name: &str) -> bool {
+    mark.split(|c| !is_word(c)).any(|word| word == name)
+}
+
 /// The kind and the bytes of the token that `text` begins with; none where it does not end, or is not known.
 fn token(text: &str) -> Option<(Kind, usize)> {
     let while_so = |start: usize, so: fn(char) -> bool| text[start..].find(|c| !so(c)).map_or(text.len(), |n| start + n);
@@ -137,10 +149,10 @@ fn token(text: &str) -> Option<(Kind, usize)> {
         "requires" | "ensures" => braced(text).map(|n| (Kind::Proof, n)),
         "ghost" if after.starts_with('{') => braced(text).map(|n| (Kind::Proof, n)),
         "ghost" if after.starts_with("use ") => text.find(';').map(|n| (Kind::Proof, n + 1)),
-        "ghost" => None,
+        "ghost" => braced(text).filter(|&n| text[n..].starts_with(';')).map(|n| (Kind::Proof, n + 1)),
         "b" if text[word..].starts_with('"') => quoted(text, '"').map(|n| (Kind::Solid, n)),
         "b" if text[word..].starts_with('\'') => quoted(text, '\'').map(|n| (Kind::Solid, n)),
-        "" if text.starts_with("#![tactic(") => text.find(']').map(|n| (Kind::Proof, n + 1)),
+        "" if text.starts_with("#![tactic(") || text.starts_with("#[tactic(") => text.find(']').map(|n| (Kind::Proof, n + 1)),
         "" if text.starts_with("//") => Some((Kind::Space, while_so(0, |c| c != '\n'))),
         "" if text.starts_with("/*") => None,
         "" if text.starts_with(char::is_whitespace) => Some((Kind::Space, while_so(0, char::is_whitespace))),
@@ -265,18 +277,23 @@ impl<'a> Source<'a> {
                 head + 2
             }
             ("", "const" | "type", ..) => self.find(head, &[";"]),
-            ("#[repr(C)]#[derive(Clone,Copy)]", "struct" | "enum", name, _) => {
+            (mark, "struct" | "enum", name, _) if mark.starts_with("#[repr(C)]") && is_derive(&mark["#[repr(C)]".len()..]) => {
                 self.for_c.insert(name);
-                self.put(first, format!("#[derive(Debug, PartialEq, Eq)] {}", self.text(first)));
+                let more: Vec<_> = ["Debug", "PartialEq", "Eq"].into_iter().filter(|&one| !derives(mark, one)).collect();
+                self.put(first, format!("#[derive({})] {}", more.join(", "), self.text(first)));
                 self.find(head, &[";", "}"])
             }
-            ("" | "#[derive(Clone,Copy)]", "struct" | "enum", ..) => {
+            (mark, "struct" | "enum", ..) if is_derive(mark) => {
                 if self.text(head) == "struct" && self.name() == PACKED {
                     self.put(first, format!("#[repr(packed)] {}", self.text(first)));
                 }
                 self.find(head, &[";", "}"])
             }
-            ("", "impl", _, "{") => self.items(head + 3),
+            ("", "impl", ..) => {
+                let body = self.find(head, &["{"]);
+                self.items(body + 1)
+            }
+            ("", "trait", ..) => self.find(head, &["}"]),
             ("", "fn", ..) => {
                 if PUT_IN.contains(&self.name()) {
                     self.put(first, format!("#[inline(always)] {}", self.text(first)));
@@ -336,7 +353,7 @@ impl<'a> Source<'a> {
             if PRELUDE.contains(&head) {
                 self.put(at, format!("crate::standard::{head}"));
             }
-            if self.text(at + 1) != "::" {
+            if self.text(at + 1) != "::" || self.text(at + 2) == "<" {
                 continue;
             }
             let is_module = self.modules.contains(head);

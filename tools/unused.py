@@ -11,7 +11,12 @@ CLAUSES = re.compile(r'^ *(?:requires|ensures) .*?(?=^ *\{$)', re.M | re.S)
 EDITED = re.compile(r'^file: (.*)$', re.M)
 WORD = re.compile(r'\[\]|[^\s(){}\[\];,]+(?![^\s(){}\[\];,]|\s+:\s)')
 NAMED = re.compile(r'`([^`\s]+)`')
+MEMBERS = re.compile(r'^ *ghost \w+(?::| =) .*?;$', re.M | re.S)
+TACTICS = re.compile(r'^ *#!?\[tactic\((.*?)\)\]$', re.M | re.S)
+PATH = re.compile(r'\w+(?:::\w+)+')
 CLAUSE = re.compile(r'^ *(?:requires|ensures) (?:\w+ )?(?=\{)', re.M)
+# the pages that say what names were
+HISTORY = ('docs/PORT.md', 'docs/DESIGN-PASS.md')
 # what is written of the proof of a function, in a folder with its name
 PROOFS = ('/Invariants.antt', '/Answers.antt', '/Proof.antt')
 
@@ -26,8 +31,8 @@ def bare(text):
 
 
 def clauses(text):
-    """What the clauses of a file say, without their own names."""
-    return CLAUSE.sub('', '\n'.join(CLAUSES.findall(text)))
+    """What the clauses and the ghost members of a file say, without their own names."""
+    return CLAUSE.sub('', '\n'.join([*CLAUSES.findall(text), *MEMBERS.findall(text)]))
 
 
 def words(text):
@@ -79,16 +84,27 @@ def all_items():
 
 
 def begun_with():
-    """The theorems that function proofs give, worked cases (laws of no variable), and what clauses, edits and pages name."""
-    pages = {name for path in files('*.md', 'docs/**/*.md') for name in NAMED.findall(definitions.read(path))}
+    """The theorems that function proofs give, worked cases (laws of no variable), and what clauses, tactics' lists, edits and pages name."""
+    pages = {name for path in files('*.md', 'docs/**/*.md') if path not in HISTORY for name in NAMED.findall(definitions.read(path))}
     for item in all_items():
         proof = item.path.endswith(PROOFS)
         if item.public if proof else item.name in pages or item.kind == 'law' and item.closed:
             yield item
     for path in files('crates/*/src/**/*.rt'):
-        yield from meant(path, clauses(bare(definitions.read(path))))
+        text = definitions.read(path)
+        yield from meant(path, clauses(bare(text)))
+        yield from taken(path, text)
     for path, text in edits().items():
         yield from meant(path, text)
+
+
+def taken(path, text):
+    """The items that the tactics of a file's proofs take, each by its path."""
+    for name in (name for attribute in TACTICS.findall(text) for name in PATH.findall(attribute)):
+        crate, *folders, last = name.split('::')
+        file = f"crates/{path.split('/')[1] if crate == 'crate' else crate}/{'/'.join(folders)}.antt"
+        if os.path.exists(os.path.join(definitions.ROOT, file)):
+            yield from (item for item in definitions.source(file).items if item.name == last)
 
 
 def meant(path, text, item=None):

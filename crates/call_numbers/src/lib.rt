@@ -138,142 +138,154 @@ pub const ABSENT: u32 = 0;
 pub const PRESENT: u32 = 1;
 
 // The numbers of an answer: no words are written by a refused call.
-pub fn written_numbers(w: Written) -> WrittenNumbers
-    ensures { result ≡ written_numbers w }
-{
-    match w {
-        Written::Words(n) => WrittenNumbers {
-            refused: 0,
-            words: n,
-        },
-        Written::Refused(number) => WrittenNumbers {
-            refused: number,
-            words: 0,
-        },
+impl From<Written> for WrittenNumbers {
+    ghost from_gives = { λ w numbers. numbers ≡ written_numbers w };
+
+    fn from(w: Written) -> Self {
+        match w {
+            Written::Words(n) => WrittenNumbers {
+                refused: 0,
+                words: n,
+            },
+            Written::Refused(number) => WrittenNumbers {
+                refused: number,
+                words: 0,
+            },
+        }
     }
 }
 
 // The numbers of an ending: of a served turn the test's is 0.
-pub fn ending_numbers(e: TurnEnding) -> EndingNumbers
-    ensures { result ≡ ending_numbers e }
-{
-    match e {
-        TurnEnding::Done => EndingNumbers {
-            ending: DONE,
-            refused: 0,
-        },
-        TurnEnding::Spent => EndingNumbers {
-            ending: SPENT,
-            refused: 0,
-        },
-        TurnEnding::Full => EndingNumbers {
-            ending: FULL,
-            refused: 0,
-        },
-        TurnEnding::Refused(number) => EndingNumbers {
-            ending: REFUSED,
-            refused: number,
-        },
+impl From<TurnEnding> for EndingNumbers {
+    ghost from_gives = { λ e numbers. numbers ≡ ending_numbers e };
+
+    fn from(e: TurnEnding) -> Self {
+        match e {
+            TurnEnding::Done => EndingNumbers {
+                ending: DONE,
+                refused: 0,
+            },
+            TurnEnding::Spent => EndingNumbers {
+                ending: SPENT,
+                refused: 0,
+            },
+            TurnEnding::Full => EndingNumbers {
+                ending: FULL,
+                refused: 0,
+            },
+            TurnEnding::Refused(number) => EndingNumbers {
+                ending: REFUSED,
+                refused: number,
+            },
+        }
     }
 }
 
 // The numbers of a turn's answer.
-pub fn turned_numbers(t: Turned) -> TurnedNumbers
-    ensures { result ≡ turned_numbers t }
-{
-    let ending = t.ending;
-    let e = ending_numbers(ending);
-    TurnedNumbers {
-        ending: e.ending,
-        refused: e.refused,
-        steps: t.steps,
-        saved: t.saved,
-        listed: t.listed,
+impl From<Turned> for TurnedNumbers {
+    ghost from_gives = { λ t numbers. numbers ≡ turned_numbers t };
+
+    fn from(t: Turned) -> Self {
+        let e = EndingNumbers::from(t.ending);
+        TurnedNumbers {
+            ending: e.ending,
+            refused: e.refused,
+            steps: t.steps,
+            saved: t.saved,
+            listed: t.listed,
+        }
     }
 }
 
 // The numbers of what making tables answers: no words are written by a refused call.
-pub fn made_numbers(m: Made) -> MadeNumbers
-    ensures { result ≡ made_numbers m }
-{
-    match m {
-        Made::Words {
-            rows,
-            pos,
-            osp,
-            report,
-        } => MadeNumbers {
-            refused: 0,
-            rows: rows,
-            pos: pos,
-            osp: osp,
-            report: report,
-        },
-        Made::Refused(number) => MadeNumbers {
-            refused: number,
-            rows: 0,
-            pos: 0,
-            osp: 0,
-            report: 0,
-        },
+impl From<Made> for MadeNumbers {
+    ghost from_gives = { λ m numbers. numbers ≡ made_numbers m };
+
+    fn from(m: Made) -> Self {
+        match m {
+            Made::Words {
+                rows,
+                pos,
+                osp,
+                report,
+            } => MadeNumbers {
+                refused: 0,
+                rows,
+                pos,
+                osp,
+                report,
+            },
+            Made::Refused(number) => MadeNumbers {
+                refused: number,
+                rows: 0,
+                pos: 0,
+                osp: 0,
+                report: 0,
+            },
+        }
     }
 }
 
 // The numbers of what writing a view and growing a wood answer: no words are written by a refused call.
-pub fn tables_numbers(t: TablesWritten) -> TablesNumbers
-    ensures { result ≡ tables_numbers t }
-{
-    match t {
-        TablesWritten::Words { rows, pos, osp } => TablesNumbers {
-            refused: 0,
-            rows: rows,
-            pos: pos,
-            osp: osp,
-        },
-        TablesWritten::Refused(number) => TablesNumbers {
-            refused: number,
-            rows: 0,
-            pos: 0,
-            osp: 0,
-        },
+impl From<TablesWritten> for TablesNumbers {
+    ghost from_gives = { λ t numbers. numbers ≡ tables_numbers t };
+
+    fn from(t: TablesWritten) -> Self {
+        match t {
+            TablesWritten::Words { rows, pos, osp } => TablesNumbers {
+                refused: 0,
+                rows,
+                pos,
+                osp,
+            },
+            TablesWritten::Refused(number) => TablesNumbers {
+                refused: number,
+                rows: 0,
+                pos: 0,
+                osp: 0,
+            },
+        }
     }
 }
 
 // The numbers of what joining and topping up answer: no entries are counted by a refused call.
-pub fn queued_numbers(q: Queued) -> QueuedNumbers
-    ensures { result ≡ queued_numbers q }
-{
-    match q {
-        Queued::Lists(waiting, resting) => QueuedNumbers {
-            refused: 0,
-            waiting: waiting,
-            resting: resting,
-        },
-        Queued::Refused(number) => QueuedNumbers {
-            refused: number,
-            waiting: 0,
-            resting: 0,
-        },
+impl From<Queued> for QueuedNumbers {
+    ghost from_gives = { λ q numbers. numbers ≡ queued_numbers q };
+
+    fn from(q: Queued) -> Self {
+        match q {
+            Queued::Lists(waiting, resting) => QueuedNumbers {
+                refused: 0,
+                waiting,
+                resting,
+            },
+            Queued::Refused(number) => QueuedNumbers {
+                refused: number,
+                waiting: 0,
+                resting: 0,
+            },
+        }
     }
 }
 
 // The numbers of what serving answers.
-pub fn service_numbers(s: Service) -> ServiceNumbers
-    ensures { result ≡ service_numbers s }
-{
-    let turned = s.turned;
-    let ending = turned.ending;
-    let by = ending_numbers(ending);
-    ServiceNumbers {
-        ending: by.ending,
-        refused: by.refused,
-        steps: turned.steps,
-        owner: s.owner,
-        left: s.left,
-        saved: turned.saved,
-        listed: turned.listed,
-        waiting: s.waiting,
-        resting: s.resting,
+impl From<Service> for ServiceNumbers {
+    ghost from_gives = { λ s numbers. numbers ≡ service_numbers s };
+
+    fn from(s: Service) -> Self {
+        let turned = s.turned;
+        let by = EndingNumbers::from(turned.ending);
+        ServiceNumbers {
+            ending: by.ending,
+            refused: by.refused,
+            steps: turned.steps,
+            owner: s.owner,
+            left: s.left,
+            saved: turned.saved,
+            listed: turned.listed,
+            waiting: s.waiting,
+            resting: s.resting,
+        }
     }
 }
 
@@ -288,68 +300,74 @@ pub fn kind_of(number: u32) -> StringKind
 }
 
 // The numbers of what numbering strings answers: nothing is written by a refused call.
-pub fn numbered_numbers(d: DictionaryWritten) -> NumberedNumbers
-    ensures { result ≡ numbered_numbers d }
-{
-    match d {
-        DictionaryWritten::Sizes { bytes, strings } => NumberedNumbers {
-            refused: 0,
-            bytes: bytes,
-            strings: strings,
-        },
-        DictionaryWritten::Refused(number) => NumberedNumbers {
-            refused: number,
-            bytes: 0,
-            strings: 0,
-        },
+impl From<DictionaryWritten> for NumberedNumbers {
+    ghost from_gives = { λ d numbers. numbers ≡ numbered_numbers d };
+
+    fn from(d: DictionaryWritten) -> Self {
+        match d {
+            DictionaryWritten::Sizes { bytes, strings } => NumberedNumbers {
+                refused: 0,
+                bytes,
+                strings,
+            },
+            DictionaryWritten::Refused(number) => NumberedNumbers {
+                refused: number,
+                bytes: 0,
+                strings: 0,
+            },
+        }
     }
 }
 
 // The numbers of what looking for a string answers.
-pub fn found_numbers(f: StringFound) -> FoundNumbers
-    ensures { result ≡ found_numbers f }
-{
-    match f {
-        StringFound::At(n) => FoundNumbers {
-            refused: 0,
-            present: PRESENT,
-            number: n,
-        },
-        StringFound::Absent(rank) => FoundNumbers {
-            refused: 0,
-            present: ABSENT,
-            number: rank,
-        },
-        StringFound::Refused(number) => FoundNumbers {
-            refused: number,
-            present: ABSENT,
-            number: 0,
-        },
+impl From<StringFound> for FoundNumbers {
+    ghost from_gives = { λ f numbers. numbers ≡ found_numbers f };
+
+    fn from(f: StringFound) -> Self {
+        match f {
+            StringFound::At(n) => FoundNumbers {
+                refused: 0,
+                present: PRESENT,
+                number: n,
+            },
+            StringFound::Absent(rank) => FoundNumbers {
+                refused: 0,
+                present: ABSENT,
+                number: rank,
+            },
+            StringFound::Refused(number) => FoundNumbers {
+                refused: number,
+                present: ABSENT,
+                number: 0,
+            },
+        }
     }
 }
 
 // The numbers of what the string of a number is.
-pub fn bounds_numbers(b: StringBounds) -> BoundsNumbers
-    ensures { result ≡ bounds_numbers b }
-{
-    match b {
-        StringBounds::Part(start, end) => BoundsNumbers {
-            refused: 0,
-            present: PRESENT,
-            start: start,
-            end: end,
-        },
-        StringBounds::Past => BoundsNumbers {
-            refused: 0,
-            present: ABSENT,
-            start: 0,
-            end: 0,
-        },
-        StringBounds::Refused(number) => BoundsNumbers {
-            refused: number,
-            present: ABSENT,
-            start: 0,
-            end: 0,
-        },
+impl From<StringBounds> for BoundsNumbers {
+    ghost from_gives = { λ b numbers. numbers ≡ bounds_numbers b };
+
+    fn from(b: StringBounds) -> Self {
+        match b {
+            StringBounds::Part(start, end) => BoundsNumbers {
+                refused: 0,
+                present: PRESENT,
+                start,
+                end,
+            },
+            StringBounds::Past => BoundsNumbers {
+                refused: 0,
+                present: ABSENT,
+                start: 0,
+                end: 0,
+            },
+            StringBounds::Refused(number) => BoundsNumbers {
+                refused: number,
+                present: ABSENT,
+                start: 0,
+                end: 0,
+            },
+        }
     }
 }

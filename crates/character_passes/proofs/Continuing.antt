@@ -11,8 +11,7 @@ use Rattle.sequences.proofs.Booleans.{yes, no, decided}
 use Rattle.dictionaries.specs.Utf8.{Span, span, is_in, trailing, first_bits, six_more}
 use Rattle.dictionary_checks.specs.declared.Rest.{Rest}
 use Rattle.dictionary_checks.specs.declared.Rest.TheVariants.{Nothing, One, Two, Three, AfterE0, AfterEd, AfterF0, AfterF4}
-use Rattle.dictionary_checks.specs.declared.ByteStep.{ByteStep}
-use Rattle.dictionary_checks.specs.declared.ByteStep.TheVariants.{More, Wrong}
+use Rattle.std.specs.Prelude.{Option, None, Some}
 use Rattle.dictionary_checks.specs.Steps.{spans_in, spans_after, later_step, next_step, nothing_left}
 use Rattle.characters.specs.declared.Character.{Character}
 use Rattle.characters.specs.Sequences.{character, bad_byte, sequence_from, sequence_by, sequence_of}
@@ -40,14 +39,14 @@ bits_first AfterF0 = omega arith
 bits_first AfterF4 = omega arith
 
 -- what a byte makes of the rest and of the bits
-abbrev sequence_after : ByteStep → List ℕ → ℕ → ℕ → Character
-sequence_after (More r) bs c n = sequence_from bs (spans_in r) c n
-sequence_after Wrong bs c n = bad_byte
+abbrev sequence_after : Option Rest → List ℕ → ℕ → ℕ → Character
+sequence_after (Some r) bs c n = sequence_from bs (spans_in r) c n
+sequence_after None bs c n = bad_byte
 
 -- room for six bits more
-abbrev RoomAfter : Rest → ByteStep → Type 0
-RoomAfter r (More q) = 0x100 * bits_below r ≤ bits_below q
-RoomAfter r Wrong = Unit {0}
+abbrev RoomAfter : Rest → Option Rest → Type 0
+RoomAfter r (Some q) = 0x100 * bits_below r ≤ bits_below q
+RoomAfter r None = Unit {0}
 
 later_sequence : (s : Span) (ss : List Span) (r : Rest) (b : ℕ) (bs : List ℕ) (c n : ℕ) → ss ≡ spans_in r
     → sequence_from (b ∷ bs) (s ∷ ss) c n ≡ sequence_after (later_step s r b) bs (six_more c b) (n + 1)
@@ -114,21 +113,21 @@ module _ (text : List ℕ) (at : ℕ) (r : Rest) (c n : ℕ) where
     pub sequence_cut : length text ≤ at → sequence_from (drop at text) (spans_in r) c n ≡ bad_byte
     sequence_cut h = ap (λ l. sequence_from l (spans_in r) c n) (drop_of_length-le text {i = at} h) ∙ none_there r c n e
 
-    module _ (h : at < length text) (step : ByteStep) (f : step ≡ next_step r (get_or text at 0)) where
+    module _ (h : at < length text) (step : Option Rest) (f : step ≡ next_step r (get_or text at 0)) where
       stepped : sequence_from (drop at text) (spans_in r) c n ≡ sequence_after step (drop (at + 1) text) (six_more c (get_or text at 0)) (n + 1)
       stepped =
           ap (λ l. sequence_from l (spans_in r) c n) (drop-cons text at 0 h ∙ ap (λ m. get_or text at 0 ∷ drop m text) (sym (add-one at)))
           ∙ next_sequence r (get_or text at 0) (drop (at + 1) text) c n e
           ∙ ap (λ s. sequence_after s (drop (at + 1) text) (six_more c (get_or text at 0)) (n + 1)) (sym f)
 
-      pub sequence_wrong : step ≡ Wrong → sequence_from (drop at text) (spans_in r) c n ≡ bad_byte
+      pub sequence_wrong : step ≡ None → sequence_from (drop at text) (spans_in r) c n ≡ bad_byte
       sequence_wrong g = stepped ∙ ap (λ s. sequence_after s (drop (at + 1) text) (six_more c (get_or text at 0)) (n + 1)) g
 
-      pub sequence_more : (q : Rest) → step ≡ More q
+      pub sequence_more : (q : Rest) → step ≡ Some q
           → sequence_from (drop at text) (spans_in r) c n ≡ sequence_from (drop (at + 1) text) (spans_in q) (six_more c (get_or text at 0)) (n + 1)
       sequence_more q g = stepped ∙ ap (λ s. sequence_after s (drop (at + 1) text) (six_more c (get_or text at 0)) (n + 1)) g
 
-      pub room_more : (q : Rest) → step ≡ More q → 0x100 * bits_below r ≤ bits_below q
+      pub room_more : (q : Rest) → step ≡ Some q → 0x100 * bits_below r ≤ bits_below q
       room_more q g = rw (sym f ∙ g) at (next_room r (get_or text at 0) e)
 
 pub bits_most : (r : Rest) → bits_below r ≤ 0x1_0000_0000
@@ -143,10 +142,10 @@ bits_most AfterF4 = omega arith
 
 -- ---- the first byte
 module _ (a : ℕ) (bs : List ℕ) where
-  pub sequence_begins : (r : Rest) → next_step Nothing a ≡ More r → sequence_of a bs ≡ sequence_from bs (spans_in r) (first_bits (spans_in r) a) 0
+  pub sequence_begins : (r : Rest) → next_step Nothing a ≡ Some r → sequence_of a bs ≡ sequence_from bs (spans_in r) (first_bits (spans_in r) a) 0
   unfolding sequence_of
   sequence_begins r e = ap (λ o. sequence_by o a bs) (first_spans a ∙ ap spans_after e)
 
-  pub sequence_begins_not : next_step Nothing a ≡ Wrong → sequence_of a bs ≡ bad_byte
+  pub sequence_begins_not : next_step Nothing a ≡ None → sequence_of a bs ≡ bad_byte
   unfolding sequence_of
   sequence_begins_not e = ap (λ o. sequence_by o a bs) (first_spans a ∙ ap spans_after e)

@@ -1,5 +1,5 @@
 // A text's bytes read to code points and places, in one pass over two lent buffers.
-#![tactic(auto)]
+#![tactic(auto, using(std::proofs::lemmas::Bool::Decides::nat_tests), unfolding(characters::specs::Characters::character_at))]
 
 mod escapes;
 mod utf8;
@@ -18,26 +18,18 @@ fn character(text: &[u8], at: usize, behind: bool) -> Character
     requires { at < length text.now }
     ensures { result ≡ character_at behind (get_or text.now at 0) (drop (at + 1) text.now) }
 {
-    if text[at] != BACKSLASH {
-        return sequence(text, at);
+    if text[at] == BACKSLASH && !behind {
+        escape(text, at + 1)
+    } else {
+        sequence(text, at)
     }
-    if behind {
-        return sequence(text, at);
-    }
-    escape(text, at + 1)
 }
 
 // Whether the byte `a`, read as the character `c`, is a backslash that may be the first of two: no escape, and not `behind` another.
 fn leaves_backslash(behind: bool, a: u8, c: Character) -> bool
     ensures { result ≡ leaves_backslash behind a c }
 {
-    if a != BACKSLASH {
-        return false;
-    }
-    if behind {
-        return false;
-    }
-    c.more == 0
+    a == BACKSLASH && !behind && c.more == 0
 }
 
 // Writes the code points of `text` to `points` and where each begins to `places`, with the end of the text last; answers how many they are.
@@ -48,6 +40,7 @@ pub fn read_characters(text: &[u8], points: &mut [u32], places: &mut [u32]) -> u
     let mut at: usize = 0;
     let mut n: usize = 0;
     let mut behind = false;
+    // no iterator: a character goes as many bytes as it is written with
     while at < text.len() {
         let c = character(text, at, behind);
         points[n] = c.point;

@@ -1,9 +1,10 @@
 // Comparisons of two terms.
 #![tactic(auto)]
 
-ghost use Rattle.std.specs.Prelude.{◌≡◌, ◌≤◌, ltb, leb, length};
+ghost use Rattle.std.specs.Prelude.{◌≡◌, ◌≤◌, cond, length};
 ghost use Rattle.plans.specs.Conditions.{comparison_words};
-ghost use Rattle.conditions.specs.Truth.{kinds_are, equality, inequality, comparison};
+ghost use Rattle.conditions.specs.declared.Truth.TheVariants.{Error};
+ghost use Rattle.conditions.specs.Truth.{of_test, kinds_are, equality, comparison};
 ghost use Rattle.conditions.specs.Values.{have_order, are_mixed, comparison_read};
 
 use condition_truths::{negation, of_test};
@@ -43,36 +44,30 @@ fn equality(a: u32, b: u32) -> Truth
     Truth::False
 }
 
-// Whether `a` is less than `b`: the ranks that two terms of one kind have as keys are in the order of their values.
-fn less(a: u32, b: u32) -> Truth
-    ensures { result ≡ inequality ltb a b }
+// What two terms say that have an order, where `passes` is what the order of their values says; else an error.
+fn inequality(a: u32, b: u32, passes: bool) -> Truth
+    ensures { result ≡ cond (have_order a b) (of_test passes) Error }
 {
     if have_order(a, b) {
-        return of_test(Term(a).key_rank() < Term(b).key_rank());
+        of_test(passes)
+    } else {
+        Truth::Error
     }
-    Truth::Error
 }
 
-fn at_most(a: u32, b: u32) -> Truth
-    ensures { result ≡ inequality leb a b }
-{
-    if have_order(a, b) {
-        return of_test(Term(a).key_rank() <= Term(b).key_rank());
-    }
-    Truth::Error
-}
-
-// The comparison of `a` and `b` by the operator with the number `operator`.
+// The comparison of `a` and `b` by the operator with the number `operator`: the ranks that two terms of one kind have as keys are in the order of their
+// values.
 fn compare(operator: u32, a: u32, b: u32) -> Truth
     ensures { result ≡ comparison operator a b }
 {
+    let (first, second) = (Term(a).key_rank(), Term(b).key_rank());
     match operator {
         PlanWord::EQUAL => equality(a, b),
         PlanWord::UNEQUAL => negation(equality(a, b)),
-        PlanWord::LESS => less(a, b),
-        PlanWord::AT_MOST => at_most(a, b),
-        PlanWord::GREATER => less(b, a),
-        PlanWord::AT_LEAST => at_most(b, a),
+        PlanWord::LESS => inequality(a, b, first < second),
+        PlanWord::AT_MOST => inequality(a, b, first <= second),
+        PlanWord::GREATER => inequality(b, a, second < first),
+        PlanWord::AT_LEAST => inequality(b, a, second <= first),
         _ => Truth::Error,
     }
 }

@@ -67,20 +67,12 @@ pub fn join(word: u32, a: Truth, b: Truth) -> Truth
 pub fn is_true(truth: Truth) -> bool
     ensures { result ≡ is_true truth }
 {
-    match truth {
-        Truth::True => true,
-        Truth::False => false,
-        Truth::Error => false, // an error keeps none
-    }
+    matches!(truth, Truth::True)
 }
 
 // Only a right operand that is false settles an "and" before its left one is read.
 pub fn is_false(truth: Truth) -> bool
     ensures { result ≡ is_false truth }
 {
-    match truth {
-        Truth::True => false,
-        Truth::False => true,
-        Truth::Error => false, // and(x, error) is false where x is
-    }
+    matches!(truth, Truth::False)
 }

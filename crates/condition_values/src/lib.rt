@@ -58,13 +58,7 @@ fn always(p: &[u32]) -> bool
     requires { Readable p.now }
     ensures { result ≡ true → condition_in p.now ≡ always }
 {
-    match plans::node_of(p[0]) {
-        Node::Wrong => false,
-        Node::Always => true,
-        Node::Compared => false,
-        Node::Negated => false,
-        Node::Pair => false,
-    }
+    matches!(plans::node_of(p[0]), Node::Always)
 }
 
 // Whether the condition that `p` starts with is true: only then is a row kept.
@@ -73,9 +67,5 @@ pub fn keeps(p: &[u32], lefts: &[u32], bound: &[u32; 16]) -> bool
     requires lefts_value { lefts.now ≡ lefts_of p.now }
     ensures { result ≡ keeps_row bound.now (condition_in p.now) }
 {
-    if always(p) {
-        return true;
-    }
-    let truth = evaluate(p, lefts, bound).truth;
-    is_true(truth)
+    always(p) || is_true(evaluate(p, lefts, bound).truth)
 }

@@ -6,19 +6,15 @@ ghost use Rattle.plans.specs.Reading.{words_read};
 ghost use Rattle.conditions.specs.Values.{left_words, lefts_of};
 
 use plan_parts::condition;
-use plans::{MOST_DEPTH, Node, Tree};
+use plans::{MOST_DEPTH, Node};
 
 // The words of the condition that `p` starts with, or 0 where it starts with none. No comparison is made.
 fn condition_words(p: &[u32]) -> usize
     ensures { result ≡ words_read (read_condition most_depth p.now) }
 {
-    match condition(p, MOST_DEPTH, &p[..0]) {
-        Tree::Bad => 0,
-        Tree::Reads {
-            words,
-            nodes,
-            bound,
-        } => words,
+    match condition(p, MOST_DEPTH, &[]) {
+        None => 0,
+        Some(tree) => tree.words,
     }
 }
 
@@ -43,9 +39,7 @@ pub fn index_operands(plan: &[u32], lefts: &mut [u32])
     requires { (length plan.now ≤ most_plan_words) × (length plan.now ≤ length lefts.old) }
     ensures { take (length plan.now) lefts.new ≡ lefts_of plan.now }
 {
-    let mut at: usize = 0;
-    while at < plan.len() {
+    for at in 0..plan.len() {
         lefts[at] = left_words(&plan[at..]) as u32;
-        at += 1;
     }
 }

@@ -2,7 +2,7 @@
 use Prim.Native.Nat.{ℕ, suc, ◌+◌, ◌*◌, ◌<◌}
 use native.Mathlib.Omega.{arith}
 use mathlib.Core.Path.{◌≡◌, refl, sym, ap, ap₂, ◌∙◌}
-use mathlib.Core.Bool.{Bool, true, false, ◌||◌}
+use mathlib.Core.Bool.{Bool, true, false, cond, ◌||◌}
 use lib.Dec.{eqb, ltb, leb}
 use borrow.Author.Tests.{eqb-true, eq-eqb, ne_eqb, le-leb, lt-leb, leb-true, leb-false}
 use Rattle.words.specs.Words.{term_kind, term_values, value_rank, key_rank, number_kind, text_kind, variable_kind}
@@ -11,13 +11,6 @@ use Rattle.words.proofs.Ranks.{rank_bound}
 use Rattle.conditions.specs.declared.Truth.TheVariants.{True, False, Error}
 use Rattle.conditions.specs.Truth.{of_test, kinds_are, equality, inequality}
 use Rattle.conditions.specs.Values.{have_order, are_mixed}
-
--- ---- the answer of a test of two parts, the second of which is made where the first fails
-pub first_part : {r p : Bool} (q : Bool) → r ≡ p → r ≡ true → r ≡ p || q
-first_part q e t = rw (← e, t)
-
-pub second_part : {r s p q : Bool} → r ≡ p → r ≡ false → s ≡ q → s ≡ p || q
-second_part e f g = rw (← e, f) g
 
 -- ---- two terms of kinds that are given
 of_kinds : (j k a b : ℕ) → kinds_are j k a b ≡ true → (term_kind a ≡ j) × (term_kind b ≡ k)
@@ -59,14 +52,23 @@ pub less_moved : (n x y : ℕ) → ltb (n + x) (n + y) ≡ ltb x y
 less_moved n x y = let e : suc (n + x) ≡ n + suc x = omega arith in ap (λ z. leb z (n + y)) e ∙ at_most_moved n (suc x) y
 
 module _ (a b : ℕ) where
-  pub ordered_test : (test : ℕ → ℕ → Bool) → ((n x y : ℕ) → test (n + x) (n + y) ≡ test x y) → have_order a b ≡ true
+  ordered_test : (test : ℕ → ℕ → Bool) → ((n x y : ℕ) → test (n + x) (n + y) ≡ test x y) → have_order a b ≡ true
       → inequality test a b ≡ of_test (test (key_rank a) (key_rank b))
   unfolding inequality
   ordered_test test moved e = rw (e, ranks_as_values a b (one_kind a b e).0 (one_kind a b e).1 test moved)
 
-  pub no_order : (test : ℕ → ℕ → Bool) → have_order a b ≡ false → inequality test a b ≡ Error
+  no_order : (test : ℕ → ℕ → Bool) → have_order a b ≡ false → inequality test a b ≡ Error
   unfolding inequality
   no_order test e = rw e
+
+  -- both, where the test is made of the ranks
+  pub by_ranks : (test : ℕ → ℕ → Bool) → ((n x y : ℕ) → test (n + x) (n + y) ≡ test x y) → (x y : ℕ) → x ≡ key_rank a → y ≡ key_rank b
+      → cond (have_order a b) (of_test (test x y)) Error ≡ inequality test a b
+  by_ranks test moved x y ex ey = go (have_order a b) refl
+    where
+      go : (t : Bool) → have_order a b ≡ t → cond t (of_test (test x y)) Error ≡ inequality test a b
+      go true e = rw (ex, ey) (sym (ordered_test test moved e))
+      go false e = sym (no_order test e)
 
   -- ---- equality
   pub equal_same : a ≡ b → equality a b ≡ True

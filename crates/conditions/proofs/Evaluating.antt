@@ -256,7 +256,8 @@ module _ (ws : List ℕ) (at : ℕ) {d : ℕ} {k : Node} (h : Begins d (drop at 
     abbrev rest : List ℕ
     rest = drop 1 (drop at ws)
 
-    operands : Two (get_or (drop at ws) 0 0) (read_condition d rest) (read_condition d (drop (words_read (read_condition d rest)) rest)) (read_or always (from at))
+    operands : Two (get_or (drop at ws) 0 0) (read_condition d rest) (read_condition d (drop (words_read (read_condition d rest)) rest))
+        (read_or always (from at))
     unfolding read_node
     operands =
         rw (begun h Pair e) (
@@ -284,7 +285,8 @@ module _ (ws : List ℕ) (at : ℕ) {d : ℕ} {k : Node} (h : Begins d (drop at 
         let z : at + 0 ≡ at = omega arith in
         let w = get_or (drop at ws) 0 0 in
         operands.2
-        ∙ ap (λ l. pair_of w (read_or always (read_condition d l)) (read_or always (read_condition d (drop (words_read (read_condition d rest)) rest)))) left_rest
+        ∙ ap (λ l. pair_of w (read_or always (read_condition d l))
+        (read_or always (read_condition d (drop (words_read (read_condition d rest)) rest)))) left_rest
         ∙ ap (λ l. pair_of w (read_or always (from (at + 1))) (read_or always (read_condition d l))) (sym right_rest)
         ∙ ap (λ a. pair_of a (read_or always (from (at + 1))) (read_or always (from right))) (get_or-drop at ws 0 0 ∙ ap (λ i. get_or ws i 0) z)
 

@@ -23,14 +23,16 @@ with_no_number o x =
     cond (eqb o equal_to) (both (compared equal_to x (number 0)) (compared equal_to x (number 1)))
     (either (compared unequal_to x (number 0)) (compared unequal_to x (number 1)))
 
--- below or above all numbers that a table holds
+-- below or above all numbers that a table holds: by the nearest of those, of which `less` asks what < and ≤ ask, and `more` what > and ≥ ask
+abbrev pub with_far : ℕ → ℕ → ℕ → ℕ → ℕ → Condition
+with_far less more nearest o x =
+    cond (leb o unequal_to) (with_no_number o x) (cond (leb o at_most) (compared less x nearest) (compared more x nearest))
+
 abbrev pub with_below : ℕ → ℕ → Condition
-with_below o x =
-    cond (leb o unequal_to) (with_no_number o x) (cond (leb o at_most) (compared less_than x least_number) (compared at_least x least_number))
+with_below o x = with_far less_than at_least least_number o x
 
 abbrev pub with_above : ℕ → ℕ → Condition
-with_above o x =
-    cond (leb o unequal_to) (with_no_number o x) (cond (leb o at_most) (compared at_most x greatest_number) (compared greater_than x greatest_number))
+with_above o x = with_far at_most greater_than greatest_number o x
 
 -- a variable and a constant on its right; `no_name` and `no_text_word` are the words after the last name and the last text
 unfoldable pub compared_with : ℕ → ℕ → ℕ → ℕ → Constant → Condition

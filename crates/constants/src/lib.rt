@@ -5,7 +5,7 @@ ghost use Rattle.std.specs.Prelude.{[], ◌∷◌, ◌++◌, ◌+◌, ◌≤◌,
 ghost use Rattle.words.specs.Words.{number, last_operator};
 ghost use Rattle.plans.specs.Conditions.{compared};
 ghost use Rattle.plans.specs.Grammar.{condition_words};
-ghost use Rattle.constants.specs.Constants.{with_no_text, with_no_number, with_below, with_above, compared_with, Appended};
+ghost use Rattle.constants.specs.Constants.{with_no_text, with_no_number, with_far, compared_with, Appended};
 
 use words::PlanWord;
 
@@ -76,32 +76,25 @@ fn write_no_text(out: &mut [u32], at: usize, after: u32, ranked: u32, o: u32, x:
     write_comparison(out, at, 5, x, ranked)
 }
 
-// Writes the comparison with a number below all that a table holds.
-fn write_below(out: &mut [u32], at: usize, o: u32, x: u32) -> usize
-    requires { at + 7 ≤ length out.old }
-    ensures { Appended out.old at (condition_words (with_below o x)) out.new result }
+// Writes the comparison with a number that is out of a table's: `less` asks of `nearest`, the table's number next to it, what < and ≤ ask of the number,
+// and `more` what > and ≥ ask.
+fn write_far(
+    out: &mut [u32],
+    at: usize,
+    o: u32,
+    x: u32,
+    less: u32,
+    more: u32,
+    nearest: u32,
+) -> usize
+    requires { (at + 7 ≤ length out.old) × (less ≤ last_operator) × (more ≤ last_operator) }
+    ensures { Appended out.old at (condition_words (with_far less more nearest o x)) out.new result }
 {
     if o <= PlanWord::UNEQUAL {
         return write_no_number(out, at, o, x);
     }
-    if o <= PlanWord::AT_MOST {
-        return write_comparison(out, at, 2, x, 0x60000000);
-    }
-    write_comparison(out, at, 5, x, 0x60000000)
-}
-
-// Writes the comparison with a number above all that a table holds.
-fn write_above(out: &mut [u32], at: usize, o: u32, x: u32) -> usize
-    requires { at + 7 ≤ length out.old }
-    ensures { Appended out.old at (condition_words (with_above o x)) out.new result }
-{
-    if o <= PlanWord::UNEQUAL {
-        return write_no_number(out, at, o, x);
-    }
-    if o <= PlanWord::AT_MOST {
-        return write_comparison(out, at, 3, x, 0x5FFFFFFF);
-    }
-    write_comparison(out, at, 4, x, 0x5FFFFFFF)
+    let asked = if o <= PlanWord::AT_MOST { less } else { more };
+    write_comparison(out, at, asked, x, nearest)
 }
 
 // Writes the comparison of a variable with a constant on its right; `unnamed` and `unwritten` are the words after the last name and the last text.
@@ -121,7 +114,7 @@ pub fn write_compared(
         Constant::Term(w) => write_comparison(out, at, o, x, w),
         Constant::NoName => write_comparison(out, at, o, x, unnamed),
         Constant::NoText(ranked) => write_no_text(out, at, unwritten, ranked, o, x),
-        Constant::Below => write_below(out, at, o, x),
-        Constant::Above => write_above(out, at, o, x),
+        Constant::Below => write_far(out, at, o, x, 2, 5, 0x60000000),
+        Constant::Above => write_far(out, at, o, x, 3, 4, 0x5FFFFFFF),
     }
 }

@@ -1,19 +1,20 @@
 -- Bytes that are all ASCII: their greatest tells, and they are well-formed.
-use Prim.Native.Nat.{ℕ, suc, ◌+◌, ◌≤◌, ◌<◌}
+use Prim.Native.Nat.{ℕ, suc, ◌+◌, ◌≤◌, ◌<◌, max}
+use Rattle.std.proofs.lemmas.Bool.Decides.{nat_tests}
 use native.Mathlib.Omega.{arith}
 use native.Mathlib.Numerals.{add-one}
 use mathlib.Core.Path.{◌≡◌, refl, ◌∙◌, ap}
-use mathlib.Core.Bool.{Bool, true, false, cond, ◌&&◌}
+use mathlib.Core.Bool.{Bool, true, false, ◌&&◌}
 use mathlib.Core.List.{List, [], ◌∷◌}
-use lib.Dec.{ltb, leb}
+use lib.Dec.{leb}
 use lib.ListN.{length, get_or, drop, drop_of_length-le}
 use lib.Seq.{drop-cons}
-use borrow.Author.Tests.{le-leb, ltb-true, ltb-false, leb-true}
+use borrow.Author.Tests.{le-leb}
 use Rattle.sequences.specs.Sequences.{all}
-use Rattle.sequences.proofs.Booleans.{and_left, and_right, yes, no, decided}
+use Rattle.sequences.proofs.Booleans.{and_left, and_right}
 use Rattle.dictionaries.specs.Utf8.{span, is_in, formed_from, well_formed}
 use Rattle.dictionary_checks.specs.declared.Rest.TheVariants.{Nothing}
-use Rattle.dictionary_checks.specs.declared.ByteStep.TheVariants.{More}
+use Rattle.std.specs.Prelude.{Some}
 use Rattle.dictionary_checks.specs.Steps.{first_step, formed_after}
 use Rattle.dictionary_checks.proofs.Stepping.{next_formed}
 
@@ -21,21 +22,8 @@ abbrev pub ascii_byte : ℕ → Bool
 ascii_byte b = is_in (span 0x00 0x7F) b
 
 -- ---- the greater of two bytes is ASCII exactly where both are
-and_same : (a b : Bool) → (b ≡ true → a ≡ true) → b ≡ a && b
-and_same a true h = rw (h refl) refl
-and_same true false h = refl
-and_same false false h = refl
-
-and_first : (a b : Bool) → (a ≡ true → b ≡ true) → a ≡ a && b
-and_first true b h = rw (h refl) refl
-and_first false b h = refl
-
-greater_ascii : (g b : ℕ) → leb (cond (ltb g b) b g) 0x7F ≡ leb g 0x7F && leb b 0x7F
-greater_ascii g b =
-    elim (decided (ltb g b)) [
-      | yes e ↦ rw e (and_same (leb g 0x7F) (leb b 0x7F) (λ h. le-leb g 0x7F (omega (arith, ltb-true g b e, leb-true b 0x7F h))))
-      | no e ↦ rw e (and_first (leb g 0x7F) (leb b 0x7F) (λ h. le-leb b 0x7F (omega (arith, ltb-false g b e, leb-true g 0x7F h))))
-    ]
+greater_ascii : (g b : ℕ) → leb (max g b) 0x7F ≡ leb g 0x7F && leb b 0x7F
+greater_ascii g b = grind (arith, nat_tests)
 
 pub and_three : (a b c : Bool) → a && (b && c) ≡ (a && b) && c
 and_three true b c = refl
@@ -48,7 +36,7 @@ and-true false = refl
 -- what the greatest byte so far and the others say
 module _ (bytes : List ℕ) (i g : ℕ) where
   pub ascii_step : i < length bytes
-      → leb g 0x7F && all ascii_byte (drop i bytes) ≡ leb (cond (ltb g (get_or bytes i 0)) (get_or bytes i 0) g) 0x7F && all ascii_byte (drop (i + 1) bytes)
+      → leb g 0x7F && all ascii_byte (drop i bytes) ≡ leb (max g (get_or bytes i 0)) 0x7F && all ascii_byte (drop (i + 1) bytes)
   unfolding all
   ascii_step h =
       let b = get_or bytes i 0 in
@@ -64,7 +52,7 @@ none_formed : well_formed [] ≡ true
 unfolding formed_from
 none_formed = refl
 
-ascii_first : (b : ℕ) → ascii_byte b ≡ true → first_step b ≡ More Nothing
+ascii_first : (b : ℕ) → ascii_byte b ≡ true → first_step b ≡ Some Nothing
 unfolding first_step
 ascii_first b e = rw e refl
 

@@ -1,9 +1,9 @@
 // Whether bytes are well-formed UTF-8, character by character, and whether all are ASCII; one byte's step of it, which character_passes takes too.
-#![tactic(auto)]
+#![tactic(auto, using(std::proofs::lemmas::Bool::Decides::nat_tests), unfolding(crate::specs::Steps::first_step))]
 
 mod spans;
 
-ghost use Rattle.std.specs.Prelude.{◌≡◌, cond, ltb};
+ghost use Rattle.std.specs.Prelude.{◌≡◌};
 ghost use Rattle.sequences.specs.Sequences.{all};
 ghost use Rattle.dictionaries.specs.Utf8.{span, is_in, well_formed};
 ghost use Rattle.dictionary_checks.specs.Steps.{first_step, later_step, next_step, nothing_left};
@@ -23,65 +23,38 @@ pub enum Rest {
     AfterF4,
 }
 
-// What a byte leaves to come, or that it may not stand there.
-#[derive(Clone, Copy)]
-pub enum ByteStep {
-    More(Rest),
-    Wrong,
-}
-
 pub fn is_in(b: u8, least: u8, greatest: u8) -> bool
     ensures { result ≡ is_in (span least greatest) b }
 {
-    if b < least {
-        return false;
-    }
-    b <= greatest
+    (least..=greatest).contains(&b)
 }
 
-fn first(b: u8) -> ByteStep
+// What the first byte of a character leaves to come, none where no character begins with it.
+fn first(b: u8) -> Option<Rest>
     ensures { result ≡ first_step b }
 {
-    if is_in(b, 0x00, 0x7F) {
-        return ByteStep::More(Rest::Nothing);
+    match b {
+        0x00..=0x7F => Some(Rest::Nothing),
+        0xC2..=0xDF => Some(Rest::One),
+        0xE0 => Some(Rest::AfterE0),
+        0xE1..=0xEC => Some(Rest::Two),
+        0xED => Some(Rest::AfterEd),
+        0xEE..=0xEF => Some(Rest::Two),
+        0xF0 => Some(Rest::AfterF0),
+        0xF1..=0xF3 => Some(Rest::Three),
+        0xF4 => Some(Rest::AfterF4),
+        _ => None,
     }
-    if is_in(b, 0xC2, 0xDF) {
-        return ByteStep::More(Rest::One);
-    }
-    if is_in(b, 0xE0, 0xE0) {
-        return ByteStep::More(Rest::AfterE0);
-    }
-    if is_in(b, 0xE1, 0xEC) {
-        return ByteStep::More(Rest::Two);
-    }
-    if is_in(b, 0xED, 0xED) {
-        return ByteStep::More(Rest::AfterEd);
-    }
-    if is_in(b, 0xEE, 0xEF) {
-        return ByteStep::More(Rest::Two);
-    }
-    if is_in(b, 0xF0, 0xF0) {
-        return ByteStep::More(Rest::AfterF0);
-    }
-    if is_in(b, 0xF1, 0xF3) {
-        return ByteStep::More(Rest::Three);
-    }
-    if is_in(b, 0xF4, 0xF4) {
-        return ByteStep::More(Rest::AfterF4);
-    }
-    ByteStep::Wrong
 }
 
-fn later(b: u8, least: u8, greatest: u8, rest: Rest) -> ByteStep
+fn later(b: u8, least: u8, greatest: u8, rest: Rest) -> Option<Rest>
     ensures { result ≡ later_step (span least greatest) rest b }
 {
-    if is_in(b, least, greatest) {
-        return ByteStep::More(rest);
-    }
-    ByteStep::Wrong
+    is_in(b, least, greatest).then_some(rest)
 }
 
-pub fn next(rest: Rest, b: u8) -> ByteStep
+// What is still to come behind `b`, none where it may not stand there.
+pub fn next(rest: Rest, b: u8) -> Option<Rest>
     ensures { result ≡ next_step rest b }
 {
     match rest {
@@ -99,25 +72,7 @@ pub fn next(rest: Rest, b: u8) -> ByteStep
 pub fn nothing_left(rest: Rest) -> bool
     ensures { result ≡ nothing_left rest }
 {
-    match rest {
-        Rest::Nothing => true,
-        Rest::One => false,
-        Rest::Two => false,
-        Rest::Three => false,
-        Rest::AfterE0 => false,
-        Rest::AfterEd => false,
-        Rest::AfterF0 => false,
-        Rest::AfterF4 => false,
-    }
-}
-
-pub fn greater(a: u8, b: u8) -> u8
-    ensures { result ≡ cond (ltb a b) b a }
-{
-    if a < b {
-        return b;
-    }
-    a
+    matches!(rest, Rest::Nothing)
 }
 
 // Whether all `bytes` are ASCII. The greatest tells, and no byte ends the loop, so that compilers take many bytes at once.
@@ -125,10 +80,8 @@ pub fn is_ascii(bytes: &[u8]) -> bool
     ensures { result ≡ all (is_in (span 0x00 0x7F)) bytes.now }
 {
     let mut greatest: u8 = 0;
-    let mut i: usize = 0;
-    while i < bytes.len() {
-        greatest = greater(greatest, bytes[i]);
-        i += 1;
+    for b in bytes {
+        greatest = greatest.max(*b);
     }
     greatest <= 0x7F
 }
@@ -137,21 +90,21 @@ pub fn is_ascii(bytes: &[u8]) -> bool
 pub fn well_formed(bytes: &[u8]) -> bool
     ensures { result ≡ well_formed bytes.now }
 {
+    // no iterator: a character goes as many bytes as its first one says
     let mut i: usize = 0;
     while i < bytes.len() {
         let b = bytes[i];
         if b <= 0x7F {
             i += 1;
         } else {
-            let step = first(b);
-            match step {
-                ByteStep::More(rest) => {
+            match first(b) {
+                Some(rest) => {
                     if !rest_in(bytes, i + 1, rest) {
                         return false;
                     }
                     i = i + 1 + rest_length(rest);
                 }
-                ByteStep::Wrong => return false,
+                None => return false,
             }
         }
     }

@@ -9,10 +9,7 @@ use crate::{Rest, is_in};
 fn one_in(bytes: &[u8], i: usize, least: u8, greatest: u8) -> bool
     ensures { result ≡ each_in_span (drop i bytes.now) (span least greatest ∷ []) }
 {
-    if bytes.len() <= i {
-        return false;
-    }
-    is_in(bytes[i], least, greatest)
+    i < bytes.len() && is_in(bytes[i], least, greatest)
 }
 
 // And behind it one that may stand after any first byte.
@@ -20,10 +17,7 @@ fn two_in(bytes: &[u8], i: usize, least: u8, greatest: u8) -> bool
     requires { i ≤ length bytes.now }
     ensures { result ≡ each_in_span (drop i bytes.now) (span least greatest ∷ trailing ∷ []) }
 {
-    if !one_in(bytes, i, least, greatest) {
-        return false;
-    }
-    one_in(bytes, i + 1, 0x80, 0xBF)
+    one_in(bytes, i, least, greatest) && one_in(bytes, i + 1, 0x80, 0xBF)
 }
 
 // And two of them.
@@ -31,10 +25,7 @@ fn three_in(bytes: &[u8], i: usize, least: u8, greatest: u8) -> bool
     requires { i ≤ length bytes.now }
     ensures { result ≡ each_in_span (drop i bytes.now) (span least greatest ∷ trailing ∷ trailing ∷ []) }
 {
-    if !one_in(bytes, i, least, greatest) {
-        return false;
-    }
-    two_in(bytes, i + 1, 0x80, 0xBF)
+    one_in(bytes, i, least, greatest) && two_in(bytes, i + 1, 0x80, 0xBF)
 }
 
 // Whether the bytes from place `i` on are what is still to come of a character.
@@ -61,11 +52,7 @@ pub fn rest_length(rest: Rest) -> usize
     match rest {
         Rest::Nothing => 0,
         Rest::One => 1,
-        Rest::Two => 2,
-        Rest::Three => 3,
-        Rest::AfterE0 => 2,
-        Rest::AfterEd => 2,
-        Rest::AfterF0 => 3,
-        Rest::AfterF4 => 3,
+        Rest::Two | Rest::AfterE0 | Rest::AfterEd => 2,
+        Rest::Three | Rest::AfterF0 | Rest::AfterF4 => 3,
     }
 }

@@ -12,8 +12,7 @@ use Rattle.sequences.proofs.Ascending.{Ascending, neighbours_ascending}
 use Rattle.calls.specs.Calls.{CallSchema, CallResult, RightCall, CallRefusals, AnswersRight, result_of_call}
 use Rattle.calls.proofs.Refusals.{by_number_lem, by_none, call_told, call_refusals}
 use Rattle.dictionaries.specs.declared.StringKind.{StringKind}
-use Rattle.dictionaries.specs.declared.Lookup.{Lookup}
-use Rattle.dictionaries.specs.declared.Lookup.TheVariants as lookup
+use Rattle.std.specs.Prelude.{Result, Ok, Err}
 use Rattle.dictionaries.specs.Strings.{string_before}
 use Rattle.dictionaries.specs.Dictionaries.{strings_of, string_rank, is_among}
 use Rattle.dictionaries.specs.Checking.{dictionary_right}
@@ -30,17 +29,17 @@ use Rattle.dictionary_lookups.specs.Finding.{FindInput, dictionary_tests, found_
 abbrev pub Equals : {I A E W : Type 0} → CallSchema I A E (Unit {0}) W → I → A → Type 0
 Equals c i a = (record { answer = a; buffers = tt } ≡ result_of_call c i) × AnswersRight c i a
 
-no_refusal : (l : Lookup) (x : ℕ) → ¬ (found_string l ≡ Refused x)
-no_refusal (lookup.At n) x e = let z : ◌≡◌ {A = ℕ} 0 1 = cc in omega arith
-no_refusal (lookup.Absent n) x e = let z : ◌≡◌ {A = ℕ} 0 1 = cc in omega arith
+no_refusal : (l : Result ℕ ℕ) (x : ℕ) → ¬ (found_string l ≡ Refused x)
+no_refusal (Ok n) x e = let z : ◌≡◌ {A = ℕ} 0 1 = cc in omega arith
+no_refusal (Err n) x e = let z : ◌≡◌ {A = ℕ} 0 1 = cc in omega arith
 
-tells_none : (l : Lookup) → found_refusal (found_string l) ≡ 0
-tells_none (lookup.At n) = refl
-tells_none (lookup.Absent n) = refl
+tells_none : (l : Result ℕ ℕ) → found_refusal (found_string l) ≡ 0
+tells_none (Ok n) = refl
+tells_none (Err n) = refl
 
-tells_lookup : (l : Lookup) → found_lookup (found_string l) ≡ some l
-tells_lookup (lookup.At n) = refl
-tells_lookup (lookup.Absent n) = refl
+tells_lookup : (l : Result ℕ ℕ) → found_lookup (found_string l) ≡ some l
+tells_lookup (Ok n) = refl
+tells_lookup (Err n) = refl
 
 pub find_right : RightCall find_call
 find_right =
@@ -75,7 +74,7 @@ pub find_refused : (i : FindInput) → dictionary_right i.kind i.bytes i.ends �
 find_refused i e = call_told find_call find_right i (sym (by_number_lem find_call find_right i 28 (wrong_dictionary i.kind i.bytes i.ends e)))
 
 pub find_served : (i : FindInput) → dictionary_right i.kind i.bytes i.ends ≡ true
-    → (l : Lookup) → l ≡ lookup_in (strings_of i.bytes i.ends) i.sought → Equals find_call i (found_string l)
+    → (l : Result ℕ ℕ) → l ≡ lookup_in (strings_of i.bytes i.ends) i.sought → Equals find_call i (found_string l)
 find_served i r l e =
     call_told find_call find_right i
     (ap (λ k. record { answer = found_string k; buffers = tt }) e ∙ sym (by_none find_call find_right i (right_dictionary i.kind i.bytes i.ends r)))
@@ -88,15 +87,15 @@ module _ (i : FindInput) (r : dictionary_right i.kind i.bytes i.ends ≡ true) w
   answered : (result_of_call find_call i).answer ≡ found_string (lookup_in (strings_of i.bytes i.ends) i.sought)
   answered = ap (λ (o : CallResult StringFound (Unit {0})). o.answer) (by_none find_call find_right i (right_dictionary i.kind i.bytes i.ends r))
 
-  at_same : (l : Lookup) (n : ℕ) → found_string l ≡ At n → l ≡ lookup.At n
-  at_same (lookup.At m) n e = let z : m ≡ n = cc in ap lookup.At z
-  at_same (lookup.Absent m) n e = absurd (let z : ◌≡◌ {A = ℕ} 0 1 = cc in omega arith)
+  at_same : (l : Result ℕ ℕ) (n : ℕ) → found_string l ≡ At n → l ≡ Ok n
+  at_same (Ok m) n e = let z : m ≡ n = cc in ap Ok z
+  at_same (Err m) n e = absurd (let z : ◌≡◌ {A = ℕ} 0 1 = cc in omega arith)
 
-  absent_same : (l : Lookup) (n : ℕ) → found_string l ≡ Absent n → l ≡ lookup.Absent n
-  absent_same (lookup.At m) n e = absurd (let z : ◌≡◌ {A = ℕ} 0 1 = cc in omega arith)
-  absent_same (lookup.Absent m) n e = let z : m ≡ n = cc in ap lookup.Absent z
+  absent_same : (l : Result ℕ ℕ) (n : ℕ) → found_string l ≡ Absent n → l ≡ Err n
+  absent_same (Ok m) n e = absurd (let z : ◌≡◌ {A = ℕ} 0 1 = cc in omega arith)
+  absent_same (Err m) n e = let z : m ≡ n = cc in ap Err z
 
-  rank_of : (n : ℕ) → lookup_in strings i.sought ≡ lookup.Absent n → Decided (is_among strings i.sought) → string_rank strings i.sought ≡ n
+  rank_of : (n : ℕ) → lookup_in strings i.sought ≡ Err n → Decided (is_among strings i.sought) → string_rank strings i.sought ≡ n
   unfolding lookup_in
   rank_of n e (yes h) = absurd (let f = rw h at e in let z : ◌≡◌ {A = ℕ} 0 1 = cc in omega arith)
   rank_of n e (no h) = let f = rw h at e in cc
@@ -115,7 +114,7 @@ module _ (i : FindInput) (r : dictionary_right i.kind i.bytes i.ends ≡ true) w
           λ w. answered ∙ ap found_string ((found i.sought strings up n).1 (held n w)),
         );
         nowhere = λ n e m w.
-            let z : lookup.At m ≡ lookup.Absent n = sym ((found i.sought strings up m).1 (held m w))
+            let z : Ok m ≡ Err n = sym ((found i.sought strings up m).1 (held m w))
             ∙ absent_same (lookup_in strings i.sought) n (sym answered ∙ e) in
             let z : ◌≡◌ {A = ℕ} 0 1 = cc in omega arith;
         rank = λ n e m h.

@@ -1,11 +1,9 @@
 -- Looking for a string: the call, and what its answers say. Assumes nothing: these are definitions.
-use Rattle.std.specs.Prelude.{ℕ, ◌<◌, ◌≡◌, ◌↔◌, List, [], ◌∷◌, ltb, length, get_or}
+use Rattle.std.specs.Prelude.{ℕ, ◌<◌, ◌≡◌, ◌↔◌, List, [], ◌∷◌, Result, Ok, Err, ltb, length, get_or}
 use Rattle.std.proofs.Math.Option.{Option, none, some}
 use Rattle.words.specs.Tests.{Test}
 use Rattle.calls.specs.Calls.{CallSchema, result_of_call}
 use Rattle.dictionaries.specs.declared.StringKind.{StringKind}
-use Rattle.dictionaries.specs.declared.Lookup.{Lookup}
-use Rattle.dictionaries.specs.declared.Lookup.TheVariants as lookup
 use Rattle.dictionaries.specs.Strings.{string_before}
 use Rattle.dictionaries.specs.Dictionaries.{strings_of}
 use Rattle.dictionaries.specs.Checking.{dictionary_right}
@@ -28,9 +26,9 @@ abbrev pub dictionary_tests : StringKind → List ℕ → List ℕ → List Test
 dictionary_tests kind bytes ends = (28, dictionary_right kind bytes ends) ∷ []
 
 -- ---- an answer
-abbrev pub found_string : Lookup → StringFound
-found_string (lookup.At n) = At n
-found_string (lookup.Absent n) = Absent n
+abbrev pub found_string : Result ℕ ℕ → StringFound
+found_string (Ok n) = At n
+found_string (Err n) = Absent n
 
 -- the number of the test that refused a call, 0 where it was served; where the string stands, or its rank
 abbrev pub found_refusal : StringFound → ℕ
@@ -38,13 +36,13 @@ found_refusal (At n) = 0
 found_refusal (Absent n) = 0
 found_refusal (Refused x) = x
 
-abbrev pub found_lookup : StringFound → Option Lookup
-found_lookup (At n) = some (lookup.At n)
-found_lookup (Absent n) = some (lookup.Absent n)
+abbrev pub found_lookup : StringFound → Option (Result ℕ ℕ)
+found_lookup (At n) = some (Ok n)
+found_lookup (Absent n) = some (Err n)
 found_lookup (Refused x) = none
 
 -- ---- the call
-abbrev pub find_call : CallSchema FindInput StringFound StringFound (Unit {0}) (Option Lookup)
+abbrev pub find_call : CallSchema FindInput StringFound StringFound (Unit {0}) (Option (Result ℕ ℕ))
 find_call =
     record {
       tests = λ i. dictionary_tests i.kind i.bytes i.ends;

@@ -6,7 +6,7 @@ ghost use Rattle.calls.specs.Calls.{result_of_call, AnswersRight};
 ghost use Rattle.dictionary_lookups.specs.Finding.{find_input, find_call};
 ghost use Rattle.dictionary_lookups.specs.Lending.{string_input, string_call};
 
-use dictionaries::{Lookup, StringKind};
+use dictionaries::StringKind;
 use dictionary_searches::start_of;
 use dictionary_tests::dictionary_right;
 
@@ -38,10 +38,9 @@ pub fn find(kind: StringKind, bytes: &[u8], ends: &[u32], sought: &[u8]) -> Stri
     if !dictionary_right(kind, bytes, ends) {
         return StringFound::Refused(DICTIONARY);
     }
-    let lookup = dictionary_searches::find(bytes, ends, sought);
-    match lookup {
-        Lookup::At(n) => StringFound::At(n),
-        Lookup::Absent(n) => StringFound::Absent(n),
+    match dictionary_searches::find(bytes, ends, sought) {
+        Ok(n) => StringFound::At(n),
+        Err(n) => StringFound::Absent(n),
     }
 }
 

@@ -14,7 +14,7 @@ use Rattle.sequences.proofs.Each.{all_each, each_all}
 use Rattle.sequences.proofs.Somewhere.{map_at}
 use Rattle.sequences.proofs.Ascending.{Ascending, ascending_neighbours}
 use Rattle.dictionaries.specs.declared.StringKind.{StringKind}
-use Rattle.dictionaries.specs.declared.Lookup.TheVariants.{At}
+use Rattle.std.specs.Prelude.{Ok}
 use Rattle.dictionaries.specs.Strings.{string_before}
 use Rattle.dictionaries.specs.Dictionaries.{strings_of, most_strings, string_rank, is_among}
 use Rattle.dictionaries.specs.Checking.{string_right, dictionary_right}
@@ -27,21 +27,21 @@ use Rattle.dictionary_numberings.proofs.Once.{once_each_lem, once_ascends, once_
 use Rattle.dictionary_numberings.proofs.Cutting.{ends_length, ends_cut, strings_cut}
 
 -- ---- a string among strings that ascend stands at its rank
-lookup_found : (ss : List (List ℕ)) (s : List ℕ) → is_among ss s ≡ true → lookup_in ss s ≡ At (string_rank ss s)
+lookup_found : (ss : List (List ℕ)) (s : List ℕ) → is_among ss s ≡ true → lookup_in ss s ≡ Ok (string_rank ss s)
 unfolding lookup_in
 lookup_found ss s e = rw e
 
 pub at_rank : (ss : List (List ℕ)) → Ascending string_before ss → (s : List ℕ) → is_among ss s ≡ true → StandsAt s ss (string_rank ss s)
 at_rank ss a s e =
     let w = among_stands s ss e in
-    let f : At w.0 ≡ At (string_rank ss s) = lookup_at s ss a w.0 w.1.within w.1.is ∙ lookup_found ss s e in
+    let f : Ok w.0 ≡ Ok (string_rank ss s) = lookup_at s ss a w.0 w.1.within w.1.is ∙ lookup_found ss s e in
     let z : w.0 ≡ string_rank ss s = cc in
     subst (StandsAt s ss) z w.1
 
 pub rank_at : (ss : List (List ℕ)) → Ascending string_before ss → (s : List ℕ) (n : ℕ) → n < length ss
     → get_or ss n [] ≡ s → string_rank ss s ≡ n
 rank_at ss a s n h e =
-    let f : At n ≡ At (string_rank ss s) = lookup_at s ss a n h e ∙ lookup_found ss s (among_at s ss n h e) in
+    let f : Ok n ≡ Ok (string_rank ss s) = lookup_at s ss a n h e ∙ lookup_found ss s (among_at s ss n h e) in
     let z : n ≡ string_rank ss s = cc in
     sym z
 

@@ -22,7 +22,8 @@ use Rattle.dictionary_numberings.specs.Numbering.{insert_once, strings_once, end
 use Rattle.dictionary_numberings.specs.NumberCall.{NumberBuffers, number_buffers, NumberInput, number_input, given_right, number_room, number_call}
 
 unfoldable computing : Unit {0}
-unfolding result_of_call first_failing given_right number_room ends_right strings_from all member after_first formed_from code_points_from iri_character string_before
+unfolding result_of_call first_failing given_right number_room ends_right strings_from all member after_first formed_from code_points_from
+    iri_character string_before
     insert_once strings_once ends_after string_rank flatten numbers insert_by insert_all_by sort_by
 computing = tt
 

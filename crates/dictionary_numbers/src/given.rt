@@ -1,4 +1,6 @@
 // The tests of numbering: the strings given, and the room for what is written.
+#![tactic(auto, using(dictionaries::proofs::Searching::strings_length), unfolding(dictionary_numberings::specs::NumberCall::given_right))]
+
 ghost use Rattle.std.specs.Prelude.{◌≡◌, ◌&&◌, leb};
 ghost use Rattle.dictionary_numberings.specs.NumberCall.{given_right};
 
@@ -9,13 +11,7 @@ use dictionary_tests::{MOST_STRINGS, each_right, ends_right};
 pub fn given_right(kind: StringKind, bytes: &[u8], ends: &[u32]) -> bool
     ensures { result ≡ given_right kind bytes.now ends.now }
 {
-    if !ends_right(bytes.len(), ends) {
-        return false;
-    }
-    if MOST_STRINGS < ends.len() {
-        return false;
-    }
-    each_right(kind, bytes, ends)
+    ends_right(bytes.len(), ends) && ends.len() <= MOST_STRINGS && each_right(kind, bytes, ends)
 }
 
 // Whether buffers of lengths `out`, `cuts`, `numbers` and `places` have room for `bytes` bytes and `strings` strings.
@@ -29,14 +25,5 @@ pub fn has_room(
 ) -> bool
     ensures { result ≡ leb bytes out && (leb strings cuts && (leb strings numbers && leb strings places)) }
 {
-    if out < bytes {
-        return false;
-    }
-    if cuts < strings {
-        return false;
-    }
-    if numbers < strings {
-        return false;
-    }
-    strings <= places
+    bytes <= out && strings <= cuts && strings <= numbers && strings <= places
 }

@@ -1,20 +1,12 @@
 // The dictionary of strings that passed the tests, and their numbers.
 ghost use Rattle.std.specs.Prelude.{◌≡◌, true, ◌≤◌, length};
-ghost use Rattle.sequences.specs.Sequences.{numbers, over};
+ghost use Rattle.sequences.specs.Sequences.{over};
 ghost use Rattle.dictionaries.specs.Dictionaries.{strings_of, ends_right, most_strings};
 ghost use Rattle.dictionary_numberings.specs.Numbering.{strings_once, bytes_once, ends_once, string_numbers};
 ghost use Rattle.dictionary_numberings.specs.Sorted.{sorted_places};
 
 use dictionary_sorts::sort;
 use dictionary_writes::{Extent, write_strings};
-
-// Writes the places from 0 on to `list`.
-fn list_places(list: &mut [u32])
-    requires { length list.old ≤ most_strings }
-    ensures { list.new ≡ numbers (length list.old) }
-{
-    words::count_up(list);
-}
 
 // Sorts the `places` of the strings by them, and writes each string once to `out`, its end to `cuts`, and to `numbers` the number of each. The sort works in
 // `numbers`.
@@ -36,7 +28,7 @@ pub fn write_dictionary(
     ensures numbers { numbers.new ≡ string_numbers (strings_of bytes.now ends.now) }
     ensures places { places.new ≡ sorted_places bytes.now ends.now }
 {
-    list_places(places);
+    words::count_up(places);
     sort(bytes, ends, places, numbers);
     write_strings(bytes, ends, places, out, cuts, numbers)
 }

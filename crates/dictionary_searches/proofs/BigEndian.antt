@@ -7,7 +7,7 @@ use mathlib.Core.List.{List, [], ◌∷◌}
 use lib.ListN.{length, get_or, drop, length-drop}
 use lib.Seq.{drop-cons, drop-drop, get_or-drop}
 use Rattle.sequences.proofs.Orders.{Three, less, same, more, three}
-use Rattle.dictionaries.specs.declared.Precedence.TheVariants.{Before, After}
+use Rattle.std.specs.declared.cmp.Ordering.TheVariants.{Less, Greater}
 use Rattle.dictionaries.specs.Lookups.{precedence}
 use Rattle.dictionaries.proofs.Searching.{precedence_less, precedence_more, precedence_same}
 use Rattle.dictionary_searches.specs.BigEndian.{big_endian}
@@ -28,8 +28,8 @@ big_less (suc n) v w (x ∷ xs) (y ∷ ys) a b f g h =
 
 -- ---- what the numbers of the first n bytes say of the strings
 pub record Tells (n v : ℕ) (xs ys : List ℕ) : Type 0 where
-  pub if_less : big_endian v n xs < big_endian v n ys → precedence xs ys ≡ Before
-  pub if_more : big_endian v n ys < big_endian v n xs → precedence xs ys ≡ After
+  pub if_less : big_endian v n xs < big_endian v n ys → precedence xs ys ≡ Less
+  pub if_more : big_endian v n ys < big_endian v n xs → precedence xs ys ≡ Greater
   pub if_same : big_endian v n xs ≡ big_endian v n ys → precedence xs ys ≡ precedence (drop n xs) (drop n ys)
 
 pub tells : (n v : ℕ) (xs ys : List ℕ) → n ≤ length xs → n ≤ length ys → Bytes xs → Bytes ys → Tells n v xs ys

@@ -2,7 +2,7 @@
 ghost use Rattle.std.specs.Prelude.{◌≡◌};
 ghost use Rattle.dictionaries.specs.Strings.{string_before};
 
-use crate::eights::{eight_at, first_four, shorter};
+use crate::eights::{eight_at, first_four};
 
 // Whether `xs` comes before `ys`, byte by byte.
 fn bytes_before(xs: &[u8], ys: &[u8]) -> bool
@@ -30,7 +30,7 @@ fn bytes_before(xs: &[u8], ys: &[u8]) -> bool
 fn fours_before(xs: &[u8], ys: &[u8]) -> bool
     ensures { result ≡ string_before xs.now ys.now }
 {
-    if shorter(xs.len(), ys.len()) < 4 {
+    if xs.len().min(ys.len()) < 4 {
         return bytes_before(xs, ys);
     }
     let first = first_four(xs);
@@ -48,7 +48,8 @@ fn fours_before(xs: &[u8], ys: &[u8]) -> bool
 pub fn eights_before(xs: &[u8], ys: &[u8]) -> bool
     ensures { result ≡ string_before xs.now ys.now }
 {
-    let both = shorter(xs.len(), ys.len());
+    let both = xs.len().min(ys.len());
+    // no iterator: of chunks of eight it would not be known where they end
     let mut i: usize = 0;
     while i + 8 <= both {
         let first = eight_at(xs, i);

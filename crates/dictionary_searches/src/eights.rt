@@ -35,12 +35,3 @@ pub fn eight_at(bytes: &[u8], i: usize) -> u64
     let low = four(bytes[i + 4], bytes[i + 5], bytes[i + 6], last);
     high * 4294967296 + low
 }
-
-pub fn shorter(a: usize, b: usize) -> usize
-    ensures { (result ≤ a) × (result ≤ b) }
-{
-    if a < b {
-        return a;
-    }
-    b
-}

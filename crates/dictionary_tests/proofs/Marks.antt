@@ -1,14 +1,16 @@
 -- Marks of the bytes that may not stand in an IRI: 1, and 0 for the others; the greatest tells whether there is one.
-use Prim.Native.Nat.{ℕ, zero, suc, ◌+◌, ◌≤◌, ◌<◌}
+use Prim.Native.Nat.{ℕ, suc, ◌+◌, ◌≤◌, ◌<◌, max}
+use Rattle.std.proofs.lemmas.Bool.Decides.{nat_tests}
 use native.Mathlib.Omega.{arith}
 use native.Mathlib.Numerals.{add-one}
 use mathlib.Core.Path.{◌≡◌, refl, sym, ◌∙◌, ap}
 use mathlib.Core.Bool.{Bool, true, false, cond, not, ◌&&◌, ◌||◌}
 use mathlib.Core.List.{List}
+use mir.Val.{bool_byte}
 use lib.Dec.{eqb, ltb, leb}
 use lib.ListN.{length, get_or, drop, drop_of_length-le}
 use lib.Seq.{drop-cons}
-use borrow.Author.Tests.{le-leb, lt-leb, le-ltb, ltb-true, ltb-false, ne_eqb}
+use borrow.Author.Tests.{le-leb, lt-leb, ltb-true, ltb-false}
 use Rattle.sequences.specs.Sequences.{all, member}
 use Rattle.sequences.proofs.Booleans.{yes, no, decided}
 use Rattle.dictionaries.specs.Checking.{iri_character, iri_excluded}
@@ -39,6 +41,11 @@ nine false false false false false false false false true i = refl
 nine false false false false false false false false false true = refl
 nine false false false false false false false false false false = refl
 
+-- a test as a byte
+pub low_byte : (x : Bool) → bool_byte x ≡ cond x 1 0
+low_byte true = refl
+low_byte false = refl
+
 above : (b : ℕ) → ltb 0x20 b ≡ not (leb b 0x20)
 above b = elim (decided (ltb 0x20 b)) [
   | yes e ↦ let h = ltb-true 0x20 b e in e ∙ sym (ap not (lt-leb b 0x20 (omega arith)))
@@ -55,16 +62,14 @@ mark_says b =
     ∙ ap (λ x. cond (x && not (member b iri_excluded)) 0 1) (sym (above b))
 
 -- the greater of two marks is 0 exactly where both are
-greater_none : (g : ℕ) (x : Bool) → eqb (cond (ltb g (cond x 0 1)) (cond x 0 1) g) 0 ≡ eqb g 0 && x
-greater_none zero true = refl
-greater_none zero false = refl
-greater_none (suc g) true = rw (le-ltb (suc g) 0 (omega arith)) (sym (and-true (eqb (suc g) 0)))
-greater_none (suc g) false = rw (le-ltb (suc g) 1 (omega arith), ne_eqb (suc g) 0 (λ e. omega arith)) refl
+greater_none : (g : ℕ) (x : Bool) → eqb (max g (cond x 0 1)) 0 ≡ eqb g 0 && x
+greater_none g true = grind (arith, nat_tests)
+greater_none g false = grind (arith, nat_tests)
 
 module _ (bytes : List ℕ) (i g : ℕ) where
   pub marks_step : i < length bytes
       → eqb g 0 && all iri_character (drop i bytes)
-      ≡ eqb (cond (ltb g (cond (iri_character (get_or bytes i 0)) 0 1)) (cond (iri_character (get_or bytes i 0)) 0 1) g) 0 && all iri_character (drop (i + 1) bytes)
+      ≡ eqb (max g (cond (iri_character (get_or bytes i 0)) 0 1)) 0 && all iri_character (drop (i + 1) bytes)
   unfolding all
   marks_step h =
       rw (add-one i, drop-cons bytes i 0 h, greater_none g (iri_character (get_or bytes i 0)))

@@ -2,9 +2,10 @@
 use Prim.Native.Nat.{ℕ, ◌-◌, ◌<◌}
 use native.Mathlib.Omega.{arith}
 use mathlib.Core.Path.{◌≡◌, refl, sym, ap, ◌∙◌}
-use mathlib.Core.Bool.{true, false, ◌&&◌}
+use mathlib.Core.Bool.{true, ◌&&◌, not}
+use Rattle.std.proofs.lemmas.Bool.Decides.{nat_tests}
 use mathlib.Core.List.{List, [], ◌∷◌}
-use lib.Dec.{ltb}
+use lib.Dec.{eqb, ltb}
 use lib.ListN.{length, get_or, drop}
 use Rattle.sequences.specs.Sequences.{all}
 use Rattle.sequences.proofs.Each.{all_drop}
@@ -18,15 +19,8 @@ use Rattle.dictionaries.proofs.Checking.{iri_bytes}
 use Rattle.dictionaries.proofs.Searching.{strings_length, strings_at_lem}
 use Rattle.dictionary_checks.proofs.Ascii.{ascii_byte, ascii_formed, and-true}
 
-pub not_formed : (k : StringKind) (s : List ℕ) → well_formed s ≡ false → string_right k s ≡ false
-not_formed Names s e = rw e
-not_formed Texts s e = e
-
 pub name_right : (k : StringKind) (s : List ℕ) → k ≡ Names → well_formed s ≡ true → is_iri s ≡ string_right k s
 name_right k s e f = iri_bytes s f ∙ sym (ap (λ j. string_right j s) e ∙ rw f refl)
-
-pub text_right : (k : StringKind) (s : List ℕ) → k ≡ Texts → well_formed s ≡ true → true ≡ string_right k s
-text_right k s e f = sym (ap (λ j. string_right j s) e ∙ f)
 
 -- ---- ASCII alone
 module _ (bytes ends : List ℕ) (e : all ascii_byte bytes ≡ true) where
@@ -41,6 +35,9 @@ module _ (bytes ends : List ℕ) (e : all ascii_byte bytes ≡ true) where
   plain_texts =
       let l = strings_length bytes 0 ends in
       element_all (string_right Texts) [] (strings_of bytes ends) (λ i h. plain_formed i (omega arith))
+
+pub some_long : (s : List ℕ) → ltb 0 (length s) ≡ not (eqb (length s) 0)
+some_long s = grind (arith, nat_tests)
 
 -- ---- and bytes that may stand in a name
 module _ (bytes ends : List ℕ) (e : all ascii_byte bytes ≡ true) (f : all iri_character bytes ≡ true) where

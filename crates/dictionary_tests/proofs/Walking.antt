@@ -1,28 +1,17 @@
 -- The tests of a dictionary step by step, as the walks over its bytes, ends and strings make them.
-use Prim.Native.Nat.{ℕ, suc, ◌+◌, ◌≤◌, ◌<◌}
+use Prim.Native.Nat.{ℕ, zero, suc, ◌+◌, ◌-◌, ◌≤◌, ◌<◌}
 use native.Mathlib.Omega.{arith}
 use native.Mathlib.Numerals.{add-one}
-use mathlib.Core.Path.{◌≡◌, refl, sym, ◌∙◌, ap}
-use mathlib.Core.Bool.{Bool, true, false, ◌&&◌, ◌||◌}
-use mathlib.Core.List.{List, ◌∷◌}
+use mathlib.Core.Path.{◌≡◌, refl, ap, ap₂}
+use mathlib.Core.Bool.{Bool, true, false, ◌&&◌}
+use mathlib.Core.List.{List, [], ◌∷◌}
+use Rattle.std.specs.List.{list_all}
 use lib.Dec.{eqb}
 use lib.ListN.{length, get_or, drop, drop_of_length-le}
 use lib.Seq.{drop-cons}
-use borrow.Author.Tests.{le-ltb, le-leb, lt-leb, eqb-true, eqb-false}
-use Rattle.sequences.proofs.Booleans.{or_left, or_right, Decided, yes, no, decided}
+use borrow.Author.Tests.{le-leb, lt-leb}
 use Rattle.sequences.specs.Sequences.{all, neighbours}
 use Rattle.dictionaries.specs.Dictionaries.{ends_right}
-use Rattle.dictionaries.specs.Checking.{iri_character}
-use Rattle.dictionaries.proofs.Checking.{or_rest}
-
--- ---- a byte of a name
-pub low_out : (b : ℕ) → b ≤ 0x20 → iri_character b ≡ false
-unfolding iri_character
-low_out b h = rw (le-ltb 0x20 b h)
-
--- a byte that is one of those that are out, and one that is none of them
-pub one_out : (b k : ℕ) → b ≡ k → iri_character k ≡ false → false ≡ iri_character b
-one_out b k e h = sym (ap iri_character e ∙ h)
 
 -- ---- a test of all elements, from a place on
 module _ {A : Type 0} (f : A → Bool) (xs : List A) (d : A) (i : ℕ) where
@@ -38,6 +27,17 @@ module _ {A : Type 0} (f : A → Bool) (xs : List A) (d : A) (i : ℕ) where
   unfolding all
   all_end h = rw (drop_of_length-le xs {i = i} h) refl
 
+-- ---- a test of all elements, as std makes it, and two tests that say the same of each
+pub all_listed : {A : Type 0} (f : A → Bool) (xs : List A) → list_all f xs ≡ all f xs
+unfolding all
+all_listed f [] = refl
+all_listed f (x ∷ xs) = ap (λ b. f x && b) (all_listed f xs)
+
+pub all_alike : {A : Type 0} (f g : A → Bool) (xs : List A) (d : A) → ((i : ℕ) → i < length xs → f (get_or xs i d) ≡ g (get_or xs i d)) → all f xs ≡ all g xs
+unfolding all
+all_alike f g [] d h = refl
+all_alike f g (x ∷ xs) d h = ap₂ (λ a b. a && b) (h 0 (omega arith)) (all_alike f g xs d (λ i k. h (suc i) (omega arith)))
+
 -- ---- ends, from a place on
 module _ (n last : ℕ) (ends : List ℕ) (i : ℕ) where
   pub ends_step : i < length ends → last ≤ get_or ends i 0 → ends_right n last (drop i ends) ≡ ends_right n (get_or ends i 0) (drop (i + 1) ends)
@@ -52,79 +52,33 @@ module _ (n last : ℕ) (ends : List ℕ) (i : ℕ) where
   unfolding ends_right
   ends_end h = rw (drop_of_length-le ends {i = i} h) refl
 
-pub and-false : (b : Bool) → b && false ≡ false
-and-false true = refl
-and-false false = refl
-
--- ---- each two neighbours pass, from a place on
-module _ {A : Type 0} (g : A → A → Bool) (xs : List A) (d : A) (i : ℕ) where
-  -- where it is not the last the next one
-  step_by_lem : i < length xs → eqb (suc i) (length xs) || g (get_or xs i d) (get_or xs (suc i) d) ≡ true
-      → Decided (eqb (suc i) (length xs)) → neighbours g (drop i xs) ≡ neighbours g (drop (suc i) xs)
+-- ---- each two neighbours pass, from the one before a place on
+module _ {A : Type 0} (g : A → A → Bool) (xs : List A) (d : A) where
+  pub next_goes : (i : ℕ) → 0 < i → i < length xs → g (get_or xs (i - 1) d) (get_or xs i d) ≡ true
+      → neighbours g (drop (i - 1) xs) ≡ neighbours g (drop (i + 1 - 1) xs)
   unfolding neighbours
-  step_by_lem h k (yes z) =
-      let l = eqb-true (suc i) (length xs) z in
-      rw (drop-cons xs i d h, drop_of_length-le xs {i = suc i} (omega arith)) refl
-  step_by_lem h k (no z) =
-      let n = eqb-false (suc i) (length xs) z in
-      let s = or_rest (eqb (suc i) (length xs)) (g (get_or xs i d) (get_or xs (suc i) d)) z k in
-      rw (drop-cons xs i d h, drop-cons xs (suc i) d (omega arith), s) refl
+  next_goes zero p h e = absurd (omega arith)
+  next_goes (suc i) p h e =
+      let z : suc i - 1 ≡ i = omega arith in
+      let y : suc i + 1 - 1 ≡ suc i = omega arith in
+      let f : g (get_or xs i d) (get_or xs (suc i) d) ≡ true = rw z at e in
+      rw (z, y, drop-cons xs i d (omega arith), drop-cons xs (suc i) d h, f) refl
 
-  pub next_goes : i < length xs → eqb (i + 1) (length xs) || g (get_or xs i d) (get_or xs (i + 1) d) ≡ true
-      → neighbours g (drop i xs) ≡ neighbours g (drop (i + 1) xs)
-  next_goes h k = rw (add-one i) (step_by_lem h (rw (add-one i) at k) (decided (eqb (suc i) (length xs))))
-
-  stop_by : i < length xs → eqb (suc i) (length xs) || g (get_or xs i d) (get_or xs (suc i) d) ≡ false → neighbours g (drop i xs) ≡ false
+  pub next_stops : (i : ℕ) → 0 < i → i < length xs → g (get_or xs (i - 1) d) (get_or xs i d) ≡ false → neighbours g (drop (i - 1) xs) ≡ false
   unfolding neighbours
-  stop_by h k =
-      let n = eqb-false (suc i) (length xs) (or_left (eqb (suc i) (length xs)) _ k) in
-      let s = or_right (eqb (suc i) (length xs)) (g (get_or xs i d) (get_or xs (suc i) d)) k in
-      rw (drop-cons xs i d h, drop-cons xs (suc i) d (omega arith), s) refl
+  next_stops zero p h e = absurd (omega arith)
+  next_stops (suc i) p h e =
+      let z : suc i - 1 ≡ i = omega arith in
+      let f : g (get_or xs i d) (get_or xs (suc i) d) ≡ false = rw z at e in
+      rw (z, drop-cons xs i d (omega arith), drop-cons xs (suc i) d h, f) refl
 
-  pub next_stops : i < length xs → eqb (i + 1) (length xs) || g (get_or xs i d) (get_or xs (i + 1) d) ≡ false → neighbours g (drop i xs) ≡ false
-  next_stops h k = stop_by h (rw (add-one i) at k)
-
-  pub next_ends : length xs ≤ i → neighbours g (drop i xs) ≡ true
+  pub next_ends : (i : ℕ) → length xs ≤ i → neighbours g (drop (i - 1) xs) ≡ true
   unfolding neighbours
-  next_ends h = rw (drop_of_length-le xs {i = i} h) refl
-
--- ---- each element passes, and each two neighbours do, from a place on
-abbrev pub both_from : {A : Type 0} → (A → Bool) → (A → A → Bool) → List A → ℕ → Bool
-both_from f g xs i = all f (drop i xs) && neighbours g (drop i xs)
-
-module _ {A : Type 0} (f : A → Bool) (g : A → A → Bool) (xs : List A) (d : A) (i : ℕ) where
-  -- an element, and where it is not the last the next one
-  both_by : i < length xs → f (get_or xs i d) ≡ true → eqb (suc i) (length xs) || g (get_or xs i d) (get_or xs (suc i) d) ≡ true
-      → Decided (eqb (suc i) (length xs)) → both_from f g xs i ≡ both_from f g xs (suc i)
-  unfolding all neighbours
-  both_by h e k (yes z) =
-      let l = eqb-true (suc i) (length xs) z in
-      rw (drop-cons xs i d h, drop_of_length-le xs {i = suc i} (omega arith), e) refl
-  both_by h e k (no z) =
-      let n = eqb-false (suc i) (length xs) z in
-      let s = or_rest (eqb (suc i) (length xs)) (g (get_or xs i d) (get_or xs (suc i) d)) z k in
-      rw (drop-cons xs i d h, drop-cons xs (suc i) d (omega arith), e, s) refl
-
-  pub both_step : i < length xs → f (get_or xs i d) ≡ true → eqb (i + 1) (length xs) || g (get_or xs i d) (get_or xs (i + 1) d) ≡ true
-      → both_from f g xs i ≡ both_from f g xs (i + 1)
-  both_step h e k = rw (add-one i) (both_by h e (rw (add-one i) at k) (decided (eqb (suc i) (length xs))))
-
-  pub both_wrong : i < length xs → f (get_or xs i d) ≡ false → both_from f g xs i ≡ false
-  unfolding all neighbours
-  both_wrong h e = rw (drop-cons xs i d h, e) refl
-
-  apart_by : i < length xs → f (get_or xs i d) ≡ true → eqb (suc i) (length xs) || g (get_or xs i d) (get_or xs (suc i) d) ≡ false
-      → both_from f g xs i ≡ false
-  unfolding all neighbours
-  apart_by h e k =
-      let n = eqb-false (suc i) (length xs) (or_left (eqb (suc i) (length xs)) _ k) in
-      let s = or_right (eqb (suc i) (length xs)) (g (get_or xs i d) (get_or xs (suc i) d)) k in
-      rw (drop-cons xs i d h, drop-cons xs (suc i) d (omega arith), e, s) (and-false (all f (get_or xs (suc i) d ∷ drop (suc (suc i)) xs)))
-
-  pub both_apart : i < length xs → f (get_or xs i d) ≡ true → eqb (i + 1) (length xs) || g (get_or xs i d) (get_or xs (i + 1) d) ≡ false
-      → both_from f g xs i ≡ false
-  both_apart h e k = apart_by h e (rw (add-one i) at k)
-
-  pub both_none : length xs ≤ i → both_from f g xs i ≡ true
-  unfolding all neighbours
-  both_none h = rw (drop_of_length-le xs {i = i} h) refl
+  next_ends i h = ends_by xs (i - 1) (omega arith)
+    where
+      ends_by : (ys : List A) (k : ℕ) → length ys ≤ k + 1 → neighbours g (drop k ys) ≡ true
+      ends_by [] zero h = refl
+      ends_by [] (suc k) h = refl
+      ends_by (y ∷ []) zero h = refl
+      ends_by (y ∷ z ∷ ys) zero h = absurd (omega arith)
+      ends_by (y ∷ ys) (suc k) h = ends_by ys k (omega arith)

@@ -1,13 +1,13 @@
 // The test of a whole dictionary of names or of texts: ends, number of strings, UTF-8, characters of names, order.
-#![tactic(auto)]
+#![tactic(auto, using(std::proofs::lemmas::Bool::Decides::nat_tests), unfolding(dictionaries::specs::Checking::dictionary_right))]
 
 mod names;
 mod strings;
 
-ghost use Rattle.std.specs.Prelude.{◌≡◌, true, ◌&&◌, ◌||◌, ◌+◌, ◌<◌, eqb, length};
+ghost use Rattle.std.specs.Prelude.{◌≡◌, true, ◌&&◌, length};
 ghost use Rattle.sequences.specs.Sequences.{all, neighbours};
 ghost use Rattle.dictionaries.specs.Strings.{string_before};
-ghost use Rattle.dictionaries.specs.Dictionaries.{strings_of, ends_right, place_before};
+ghost use Rattle.dictionaries.specs.Dictionaries.{strings_of, ends_right};
 ghost use Rattle.dictionaries.specs.Checking.{string_right, dictionary_right};
 
 use dictionaries::StringKind;
@@ -22,28 +22,14 @@ pub fn ends_right(count: usize, ends: &[u32]) -> bool
     ensures { result ≡ ends_right count 0 ends.now }
 {
     let mut last: usize = 0;
-    let mut i: usize = 0;
-    while i < ends.len() {
-        let end = words::wide(ends[i]);
+    for end in ends {
+        let end = words::wide(*end);
         if end < last {
             return false;
         }
         last = end;
-        i += 1;
     }
     last == count
-}
-
-// Whether the string with the number `i` is the last, or comes before the next.
-fn next_right(bytes: &[u8], ends: &[u32], i: usize) -> bool
-    requires ends_value { ends_right (length bytes.now) 0 ends.now ≡ true }
-    requires i_in_bounds { i < length ends.now }
-    ensures { result ≡ eqb (i + 1) (length ends.now) || place_before bytes.now ends.now i (i + 1) }
-{
-    if i + 1 == ends.len() {
-        return true;
-    }
-    stands_before(bytes, ends, i, i + 1)
 }
 
 // Whether each string comes before the next.
@@ -51,12 +37,10 @@ fn strings_ascend(bytes: &[u8], ends: &[u32]) -> bool
     requires { ends_right (length bytes.now) 0 ends.now ≡ true }
     ensures { result ≡ neighbours string_before (strings_of bytes.now ends.now) }
 {
-    let mut i: usize = 0;
-    while i < ends.len() {
-        if !next_right(bytes, ends, i) {
+    for next in 1..ends.len() {
+        if !stands_before(bytes, ends, next - 1, next) {
             return false;
         }
-        i += 1;
     }
     true
 }
@@ -68,21 +52,12 @@ fn strings_right(kind: StringKind, bytes: &[u8], ends: &[u32]) -> bool
         ≡ (all (string_right kind) (strings_of bytes.now ends.now)
         && neighbours string_before (strings_of bytes.now ends.now)) }
 {
-    if !each_right(kind, bytes, ends) {
-        return false;
-    }
-    strings_ascend(bytes, ends)
+    each_right(kind, bytes, ends) && strings_ascend(bytes, ends)
 }
 
 // Whether a dictionary is right for the strings that `kind` names.
 pub fn dictionary_right(kind: StringKind, bytes: &[u8], ends: &[u32]) -> bool
     ensures { result ≡ dictionary_right kind bytes.now ends.now }
 {
-    if MOST_STRINGS < ends.len() {
-        return false;
-    }
-    if !ends_right(bytes.len(), ends) {
-        return false;
-    }
-    strings_right(kind, bytes, ends)
+    ends.len() <= MOST_STRINGS && ends_right(bytes.len(), ends) && strings_right(kind, bytes, ends)
 }

@@ -2,7 +2,7 @@
 use Prim.Native.Nat.{ℕ, ◌+◌, ◌≤◌, ◌<◌}
 use native.Mathlib.Omega.{arith}
 use native.Mathlib.Numerals.{add-one}
-use mathlib.Core.Path.{◌≡◌, refl, sym, ◌∙◌, ap, subst}
+use mathlib.Core.Path.{◌≡◌, sym, ◌∙◌, ap, subst}
 use mathlib.Core.List.{List, [], ◌∷◌}
 use lib.ListN.{length, get_or, set, take, drop, length-set}
 use lib.Seq.{get_or-set_same, get_or-set_other, take-suc, take_all, drop-drop}
@@ -42,9 +42,6 @@ module _ (bytes ends : List ℕ) where
     pub long : length ns ≡ length old
     pub rest_is : drop count whole ≡ last_of_each (drop k strings)
     pub numbers_so : Each (λ p. get_or ns p 0 ≡ rank p) (take k places)
-
-  pub numbers_start : (old : List ℕ) → NumbersWritten old old 0 0
-  numbers_start old = record { long = refl; rest_is = refl; numbers_so = tt }
 
   module _ (old ns : List ℕ) (count k p : ℕ) (w : NumbersWritten old ns count k)
       (h : k < length places) (e : p ≡ get_or places k 0) (l : p < length ns) where

@@ -47,7 +47,8 @@ module _ (xs : List (List ℕ)) (k : ℕ) (h : k < length xs) where
       → last_of_each (drop k xs) ≡ get_or xs k [] ∷ last_of_each (drop (k + 1) xs)
   one_taken e = rw (add-one k) (taken_by_lem (rw (add-one k) at e) (decided (eqb (suc k) (length xs))))
 
-  left_by_lem : eqb (suc k) (length xs) || string_before (get_or xs k []) (get_or xs (suc k) []) ≡ false → last_of_each (drop k xs) ≡ last_of_each (drop (suc k) xs)
+  left_by_lem : eqb (suc k) (length xs) || string_before (get_or xs k []) (get_or xs (suc k) []) ≡ false →
+      last_of_each (drop k xs) ≡ last_of_each (drop (suc k) xs)
   left_by_lem e =
       let l = eqb-false (suc k) (length xs) (or_left (eqb (suc k) (length xs)) _ e) in
       rw (drop-cons xs k [] h, drop-cons xs (suc k) [] (omega arith))
@@ -70,19 +71,6 @@ pub record StringsWritten (whole rest : List (List ℕ)) (out₀ out ends₀ end
   pub ends_so : ends_after 0 whole ≡ take count ends ++ ends_after filled rest
   pub bytes_behind : drop filled out ≡ drop filled out₀
   pub ends_behind : drop count ends ≡ drop count ends₀
-
-pub written_start : (whole : List (List ℕ)) (out ends : List ℕ) → StringsWritten whole whole out out ends ends 0 0
-written_start whole out ends =
-    record {
-      out_length = refl;
-      ends_same = refl;
-      filled_in = omega arith;
-      count_in_fact = omega arith;
-      bytes_so = refl;
-      ends_so = refl;
-      bytes_behind = refl;
-      ends_behind = refl;
-    }
 
 module _ (whole rest : List (List ℕ)) (out₀ out ends₀ ends : List ℕ) (filled count : ℕ) (s : List ℕ)
     (w : StringsWritten whole (s ∷ rest) out₀ out ends₀ ends filled count)

@@ -2,7 +2,6 @@
 #![tactic(auto)]
 
 ghost use Rattle.std.specs.Prelude.{◌≡◌, true, ◌||◌, ◌+◌, ◌≤◌, ◌<◌, eqb, length, get_or};
-ghost use Rattle.std.proofs.Math.Seq.{paste};
 ghost use Rattle.sequences.specs.Sequences.{all, over};
 ghost use Rattle.dictionaries.specs.Dictionaries.{strings_of, ends_right, most_strings, has_string, place_before};
 ghost use Rattle.dictionary_numberings.specs.Numbering.{strings_once, bytes_once, ends_once, string_numbers};
@@ -17,19 +16,6 @@ pub struct Extent {
     pub strings: usize,
 }
 
-// Copies `bytes` to `buf` from place `a` on.
-fn copy_bytes(buf: &mut [u8], a: usize, bytes: &[u8])
-    requires { a + length bytes.now ≤ length buf.old }
-    ensures { buf.new ≡ paste buf.old a bytes.now (length bytes.now) }
-{
-    let mut i: usize = 0;
-    while i < bytes.len() {
-        let v = bytes[i];
-        buf[a + i] = v;
-        i += 1;
-    }
-}
-
 // Whether the string of entry `k` of `places` is the last, or comes before the next.
 fn is_last(bytes: &[u8], ends: &[u32], places: &[u32], k: usize) -> bool
     requires ends_value { ends_right (length bytes.now) 0 ends.now ≡ true }
@@ -38,15 +24,13 @@ fn is_last(bytes: &[u8], ends: &[u32], places: &[u32], k: usize) -> bool
     ensures { result ≡ eqb (k + 1) (length places.now)
         || place_before bytes.now ends.now (get_or places.now k 0) (get_or places.now (k + 1) 0) }
 {
-    if k + 1 == places.len() {
-        return true;
-    }
-    is_before(
-        bytes,
-        ends,
-        words::wide(places[k]),
-        words::wide(places[k + 1]),
-    )
+    k + 1 == places.len()
+        || is_before(
+            bytes,
+            ends,
+            words::wide(places[k]),
+            words::wide(places[k + 1]),
+        )
 }
 
 // Writes the strings that are cut off `bytes` at `ends`, by their sorted `places`: each once to `out` and its end to `cuts`, and to `numbers` the number
@@ -71,20 +55,18 @@ pub fn write_strings(
 {
     let mut filled: usize = 0;
     let mut count: usize = 0;
-    let mut k: usize = 0;
-    while k < places.len() {
-        let place = words::wide(places[k]);
+    for (k, place) in places.iter().enumerate() {
+        let place = words::wide(*place);
         numbers[place] = count as u32;
-        if is_last(bytes, ends, places, k) {
-            let s = string(bytes, ends, place);
-            copy_bytes(out, filled, s);
-            filled += s.len();
-            cuts[count] = filled as u32;
-            count += 1;
-            k += 1;
-        } else {
-            k += 1;
+        if !is_last(bytes, ends, places, k) {
+            continue;
         }
+        let s = string(bytes, ends, place);
+        let end = filled + s.len();
+        out[filled..end].copy_from_slice(s);
+        filled = end;
+        cuts[count] = filled as u32;
+        count += 1;
     }
     Extent {
         bytes: filled,

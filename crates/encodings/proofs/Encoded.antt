@@ -15,8 +15,7 @@ use Rattle.words.proofs.Signed.{below, above, sub_same}
 use Rattle.sequences.proofs.Ascending.{neighbours_ascending}
 use Rattle.sequences.proofs.Somewhere.{map_at}
 use Rattle.plans.specs.Conditions.{next}
-use Rattle.dictionaries.specs.declared.Lookup.{Lookup}
-use Rattle.dictionaries.specs.declared.Lookup.TheVariants.{At, Absent}
+use Rattle.std.specs.Prelude.{Result, Ok, Err}
 use Rattle.dictionaries.specs.Utf8.{code_points}
 use Rattle.dictionaries.specs.Dictionaries.{strings_of, RightDictionary, most_strings}
 use Rattle.dictionaries.specs.Lookups.{lookup_in}
@@ -67,7 +66,7 @@ bits_read (negsuc n) h =
     ∙ rw (lt-ltb 0 (suc n) (omega arith)) (ap negsuc (let e : suc n - 1 ≡ n = omega arith in e))
 
 -- ---- a string by its place
-decoded_at : (bytes ends s : List ℕ) → RightDictionary bytes ends → (n : ℕ) → lookup_in (strings_of bytes ends) s ≡ At n
+decoded_at : (bytes ends s : List ℕ) → RightDictionary bytes ends → (n : ℕ) → lookup_in (strings_of bytes ends) s ≡ Ok n
     → (n < 0x4000_0000) × (decoded bytes ends n ≡ code_points s)
 decoded_at bytes ends s r n e =
     let ss = strings_of bytes ends in
@@ -96,21 +95,21 @@ split d x xs ws e = go (word_of d x) refl (words_of d xs) refl e
     go (some w) p (some vs) q f = record { word = w; rest = vs; whole = (let g : ws ≡ w ∷ vs = cc in g); first = p; others = q }
 
 module _ (d : Dictionaries) (r : RightDictionaries d) where
-  name_back : (s : List ℕ) (l : Lookup) → lookup_in (strings_of d.name_bytes d.name_ends) s ≡ l → (w : ℕ) → found_word words.name l ≡ some w
+  name_back : (s : List ℕ) (l : Result ℕ ℕ) → lookup_in (strings_of d.name_bytes d.name_ends) s ≡ l → (w : ℕ) → found_word words.name l ≡ some w
       → term_decoded (decoding d) w ≡ iri (code_points s)
-  name_back s (At n) e w f =
+  name_back s (Ok n) e w f =
       let k = decoded_at d.name_bytes d.name_ends s r.names n e in
       let g : w ≡ words.name n = cc in
       ap (term_decoded (decoding d)) g ∙ ap (carry_term (decoding d)) (name_read n k.0) ∙ ap iri k.1
-  name_back s (Absent n) e w f = absurd (let z : ◌≡◌ {A = ℕ} 0 1 = cc in omega arith)
+  name_back s (Err n) e w f = absurd (let z : ◌≡◌ {A = ℕ} 0 1 = cc in omega arith)
 
-  text_back : (s : List ℕ) (l : Lookup) → lookup_in (strings_of d.text_bytes d.text_ends) s ≡ l → (w : ℕ) → found_word words.text l ≡ some w
+  text_back : (s : List ℕ) (l : Result ℕ ℕ) → lookup_in (strings_of d.text_bytes d.text_ends) s ≡ l → (w : ℕ) → found_word words.text l ≡ some w
       → term_decoded (decoding d) w ≡ text (code_points s)
-  text_back s (At n) e w f =
+  text_back s (Ok n) e w f =
       let k = decoded_at d.text_bytes d.text_ends s r.texts n e in
       let g : w ≡ words.text n = cc in
       ap (term_decoded (decoding d)) g ∙ ap (carry_term (decoding d)) (text_read n k.0) ∙ ap text k.1
-  text_back s (Absent n) e w f = absurd (let z : ◌≡◌ {A = ℕ} 0 1 = cc in omega arith)
+  text_back s (Err n) e w f = absurd (let z : ◌≡◌ {A = ℕ} 0 1 = cc in omega arith)
 
   number_back : (z : ℤ) → Decided (is_signed30 z) → (w : ℕ) → number_word z ≡ some w → term_decoded (decoding d) w ≡ integer z
   number_back z (Decided.yes h) w f =

@@ -11,8 +11,7 @@ use Rattle.sequences.proofs.Elements.{same_test}
 use Rattle.sequences.proofs.Each.{all_each}
 use Rattle.sequences.proofs.Ascending.{neighbours_ascending}
 use Rattle.sequences.proofs.Somewhere.{each_at}
-use Rattle.dictionaries.specs.declared.Lookup.{Lookup}
-use Rattle.dictionaries.specs.declared.Lookup.TheVariants.{At, Absent}
+use Rattle.std.specs.Prelude.{Result, Ok, Err}
 use Rattle.dictionaries.specs.Strings.{same_string}
 use Rattle.dictionaries.specs.Utf8.{well_formed, code_points}
 use Rattle.dictionaries.specs.Dictionaries.{strings_of, RightDictionary}
@@ -53,13 +52,13 @@ points_same (text a) (integer b) f g = refl
 points_same (text a) (text b) f g = same_points a b f g
 
 -- ---- the strings of a right dictionary are well-formed
-found_formed : (bytes ends s : List ℕ) → RightDictionary bytes ends → (kind : ℕ → ℕ) (l : Lookup) → lookup_in (strings_of bytes ends) s ≡ l
+found_formed : (bytes ends s : List ℕ) → RightDictionary bytes ends → (kind : ℕ → ℕ) (l : Result ℕ ℕ) → lookup_in (strings_of bytes ends) s ≡ l
     → (w : ℕ) → found_word kind l ≡ some w → well_formed s ≡ true
-found_formed bytes ends s r kind (At n) e w f =
+found_formed bytes ends s r kind (Ok n) e w f =
     let ss = strings_of bytes ends in
     let k = (found s ss (neighbours_ascending before_ordered ss r.ascend) n).0 e in
     subst (λ z. well_formed z ≡ true) k.is (each_at (λ z. well_formed z ≡ true) ss [] (all_each well_formed ss r.formed) n k.within)
-found_formed bytes ends s r kind (Absent n) e w f = absurd (let z : ◌≡◌ {A = ℕ} 0 1 = cc in omega arith)
+found_formed bytes ends s r kind (Err n) e w f = absurd (let z : ◌≡◌ {A = ℕ} 0 1 = cc in omega arith)
 
 module _ (d : Dictionaries) (r : RightDictionaries d) where
   word_formed : (x : StringTerm) (w : ℕ) → word_of d x ≡ some w → Formed x

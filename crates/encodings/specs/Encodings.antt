@@ -3,8 +3,7 @@ use Rattle.std.specs.Prelude.{ℕ, ◌-◌, Bool, true, cond, List, [], ◌∷�
 use Rattle.std.proofs.Math.Option.{Option, none, some}
 use Rattle.words.specs.Words as words
 use Rattle.plans.specs.Conditions.{next}
-use Rattle.dictionaries.specs.declared.Lookup.{Lookup}
-use Rattle.dictionaries.specs.declared.Lookup.TheVariants.{At, Absent}
+use Rattle.std.specs.Prelude.{Result, Ok, Err}
 use Rattle.dictionaries.specs.Utf8.{code_points}
 use Rattle.dictionaries.specs.Dictionaries.{strings_of}
 use Rattle.dictionaries.specs.Lookups.{lookup_in}
@@ -33,9 +32,9 @@ bits_of30 (negsuc n) = 0x3FFF_FFFF - n
 abbrev pub number_word : ℤ → Option ℕ
 number_word n = cond (is_signed30 n) (some (words.number (bits_of30 n))) none
 
-abbrev pub found_word : (ℕ → ℕ) → Lookup → Option ℕ
-found_word kind (At n) = some (kind n)
-found_word kind (Absent n) = none
+abbrev pub found_word : (ℕ → ℕ) → Result ℕ ℕ → Option ℕ
+found_word kind (Ok n) = some (kind n)
+found_word kind (Err n) = none
 
 abbrev pub word_of : Dictionaries → StringTerm → Option ℕ
 word_of d (iri s) = found_word words.name (lookup_in (strings_of d.name_bytes d.name_ends) s)

@@ -15,7 +15,7 @@ use Rattle.sequences.specs.Sorting.{insert_by, insert_all_by, sort_by, best_by}
 use Rattle.lists.specs.Rows.{project, row_before, ahead}
 use Rattle.lists.specs.Gathering.{gathered, least_output, threshold_right}
 use Rattle.lists.specs.Delivering.{is_ahead, with_row}
-use Rattle.lists.specs.declared.Put.TheVariants.{Words}
+use Rattle.std.specs.Prelude.{Some}
 use Rattle.lists.specs.Putting.{Taken, Listed}
 use Rattle.list_best.specs.BestLists.{TopParts, BestList, Deliverable}
 use Rattle.lists.proofs.Leaving.{ahead_all, ahead_row}
@@ -125,7 +125,7 @@ deliverable {k} {vs} {keys} {threshold} p s r f bs e =
 -- and the output has room for it: a best-of list is never full
 pub never_full : {k : ℕ} {vs keys threshold out : List ℕ} {used : ℕ} → Deliverable k vs keys threshold out used → (b : Bindings)
     → {after : List ℕ} {r : ℕ} → Listed (with_row (top k vs keys) threshold (take used out) b) out after r
-    → Taken (with_row (top k vs keys) threshold (take used out) b) out after (Words r)
+    → Taken (with_row (top k vs keys) threshold (take used out) b) out after (Some r)
 never_full {k} {vs} {keys} {threshold} {out} {used} d b l =
     let t = le-leb (length (with_row (top k vs keys) threshold (take used out) b)) (length out) (with_room_lem d b) in
-    (ap Words l.0 ∙ rw t, l.1 ∙ rw t)
+    (ap Some l.0 ∙ rw t, l.1 ∙ rw t)

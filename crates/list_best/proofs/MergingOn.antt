@@ -3,8 +3,9 @@
 use Prim.Native.Nat.{ℕ, ◌+◌, ◌-◌, ◌%◌, ◌≤◌, ◌<◌}
 use native.Mathlib.Omega.{arith}
 use mathlib.Core.Path.{◌≡◌, refl, sym, ◌∙◌, ap, ap₂, subst}
-use mathlib.Core.List.{List, ◌++◌}
-use lib.ListN.{length, take, drop, take-append-drop, drop_of_length-le}
+use mathlib.Core.List.{List, [], ◌++◌}
+use native.Mathlib.Nat.{add-mod_left, mod-eq_of_lt}
+use lib.ListN.{length, take, drop, take-append-drop, length-append}
 use lib.Seq.{drop-drop, length-take-le}
 use Rattle.sequences.specs.Sequences.{over}
 use Rattle.sequences.proofs.Buffers.{take_over, drop_over, length_over}
@@ -12,18 +13,17 @@ use Rattle.plans.specs.Endings.{top}
 use Rattle.lists.specs.Gathering.{merged}
 use Rattle.lists.specs.Delivering.{with_best}
 use Rattle.list_best.specs.BestLists.{BestList, Insertable, Mergeable}
-use Rattle.list_best_places.proofs.RowWords.{row_at, row_split, next_row, row_length, rest_whole}
+use Rattle.std.proofs.lemmas.List.{nil_from_length}
 use Rattle.list_best.proofs.BestWords.{with_best_lem}
 use Rattle.list_best.proofs.MergingBest.{merged_nil, merged_cons, merged_longer, with_longer}
 
--- some words of the list are taken: the buffer's first words are a best-of list, and the others are as they were
-pub record Merging (k : ℕ) (vs keys before : List ℕ) (used : ℕ) (list kept : List ℕ) (words at : ℕ) : Type 0 where
-  pub up_to : at ≤ length list
-  pub whole : length (drop at list) % length vs ≡ 0
+-- `rest` is left of the list: the buffer's first words are a best-of list, and the others are as they were
+pub record Merging (k : ℕ) (vs keys before : List ℕ) (used : ℕ) (list kept : List ℕ) (words : ℕ) (rest : List ℕ) : Type 0 where
+  pub whole : length rest % length vs ≡ 0
   pub size : length kept ≡ length before
   pub fit : words ≤ length kept
   pub best : BestList k vs keys (take words kept)
-  pub same : merged (top k vs keys) (take used before) list ≡ merged (top k vs keys) (take words kept) (drop at list)
+  pub same : merged (top k vs keys) (take used before) list ≡ merged (top k vs keys) (take words kept) rest
   pub behind : drop words kept ≡ drop words before
 
 -- buffers that are the same from some words on are the same further on
@@ -37,21 +37,22 @@ deeper a b x y h e =
     ∙ ap (λ m. drop m y) n
 
 module _ {k : ℕ} {vs keys before : List ℕ} {used : ℕ} {list : List ℕ} (m : Mergeable k vs keys before used list) where
-  pub merge_start : Merging k vs keys before used list before used 0
-  merge_start =
-      record { up_to = omega arith; whole = m.whole; size = refl; fit = m.fit; best = m.kept; same = refl; behind = refl }
+  pub merge_start : Merging k vs keys before used list before used list
+  merge_start = record { whole = m.whole; size = refl; fit = m.fit; best = m.kept; same = refl; behind = refl }
 
-  module _ {kept : List ℕ} {words at : ℕ} (i : Merging k vs keys before used list kept words at) where
+  module _ {kept : List ℕ} {words : ℕ} {rest : List ℕ} (i : Merging k vs keys before used list kept words rest) where
     front : length (take words kept) ≡ words
     front = length-take-le words kept i.fit
 
-    pub merge_end : length list ≤ at
+    -- less than a row is left, so nothing
+    pub merge_end : length rest < length vs
         → (words ≡ length (merged (top k vs keys) (take used before) list))
         × (kept ≡ over (merged (top k vs keys) (take used before) list) before)
     merge_end l =
+        let none : rest ≡ [] = nil_from_length rest (sym (mod-eq_of_lt l) ∙ i.whole) in
         let e : merged (top k vs keys) (take used before) list ≡ take words kept =
         i.same
-        ∙ ap (merged (top k vs keys) (take words kept)) (drop_of_length-le list l)
+        ∙ ap (merged (top k vs keys) (take words kept)) none
         ∙ merged_nil k vs keys m.parts.some (take words kept) i.best in (
           sym (ap length e ∙ front),
           sym
@@ -61,50 +62,44 @@ module _ {k : ℕ} {vs keys before : List ℕ} {used : ℕ} {list : List ℕ} (m
               ∙ take-append-drop words kept),
         )
 
-    module _ (more : at < length list) where
-      pub next_fits : at + length vs ≤ length list
-      next_fits = next_row (length vs) list at i.whole more
-
-      pub row_wide : length (row_at (length vs) list at) ≡ length vs
-      row_wide = row_length (length vs) list at next_fits
-
+    -- a row, and what is left behind it
+    module _ (row more : List ℕ) (next : rest ≡ row ++ more) (wide : length row ≡ length vs) where
       abbrev result : List ℕ
-      result = with_best k vs keys (take words kept) (row_at (length vs) list at)
+      result = with_best k vs keys (take words kept) row
 
       result_best : BestList k vs keys result
-      result_best = with_best_lem k vs keys m.parts.some (take words kept) (row_at (length vs) list at) i.best row_wide
+      result_best = with_best_lem k vs keys m.parts.some (take words kept) row i.best wide
 
-      rest_same : merged (top k vs keys) (take used before) list ≡ merged (top k vs keys) result (drop (at + length vs) list)
+      rest_same : merged (top k vs keys) (take used before) list ≡ merged (top k vs keys) result more
       rest_same =
           i.same
-          ∙ ap (merged (top k vs keys) (take words kept)) (row_split (length vs) list at)
-          ∙ merged_cons k vs keys m.parts.some (take words kept) i.best (row_at (length vs) list at)
-          (drop (at + length vs) list) row_wide
+          ∙ ap (merged (top k vs keys) (take words kept)) next
+          ∙ merged_cons k vs keys m.parts.some (take words kept) i.best row more wide
 
       fits : length result ≤ length kept
       fits =
-          let l = merged_longer k vs keys m.parts.some result result_best (drop (at + length vs) list) in
+          let l = merged_longer k vs keys m.parts.some result result_best more in
           omega (arith, ap length rest_same, m.room, i.size)
 
       longer : length (take words kept) ≤ length result
-      longer = with_longer k vs keys m.parts.some (take words kept) (row_at (length vs) list at) i.best row_wide
+      longer = with_longer k vs keys m.parts.some (take words kept) row i.best wide
 
-      pub insertable : Insertable k vs keys (row_at (length vs) list at) kept words
-      insertable = record { parts = m.parts; width = row_wide; fit = i.fit; best = i.best; room = fits }
+      pub insertable : Insertable k vs keys row kept words
+      insertable = record { parts = m.parts; width = wide; fit = i.fit; best = i.best; room = fits }
 
       -- past the row, with what putting it in has left
       pub merge_more : {w : ℕ} {after : List ℕ} → (w ≡ length result) × (after ≡ over result kept)
-          → Merging k vs keys before used list after w (at + length vs)
+          → Merging k vs keys before used list after w more
       merge_more {w} {after} e =
           let front_is : take w after ≡ result = ap₂ take e.0 e.1 ∙ take_over result kept in
           let long : length after ≡ length kept = ap length e.1 ∙ length_over result kept fits in
+          let left : length rest ≡ length vs + length more = ap length next ∙ length-append row more ∙ ap (λ n. n + length more) wide in
           record {
-            up_to = next_fits;
-            whole = rest_whole (length vs) list at next_fits i.whole;
+            whole = sym (ap (λ n. n % length vs) left ∙ add-mod_left (length vs) (length more)) ∙ i.whole;
             size = long ∙ i.size;
             fit = omega (arith, fits, e.0);
             best = subst (BestList k vs keys) (sym front_is) result_best;
-            same = rest_same ∙ ap (λ x. merged (top k vs keys) x (drop (at + length vs) list)) (sym front_is);
+            same = rest_same ∙ ap (λ x. merged (top k vs keys) x more) (sym front_is);
             behind = ap₂ drop e.0 e.1 ∙ drop_over result kept
                 ∙ ap (λ m. drop m kept) (sym e.0) ∙ deeper words w kept before (omega (arith, e.0, front, longer)) i.behind;
           }

@@ -1,5 +1,8 @@
 -- Tests 11, 12 and 14 for a best-of ending, by their parts; and lists that pass them may be merged.
-use Prim.Native.Nat.{ℕ, ◌+◌, ◌*◌, ◌/◌, ◌%◌, ◌≤◌, ◌<◌}
+use Prim.Native.Nat.{ℕ, ◌+◌, ◌*◌, ◌/◌, ◌%◌, ◌≤◌, ◌<◌, min}
+use native.Mathlib.Nat.{min-eq_left, min-eq_right}
+use Rattle.std.proofs.Math.Logic.{⊎_elim}
+use Rattle.std.proofs.lemmas.Bool.{cases_lt}
 use native.Mathlib.Omega.{arith}
 use mathlib.Core.Path.{◌≡◌, refl, sym, ◌∙◌, ap}
 use mathlib.Core.Bool.{Bool, true, false, ◌&&◌}
@@ -81,16 +84,24 @@ module _ (k : ℕ) (vs keys : List ℕ) where
     front : length (take used kept) ≡ used
     front = length-take-le used kept fit
 
-    pub room_both : used + length list < k * length vs
+    room_both : used + length list < k * length vs
         → leb (used + length list) (length kept) ≡ leb (length (merged (top k vs keys) (take used kept) list)) (length kept)
     room_both h =
         ap (λ n. leb n (length kept))
         (sym (merged_all_lem k vs keys some (take used kept) b list whole (omega (arith, front)) ∙ ap (λ n. n + length list) front))
 
-    pub room_most : k * length vs ≤ used + length list
+    room_most : k * length vs ≤ used + length list
         → leb (k * length vs) (length kept) ≡ leb (length (merged (top k vs keys) (take used kept) list)) (length kept)
     room_most h =
         ap (λ n. leb n (length kept)) (sym (merged_most k vs keys some (take used kept) b list whole (omega (arith, front))))
+
+    pub room_least : leb (min (used + length list) (k * length vs)) (length kept)
+        ≡ leb (length (merged (top k vs keys) (take used kept) list)) (length kept)
+    room_least =
+        ⊎_elim
+        (λ (h : used + length list < k * length vs). ap (λ n. leb n (length kept)) (min-eq_left (omega arith)) ∙ room_both h)
+        (λ (h : k * length vs ≤ used + length list). ap (λ n. leb n (length kept)) (min-eq_right h) ∙ room_most h)
+        (cases_lt (used + length list) (k * length vs))
 
 -- lists that pass tests 12 and 14 may be merged
 pub mergeable : {k : ℕ} {vs keys kept : List ℕ} {used : ℕ} {list : List ℕ} → TopParts k vs keys → used ≤ length kept

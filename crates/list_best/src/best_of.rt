@@ -86,13 +86,9 @@ pub fn merge_best(
     ensures { Listed (merged (top k vars.now keys.now) (take used kept.old) list.now)
         kept.old kept.new result }
 {
-    let w = vars.len();
     let mut words = used;
-    let mut at: usize = 0;
-    while at < list.len() {
-        let end = at + w;
-        words = insert_best(vars, keys, k, &list[at..end], kept, words);
-        at = end;
+    for row in list.chunks_exact(vars.len()) {
+        words = insert_best(vars, keys, k, row, kept, words);
     }
     words
 }

@@ -19,6 +19,7 @@ fn far_back(vars: &[u32], keys: &[u32], row: &[u32], list: &[u32], from: usize) 
 {
     let w = vars.len();
     let mut at = from;
+    // No iterator: each comparison decides whether a further step is taken, and from where.
     while w <= at / FAR {
         let first = at - FAR * w;
         let end = first + w;
@@ -39,6 +40,7 @@ fn near_back(vars: &[u32], keys: &[u32], row: &[u32], list: &[u32], upto: usize)
 {
     let w = vars.len();
     let mut at = upto;
+    // No iterator: the word where a row ends is what is searched for, so it is counted anyway.
     while 0 < at {
         let from = at - w;
         if comes_before(vars, keys, row, &list[from..at]) {

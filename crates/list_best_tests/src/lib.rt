@@ -33,6 +33,7 @@ fn rises(vars: &[u32], keys: &[u32], list: &[u32]) -> bool
 {
     let w = vars.len();
     let mut at: usize = 0;
+    // No iterator: rows of `w` words by twos, each with the next; chunks zipped with those behind them say less plainly that each pair is whole.
     while at + w < list.len() {
         let next = at + w;
         let end = next + w;
@@ -72,8 +73,5 @@ pub fn has_best_room(vars: &[u32], k: usize, kept: &[u32], used: usize, list: &[
 {
     let most = k * vars.len();
     let both = used + list.len();
-    if both < most {
-        return both <= kept.len();
-    }
-    most <= kept.len()
+    both.min(most) <= kept.len()
 }

@@ -10,8 +10,7 @@ use Rattle.plans.specs.Endings.{Ending, rows, top, group, registers, most_group_
 use Rattle.plans.specs.Reading.{ending_kind_in, variables_in, keys_in, best_in, measured_in}
 use Rattle.plans.proofs.EndingRead.{is_rows_lem, is_top, is_group, is_registers}
 use Rattle.registers.specs.Registers.{register_count}
-use Rattle.lists.specs.declared.Put.{Put}
-use Rattle.lists.specs.declared.Put.TheVariants.{Words}
+use Rattle.std.specs.Prelude.{Option, Some}
 use Rattle.lists.specs.Delivering.{with_row}
 use Rattle.lists.specs.Putting.{Taken, Listed}
 use Rattle.list_best.specs.BestLists.{Deliverable}
@@ -39,7 +38,7 @@ module _ (e : Ending) (threshold out : List ℕ) (used : ℕ) (b : Bindings) (r 
   pub registers_ready : (used ≡ register_count) × (register_count ≤ length out)
   registers_ready = subst (λ (x : Ending). Receives x threshold out used) registers_of_lem r
 
-  pub registers_taken : (after : List ℕ) (p : Put) → Taken (with_row (registers v) [] (take used out) b) out after p
+  pub registers_taken : (after : List ℕ) (p : Option ℕ) → Taken (with_row (registers v) [] (take used out) b) out after p
       → Taken (with_row e threshold (take used out) b) out after p
   registers_taken after p t = rw (registers_of_lem, registers_any v threshold (take used out) b) t
 
@@ -53,7 +52,7 @@ module _ (e : Ending) (threshold out : List ℕ) (used : ℕ) (b : Bindings) (r 
     pub rows_room : used ≤ length out
     rows_room = subst (λ (x : Ending). Receives x threshold out used) rows_of r
 
-    pub rows_taken_lem : (after : List ℕ) (p : Put) → Taken (with_row (rows vs) [] (take used out) b) out after p
+    pub rows_taken_lem : (after : List ℕ) (p : Option ℕ) → Taken (with_row (rows vs) [] (take used out) b) out after p
         → Taken (with_row e threshold (take used out) b) out after p
     rows_taken_lem after p t = rw (rows_of, rows_any vs threshold (take used out) b) t
 
@@ -66,7 +65,7 @@ module _ (e : Ending) (threshold out : List ℕ) (used : ℕ) (b : Bindings) (r 
     top_ready = subst (λ (x : Ending). Receives x threshold out used) top_of r
 
     pub top_taken : (after : List ℕ) (n : ℕ) → Listed (with_row (top k vs keys) threshold (take used out) b) out after n
-        → Taken (with_row e threshold (take used out) b) out after (Words n)
+        → Taken (with_row e threshold (take used out) b) out after (Some n)
     top_taken after n l = rw top_of (never_full top_ready b l)
 
   -- ---- groups
@@ -79,6 +78,6 @@ module _ (e : Ending) (threshold out : List ℕ) (used : ℕ) (b : Bindings) (r 
         let g : Receives (group vs m) threshold out used = subst (λ (x : Ending). Receives x threshold out used) group_of r in
         (g.0, g.1.0, g.1.1 b)
 
-    pub group_taken : (after : List ℕ) (p : Put) → Taken (with_row (group vs m) [] (take used out) b) out after p
+    pub group_taken : (after : List ℕ) (p : Option ℕ) → Taken (with_row (group vs m) [] (take used out) b) out after p
         → Taken (with_row e threshold (take used out) b) out after p
     group_taken after p t = rw (group_of, with_any vs m threshold (take used out) b) t

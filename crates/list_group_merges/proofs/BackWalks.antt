@@ -5,8 +5,8 @@ use native.Mathlib.Omega.{arith}
 use mathlib.Core.Path.{◌≡◌, refl, sym, ◌∙◌, ap}
 use mathlib.Core.Bool.{Bool, true, false}
 use mathlib.Core.List.{List, [], ◌∷◌, ◌++◌}
-use Rattle.lists.specs.declared.Comes.{Comes}
-use Rattle.lists.specs.declared.Comes.TheVariants.{Before, Same, After}
+use Rattle.std.specs.declared.cmp.Ordering.{Ordering}
+use Rattle.std.specs.declared.cmp.Ordering.TheVariants.{Less, Equal, Greater}
 use Rattle.lists.specs.Groups.{add_all_by}
 use Rattle.lists.specs.Sides.{side_by}
 use Rattle.list_group_merges.specs.MergingBackwards.{by_side, BackWalk, walked, walked_in}
@@ -16,20 +16,20 @@ use Rattle.list_group_merges.proofs.AddingLast.{Below, last_old, last_new, last_
 
 -- ---- one step
 -- from i records of the first list and j of the second, where the last of both is the second's, the first's, or in both
-pub data Goes : ℕ → ℕ → Comes → ℕ → ℕ → Type 0 where
-  new : {i q : ℕ} → Goes i (suc q) Before i q
-  both : {p q : ℕ} → Goes (suc p) (suc q) Same p q
-  old : {p q : ℕ} → Goes (suc p) (suc q) After p (suc q)
+pub data Goes : ℕ → ℕ → Ordering → ℕ → ℕ → Type 0 where
+  new : {i q : ℕ} → Goes i (suc q) Less i q
+  both : {p q : ℕ} → Goes (suc p) (suc q) Equal p q
+  old : {p q : ℕ} → Goes (suc p) (suc q) Greater p (suc q)
 
-abbrev pub step_by : {R : Type 0} → BackWalk R → Comes → ℕ → ℕ → R → R
+abbrev pub step_by : {R : Type 0} → BackWalk R → Ordering → ℕ → ℕ → R → R
 step_by v s p q r = by_side s (v.new q r) (v.both p q r) (v.old p r)
 
-pub walk_end : {R : Type 0} (side : ℕ → ℕ → Comes) (v : BackWalk R) (i : ℕ) → walked side v i 0 ≡ v.ends i
+pub walk_end : {R : Type 0} (side : ℕ → ℕ → Ordering) (v : BackWalk R) (i : ℕ) → walked side v i 0 ≡ v.ends i
 unfolding walked walked_in
 walk_end side v zero = refl
 walk_end side v (suc i) = refl
 
-pub walk_goes : {R : Type 0} (side : ℕ → ℕ → Comes) (v : BackWalk R) {i j : ℕ} {s : Comes} {p q : ℕ} → side i j ≡ s → Goes i j s p q
+pub walk_goes : {R : Type 0} (side : ℕ → ℕ → Ordering) (v : BackWalk R) {i j : ℕ} {s : Ordering} {p q : ℕ} → side i j ≡ s → Goes i j s p q
     → walked side v i j ≡ step_by v s p q (walked side v p q)
 unfolding walked walked_in
 walk_goes side v e (new {i = zero}) = refl
@@ -38,7 +38,7 @@ walk_goes side v e both = rw e
 walk_goes side v e old = rw e
 
 -- ---- what a map keeps, up to n records of the first list and m of the second
-pub walk_map : {R S : Type 0} (side : ℕ → ℕ → Comes) (v : BackWalk R) (u : BackWalk S) (f : R → S) (n m : ℕ)
+pub walk_map : {R S : Type 0} (side : ℕ → ℕ → Ordering) (v : BackWalk R) (u : BackWalk S) (f : R → S) (n m : ℕ)
     → ((i : ℕ) → i ≤ n → f (v.ends i) ≡ u.ends i)
     → ((q : ℕ) → q < m → (r : R) → f (v.new q r) ≡ u.new q (f r))
     → ((p : ℕ) → p < n → (r : R) → f (v.old p r) ≡ u.old p (f r))
@@ -54,13 +54,13 @@ walk_map side v u f n m he hn ho hb (suc p) (suc q) a b =
     (walk_map side v u f n m he hn ho hb p (suc q) (omega arith) b)
     (walk_map side v u f n m he hn ho hb p q (omega arith) (omega arith))
   where
-    go : (s : Comes) → f (walked side v (suc p) q) ≡ walked side u (suc p) q
+    go : (s : Ordering) → f (walked side v (suc p) q) ≡ walked side u (suc p) q
         → f (walked side v p (suc q)) ≡ walked side u p (suc q) → f (walked side v p q) ≡ walked side u p q
         → f (by_side s (v.new q (walked side v (suc p) q)) (v.both p q (walked side v p q)) (v.old p (walked side v p (suc q))))
         ≡ by_side s (u.new q (walked side u (suc p) q)) (u.both p q (walked side u p q)) (u.old p (walked side u p (suc q)))
-    go Before x y z = hn q (omega arith) (walked side v (suc p) q) ∙ ap (u.new q) x
-    go Same x y z = hb p q (omega arith) (omega arith) (walked side v p q) ∙ ap (u.both p q) z
-    go After x y z = ho p (omega arith) (walked side v p (suc q)) ∙ ap (u.old p) y
+    go Less x y z = hn q (omega arith) (walked side v (suc p) q) ∙ ap (u.new q) x
+    go Equal x y z = hb p q (omega arith) (omega arith) (walked side v p q) ∙ ap (u.both p q) z
+    go Greater x y z = ho p (omega arith) (walked side v p (suc q)) ∙ ap (u.old p) y
 
 -- ---- over lists
 -- the first n records
@@ -85,7 +85,7 @@ module _ {A : Type 0} (Alike : A → Type 0) (before : A → A → Bool) (join :
     (left : (a b c : A) → before (join a b) c ≡ before a c)
     (f h : ℕ → A) (n m : ℕ) (af : (p : ℕ) → p < n → Alike (f p)) (ah : (q : ℕ) → q < m → Alike (h q))
     (bf : (p : ℕ) → p < n → Below before (f p) (first f p)) (bh : (q : ℕ) → q < m → Below before (h q) (first h q))
-    (side : ℕ → ℕ → Comes) (agree : (p q : ℕ) → p < n → q < m → side (suc p) (suc q) ≡ side_by before (f p) (h q)) where
+    (side : ℕ → ℕ → Ordering) (agree : (p q : ℕ) → p < n → q < m → side (suc p) (suc q) ≡ side_by before (f p) (h q)) where
   -- what comes before x comes before y as well
   below_trans : (x y : A) (l : List A) → before x y ≡ true → Below before x l → Below before y l
   below_trans x y l e b = each_weaken (λ z p. trans z x y p e) l b
@@ -122,17 +122,17 @@ module _ {A : Type 0} (Alike : A → Type 0) (before : A → A → Bool) (join :
           → walked side (list_walk join f h) p q ≡ add_all_by before join (first f p) (first h q)
           → walked side (list_walk join f h) (suc p) (suc q) ≡ add_all_by before join (first f (suc p)) (first h (suc q))
       go true s t r x y z =
-          let k : side (suc p) (suc q) ≡ Before = agrees ∙ rw s in
+          let k : side (suc p) (suc q) ≡ Less = agrees ∙ rw s in
           rw k (ap (λ l. l ++ (h q ∷ [])) x
           ∙ sym (last_new before join asym left (h q) (first h q) (first f (suc p))
           (below_last (h q) (f p) (first f p) (below_trans (f p) (h q) (first f p) s lf) s) lh))
       go false s true r x y z =
-          let k : side (suc p) (suc q) ≡ After = agrees ∙ rw (s, r) in
+          let k : side (suc p) (suc q) ≡ Greater = agrees ∙ rw (s, r) in
           rw k (ap (λ l. l ++ (f p ∷ [])) y
           ∙ sym (last_old before join asym left (f p) (first h (suc q)) (first f p)
           (below_last (f p) (h q) (first h q) (below_trans (h q) (f p) (first h q) r lh) r)))
       go false s false r x y z =
-          let k : side (suc p) (suc q) ≡ Same = agrees ∙ rw (s, r) in
+          let k : side (suc p) (suc q) ≡ Equal = agrees ∙ rw (s, r) in
           rw k (ap (λ l. l ++ (join (f p) (h q) ∷ [])) z
           ∙ sym (last_both before join asym left (f p) (h q) (first h q) (first f p)
           (below_same (h q) (f p) (first h q) (ah q (omega arith)) (af p (omega arith)) s lh)

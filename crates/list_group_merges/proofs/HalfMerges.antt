@@ -8,10 +8,9 @@ use mathlib.Core.Bool.{Bool, true, false, cond}
 use mathlib.Core.List.{List, ◌++◌, append_assoc}
 use lib.ListN.{length, take, drop, length-append, length-drop, take-append-drop}
 use lib.Seq.{take-append-le, take-take, drop_at, length-take-le}
-use Rattle.lists.specs.declared.Comes.{Comes}
-use Rattle.lists.specs.declared.Comes.TheVariants.{Before, Same, After}
-use Rattle.list_group_merges.specs.declared.Union.{Union}
-use Rattle.list_group_merges.specs.declared.Union.TheVariants.{Records, Overflows}
+use Rattle.std.specs.declared.cmp.Ordering.{Ordering}
+use Rattle.std.specs.declared.cmp.Ordering.TheVariants.{Less, Equal, Greater}
+use Rattle.std.specs.Prelude.{Option, Some, None}
 use Rattle.lists.specs.Groups.{totals_width}
 use Rattle.list_group_merges.specs.MergingBackwards.{by_side, walked, walked_in, record_at, pick_at, sides, join_fits, more_by}
 use Rattle.list_group_merges.specs.MergingBackwards.{count_walk, word_walk, merged_records, union_of}
@@ -22,23 +21,23 @@ use Rattle.list_group_merges.proofs.Unions.{whole_words}
 use Rattle.list_group_merges.proofs.LastRecords.{pick_kept, last_wide, last_kept, last_merged, part_kept}
 
 -- ---- the count of a list that fits
-more_records : (u : Union) (k : ℕ) → more_by 1 u ≡ Records k → (u ≡ Records (k - 1)) × (0 < k)
-more_records (Records n) k e = let h : n + 1 ≡ k = cc in (ap Records (omega arith), omega arith)
-more_records Overflows k e = let z : ◌≡◌ {A = ℕ} 0 1 = cc in absurd (omega arith)
+more_records : (u : Option ℕ) (k : ℕ) → more_by 1 u ≡ Some k → (u ≡ Some (k - 1)) × (0 < k)
+more_records (Some n) k e = let h : n + 1 ≡ k = cc in (ap Some (omega arith), omega arith)
+more_records None k e = let z : ◌≡◌ {A = ℕ} 0 1 = cc in absurd (omega arith)
 
-cond_records : (t : Bool) (u : Union) (k : ℕ) → cond t u Overflows ≡ Records k → (t ≡ true) × (u ≡ Records k)
+cond_records : (t : Bool) (u : Option ℕ) (k : ℕ) → cond t u None ≡ Some k → (t ≡ true) × (u ≡ Some k)
 cond_records true u k e = (refl, e)
 cond_records false u k e = let z : ◌≡◌ {A = ℕ} 0 1 = cc in absurd (omega arith)
 
 -- one record less, and the totals of two that are joined fit
-step_records : (s : Comes) (t : Bool) (u : Union) (k : ℕ) → by_side s (more_by 1 u) (cond t (more_by 1 u) Overflows) (more_by 1 u) ≡ Records k
-    → (u ≡ Records (k - 1)) × (0 < k) × (s ≡ Same → t ≡ true)
-step_records Before t u k e = let r = more_records u k e in (r.0, r.1, λ p. let z : ◌≡◌ {A = ℕ} 0 1 = cc in absurd (omega arith))
-step_records Same t u k e = let c = cond_records t (more_by 1 u) k e in let r = more_records u k c.1 in (r.0, r.1, λ p. c.0)
-step_records After t u k e = let r = more_records u k e in (r.0, r.1, λ p. let z : ◌≡◌ {A = ℕ} 0 1 = cc in absurd (omega arith))
+step_records : (s : Ordering) (t : Bool) (u : Option ℕ) (k : ℕ) → by_side s (more_by 1 u) (cond t (more_by 1 u) None) (more_by 1 u) ≡ Some k
+    → (u ≡ Some (k - 1)) × (0 < k) × (s ≡ Equal → t ≡ true)
+step_records Less t u k e = let r = more_records u k e in (r.0, r.1, λ p. let z : ◌≡◌ {A = ℕ} 0 1 = cc in absurd (omega arith))
+step_records Equal t u k e = let c = cond_records t (more_by 1 u) k e in let r = more_records u k c.1 in (r.0, r.1, λ p. c.0)
+step_records Greater t u k e = let r = more_records u k e in (r.0, r.1, λ p. let z : ◌≡◌ {A = ℕ} 0 1 = cc in absurd (omega arith))
 
 -- the merged list has room for each of both
-enough : (g : ℕ) (a b : List ℕ) (i j k : ℕ) → union_of g a b i j ≡ Records k → (i ≤ k) × (j ≤ k)
+enough : (g : ℕ) (a b : List ℕ) (i j k : ℕ) → union_of g a b i j ≡ Some k → (i ≤ k) × (j ≤ k)
 unfolding union_of walked walked_in
 enough g a b i zero k e =
     let h : i ≡ k = (let r = sym (walk_end (sides g a b) (count_walk g a b) i) ∙ e in let z : i ≡ k = cc in z) in
@@ -50,20 +49,20 @@ enough g a b zero (suc j) k e =
 enough g a b (suc i) (suc j) k e = go (sides g a b (suc i) (suc j)) refl (λ n. enough g a b (suc i) j n) (λ n. enough g a b i (suc j) n)
     (λ n. enough g a b i j n)
   where
-    go : (s : Comes) → sides g a b (suc i) (suc j) ≡ s
-        → ((n : ℕ) → union_of g a b (suc i) j ≡ Records n → (suc i ≤ n) × (j ≤ n))
-        → ((n : ℕ) → union_of g a b i (suc j) ≡ Records n → (i ≤ n) × (suc j ≤ n))
-        → ((n : ℕ) → union_of g a b i j ≡ Records n → (i ≤ n) × (j ≤ n))
+    go : (s : Ordering) → sides g a b (suc i) (suc j) ≡ s
+        → ((n : ℕ) → union_of g a b (suc i) j ≡ Some n → (suc i ≤ n) × (j ≤ n))
+        → ((n : ℕ) → union_of g a b i (suc j) ≡ Some n → (i ≤ n) × (suc j ≤ n))
+        → ((n : ℕ) → union_of g a b i j ≡ Some n → (i ≤ n) × (j ≤ n))
         → (suc i ≤ k) × (suc j ≤ k)
-    go Before s p q r =
+    go Less s p q r =
         let m = more_records (union_of g a b (suc i) j) k (sym (rw s) ∙ e) in
         let z = p (k - 1) m.0 in
         (omega arith, omega arith)
-    go After s p q r =
+    go Greater s p q r =
         let m = more_records (union_of g a b i (suc j)) k (sym (rw s) ∙ e) in
         let z = q (k - 1) m.0 in
         (omega arith, omega arith)
-    go Same s p q r =
+    go Equal s p q r =
         let t = cond_records (join_fits g (record_at g a (i * (g + totals_width))) (record_at g b (j * (g + totals_width)))) (more_by 1 (union_of g a b i j))
         k (sym (rw s) ∙ e) in
         let m = more_records (union_of g a b i j) k t.1 in
@@ -93,13 +92,13 @@ pub record HalfMerged (g : ℕ) (a b whole buf : List ℕ) (x y to : ℕ) : Type
   pub y_in : y ≤ length b
   pub to_in : to ≤ length a
   pub size : length buf ≡ length a
-  pub union : union_of g a b i j ≡ Records k
+  pub union : union_of g a b i j ≡ Some k
   pub kept : take x buf ≡ take x a
   pub done : whole ≡ merged_records g a b i j ++ drop to buf
 
 pub half_start : (g : ℕ) (a b : List ℕ) (used words : ℕ) → used % (g + totals_width) ≡ 0 → length b % (g + totals_width) ≡ 0
     → words % (g + totals_width) ≡ 0 → words ≤ length a
-    → union_of g a b (used / (g + totals_width)) (length b / (g + totals_width)) ≡ Records (words / (g + totals_width))
+    → union_of g a b (used / (g + totals_width)) (length b / (g + totals_width)) ≡ Some (words / (g + totals_width))
     → HalfMerged g a b (merged_records g a b (used / (g + totals_width)) (length b / (g + totals_width)) ++ drop words a) a used (length b) words
 half_start g a b used words hu hb hw l e =
     record {
@@ -147,7 +146,7 @@ module _ {g : ℕ} {a b whole buf : List ℕ} {x y to : ℕ} (h : HalfMerged g a
       go zero p = refl
       go (suc j) p = absurd (let s = suc-mul j (g + totals_width) in omega arith)
 
-  module _ (l : 0 < y) (s : Comes) (e : pick_at g buf x b y ≡ s) where
+  module _ (l : 0 < y) (s : Ordering) (e : pick_at g buf x b y ≡ s) where
     picked : pick_at g a x b y ≡ s
     picked = sym (pick_kept g buf a b h.i x y h.x_is h.kept) ∙ e
 
@@ -157,7 +156,7 @@ module _ {g : ℕ} {a b whole buf : List ℕ} {x y to : ℕ} (h : HalfMerged g a
     abbrev fit : Bool
     fit = join_fits g (record_at g a (step.p * (g + totals_width))) (record_at g b (step.q * (g + totals_width)))
 
-    counted : (union_of g a b step.p step.q ≡ Records (h.k - 1)) × (0 < h.k) × (s ≡ Same → fit ≡ true)
+    counted : (union_of g a b step.p step.q ≡ Some (h.k - 1)) × (0 < h.k) × (s ≡ Equal → fit ≡ true)
     unfolding union_of
     counted =
         step_records s fit (union_of g a b step.p step.q) h.k
@@ -166,7 +165,7 @@ module _ {g : ℕ} {a b whole buf : List ℕ} {x y to : ℕ} (h : HalfMerged g a
     pub half_new : g + totals_width ≤ y
     half_new = step.y_there
 
-    pub half_old : (s ≡ Before → ⊥) → g + totals_width ≤ x
+    pub half_old : (s ≡ Less → ⊥) → g + totals_width ≤ x
     half_old = step.x_there
 
     -- the place of the last record
@@ -199,18 +198,18 @@ module _ {g : ℕ} {a b whole buf : List ℕ} {x y to : ℕ} (h : HalfMerged g a
     left_less : old_left g s x ≤ x
     left_less = go s
       where
-        go : (s : Comes) → old_left g s x ≤ x
-        go Before = omega arith
-        go Same = omega arith
-        go After = omega arith
+        go : (s : Ordering) → old_left g s x ≤ x
+        go Less = omega arith
+        go Equal = omega arith
+        go Greater = omega arith
 
     new_less : new_left g s y ≤ y
     new_less = go s
       where
-        go : (s : Comes) → new_left g s y ≤ y
-        go Before = omega arith
-        go Same = omega arith
-        go After = omega arith
+        go : (s : Ordering) → new_left g s y ≤ y
+        go Less = omega arith
+        go Equal = omega arith
+        go Greater = omega arith
 
     pub half_puts : CanPut g buf x b y (to - (g + totals_width)) s
     half_puts =

@@ -9,8 +9,8 @@ use mathlib.Core.List.{List, [], ◌∷◌, ◌++◌}
 use lib.Dec.{eqb}
 use lib.ListN.{length, take, drop, length-append, length-drop}
 use lib.Seq.{take-take, length-take-le}
-use Rattle.lists.specs.declared.Comes.{Comes}
-use Rattle.lists.specs.declared.Comes.TheVariants.{Before, Same, After}
+use Rattle.std.specs.declared.cmp.Ordering.{Ordering}
+use Rattle.std.specs.declared.cmp.Ordering.TheVariants.{Less, Equal, Greater}
 use Rattle.lists.specs.Groups.{totals_width}
 use Rattle.list_group_totals.specs.GroupTotals.{totals_in, totals_words, totals_both}
 use Rattle.list_groups.specs.Keys.{keys_first}
@@ -36,7 +36,7 @@ unfolding pick_at
 pick_kept g p q b zero x y e k = pick_none g p x b y (omega arith) ∙ sym (pick_none g q x b y (omega arith))
 pick_kept g p q b (suc i) x y e k =
     let s = suc-mul i (g + totals_width) in
-    ap (λ r. cond (eqb x 0) Before (side_by keys_first r (take g (drop (y - (g + totals_width)) b))))
+    ap (λ r. cond (eqb x 0) Less (side_by keys_first r (take g (drop (y - (g + totals_width)) b))))
     (part_kept p q x (x - (g + totals_width)) g k (omega arith))
 
 -- ---- records
@@ -51,34 +51,34 @@ join_wide g r s e =
     ∙ ap (λ n. n + totals_width) (length-take-le g r (omega arith))
 
 module _ (g : ℕ) (a b : List ℕ) (x y : ℕ) where
-  pub last_wide : (s : Comes) → g + totals_width ≤ y → y ≤ length b → ((s ≡ Before → ⊥) → g + totals_width ≤ x) → x ≤ length a
+  pub last_wide : (s : Ordering) → g + totals_width ≤ y → y ≤ length b → ((s ≡ Less → ⊥) → g + totals_width ≤ x) → x ≤ length a
       → length (last_record g a x b y s) ≡ g + totals_width
-  last_wide Before hy ly hx lx = record_wide g b y hy ly
-  last_wide Same hy ly hx lx =
+  last_wide Less hy ly hx lx = record_wide g b y hy ly
+  last_wide Equal hy ly hx lx =
       join_wide g (record_at g a (x - (g + totals_width))) (record_at g b (y - (g + totals_width)))
       (record_wide g a x (hx (λ e. let z : ◌≡◌ {A = ℕ} 0 1 = cc in omega arith)) lx)
-  last_wide After hy ly hx lx = record_wide g a x (hx (λ e. let z : ◌≡◌ {A = ℕ} 0 1 = cc in omega arith)) lx
+  last_wide Greater hy ly hx lx = record_wide g a x (hx (λ e. let z : ◌≡◌ {A = ℕ} 0 1 = cc in omega arith)) lx
 
-  pub last_kept : (p : List ℕ) (s : Comes) → ((s ≡ Before → ⊥) → g + totals_width ≤ x) → take x p ≡ take x a
+  pub last_kept : (p : List ℕ) (s : Ordering) → ((s ≡ Less → ⊥) → g + totals_width ≤ x) → take x p ≡ take x a
       → last_record g p x b y s ≡ last_record g a x b y s
-  last_kept p Before h e = refl
-  last_kept p Same h e =
+  last_kept p Less h e = refl
+  last_kept p Equal h e =
       let l = h (λ e. let z : ◌≡◌ {A = ℕ} 0 1 = cc in omega arith) in
       ap (λ r. join_words g r (record_at g b (y - (g + totals_width)))) (part_kept p a x (x - (g + totals_width)) (g + totals_width) e (omega arith))
-  last_kept p After h e =
+  last_kept p Greater h e =
       let l = h (λ e. let z : ◌≡◌ {A = ℕ} 0 1 = cc in omega arith) in
       part_kept p a x (x - (g + totals_width)) (g + totals_width) e (omega arith)
 
   -- the merged list ends with it
-  pub last_merged : (i j : ℕ) → x ≡ i * (g + totals_width) → y ≡ j * (g + totals_width) → (s : Comes) → pick_at g a x b y ≡ s
+  pub last_merged : (i j : ℕ) → x ≡ i * (g + totals_width) → y ≡ j * (g + totals_width) → (s : Ordering) → pick_at g a x b y ≡ s
       → (t : WalkStepped g x y i j s) → merged_records g a b i j ≡ merged_records g a b t.p t.q ++ last_record g a x b y s
   unfolding merged_records
-  last_merged i j hx hy Before e t =
-      walk_steps g a b x y (word_walk g a b) i j hx hy Before e t
+  last_merged i j hx hy Less e t =
+      walk_steps g a b x y (word_walk g a b) i j hx hy Less e t
       ∙ ap (λ l. merged_records g a b t.p t.q ++ record_at g b l) (sym t.y_left)
-  last_merged i j hx hy Same e t =
-      walk_steps g a b x y (word_walk g a b) i j hx hy Same e t
+  last_merged i j hx hy Equal e t =
+      walk_steps g a b x y (word_walk g a b) i j hx hy Equal e t
       ∙ ap₂ (λ k l. merged_records g a b t.p t.q ++ join_words g (record_at g a k) (record_at g b l)) (sym t.x_left) (sym t.y_left)
-  last_merged i j hx hy After e t =
-      walk_steps g a b x y (word_walk g a b) i j hx hy After e t
+  last_merged i j hx hy Greater e t =
+      walk_steps g a b x y (word_walk g a b) i j hx hy Greater e t
       ∙ ap (λ l. merged_records g a b t.p t.q ++ record_at g a l) (sym t.x_left)

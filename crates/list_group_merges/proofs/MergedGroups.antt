@@ -11,8 +11,8 @@ use borrow.Author.Tests.{le-leb, lt-leb}
 use mir.Val.{Fits}
 use mir.Syntax.{w32}
 use Rattle.plans.specs.Endings.{group}
-use Rattle.list_group_merges.specs.declared.Union.TheVariants.{Records, Overflows}
-use Rattle.list_group_merges.specs.declared.Merged.TheVariants as answers
+use Rattle.std.specs.Prelude.{Some, None, Ok, Err}
+use Rattle.list_group_merges.specs.declared.MergeFault.TheVariants.{Overflow, NoRoom}
 use Rattle.lists.specs.Groups.{totals_width}
 use Rattle.lists.specs.Gathering.{list_right, merged, totals_fit}
 use Rattle.list_group_merges.specs.MergingBackwards.{merged_records, union_of}
@@ -60,26 +60,26 @@ module _ (g : ℕ) (kept : List ℕ) (used : ℕ) (list : List ℕ) (u : used �
     abbrev fit : Bool
     fit = totals_fit (group vs m) (take used kept) list
 
-    union_of_lem : (n : ℕ) → union_of g kept list (used / (g + totals_width)) (length list / (g + totals_width)) ≡ Records n
+    union_of_lem : (n : ℕ) → union_of g kept list (used / (g + totals_width)) (length list / (g + totals_width)) ≡ Some n
         → (fit ≡ true) × (length result ≡ n * (g + totals_width))
     union_of_lem n h =
         let r = right vs m e in
         let p = union_fits vs m kept used list u words_kept words_list r.0 r.1 n
-        (subst (λ k. union_of k kept list (used / (k + totals_width)) (length list / (k + totals_width)) ≡ Records n) (sym e) h) in
+        (subst (λ k. union_of k kept list (used / (k + totals_width)) (length list / (k + totals_width)) ≡ Some n) (sym e) h) in
         (p.0, p.1 ∙ ap (λ k. n * (k + totals_width)) e)
 
     -- 13
-    pub merge_over : union_of g kept list (used / (g + totals_width)) (length list / (g + totals_width)) ≡ Overflows
-        → (answers.Overflow ≡ groups_merged_as fit result kept) × (kept ≡ merged_over fit result kept)
+    pub merge_over : union_of g kept list (used / (g + totals_width)) (length list / (g + totals_width)) ≡ None
+        → (Err Overflow ≡ groups_merged_as fit result kept) × (kept ≡ merged_over fit result kept)
     merge_over h =
         let r = right vs m e in
         let p = union_over vs m kept used list u words_kept words_list r.0 r.1
-        (subst (λ k. union_of k kept list (used / (k + totals_width)) (length list / (k + totals_width)) ≡ Overflows) (sym e) h) in
+        (subst (λ k. union_of k kept list (used / (k + totals_width)) (length list / (k + totals_width)) ≡ None) (sym e) h) in
         (rw p, rw p)
 
-    module _ (n : ℕ) (h : union_of g kept list (used / (g + totals_width)) (length list / (g + totals_width)) ≡ Records n) where
+    module _ (n : ℕ) (h : union_of g kept list (used / (g + totals_width)) (length list / (g + totals_width)) ≡ Some n) where
       -- 14
-      pub merge_small : length kept / (g + totals_width) < n → (answers.NoRoom ≡ groups_merged_as fit result kept) × (kept ≡ merged_over fit result kept)
+      pub merge_small : length kept / (g + totals_width) < n → (Err NoRoom ≡ groups_merged_as fit result kept) × (kept ≡ merged_over fit result kept)
       merge_small l =
           let p = union_of_lem n h in
           let s = no_room_for (length kept) (g + totals_width) n (omega arith) l in
@@ -88,7 +88,7 @@ module _ (g : ℕ) (kept : List ℕ) (used : ℕ) (list : List ℕ) (u : used �
 
       pub merge_words : n ≤ length kept / (g + totals_width) → (after : List ℕ)
           → after ≡ merged_records g kept list (used / (g + totals_width)) (length list / (g + totals_width)) ++ drop (n * (g + totals_width)) kept
-          → (answers.Words (n * (g + totals_width)) ≡ groups_merged_as fit result kept) × (after ≡ merged_over fit result kept)
+          → (Ok (n * (g + totals_width)) ≡ groups_merged_as fit result kept) × (after ≡ merged_over fit result kept)
       merge_words l after a =
           let p = union_of_lem n h in
           let r = right vs m e in

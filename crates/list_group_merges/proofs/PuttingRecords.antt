@@ -9,8 +9,8 @@ use lib.Dec.{ltb}
 use lib.IntN.{◌+ℤ◌}
 use lib.ListN.{length, take, drop, length-drop, take-append-drop}
 use lib.Seq.{take_all, take-length, drop-drop, length-take-le, paste}
-use Rattle.lists.specs.declared.Comes.{Comes}
-use Rattle.lists.specs.declared.Comes.TheVariants.{Before, Same, After}
+use Rattle.std.specs.declared.cmp.Ordering.{Ordering}
+use Rattle.std.specs.declared.cmp.Ordering.TheVariants.{Less, Equal, Greater}
 use Rattle.list_group_totals.specs.declared.Totals.{Totals}
 use Rattle.lists.specs.Groups.{totals_width}
 use Rattle.lists.specs.Sums.{long_values, sum_fits, sum_in}
@@ -119,7 +119,7 @@ module _ (g : ℕ) (a : List ℕ) (from to : ℕ) (more : List ℕ) (h : from �
       ∙ append-nil (take to a ++ ((take g r ++ W) ++ rest))
 
 -- ---- the last record of both lists, by the side
-module _ (g : ℕ) (a : List ℕ) (x : ℕ) (b : List ℕ) (y to : ℕ) (s : Comes) (l : CanPut g a x b y to s) where
+module _ (g : ℕ) (a : List ℕ) (x : ℕ) (b : List ℕ) (y to : ℕ) (s : Ordering) (l : CanPut g a x b y to s) where
   abbrev w : ℕ
   w = g + totals_width
 
@@ -134,7 +134,7 @@ module _ (g : ℕ) (a : List ℕ) (x : ℕ) (b : List ℕ) (y to : ℕ) (s : Com
       let d = length-drop (y - w) b in
       ap length new_part ∙ length-take-le w (drop (y - w) b) (omega arith)
 
-  pub new_put : s ≡ Before → (after : List ℕ)
+  pub new_put : s ≡ Less → (after : List ℕ)
       → after ≡ paste a to (take (y - (y - w)) (drop (y - w) b)) (length (take (y - (y - w)) (drop (y - w) b)))
       → after ≡ take to a ++ (last_record g a x b y s ++ drop (to + w) a)
   new_put e after p =
@@ -145,11 +145,11 @@ module _ (g : ℕ) (a : List ℕ) (x : ℕ) (b : List ℕ) (y to : ℕ) (s : Com
       ∙ ap₂ (λ q n. take to a ++ (q ++ drop (to + n) a)) new_part new_size
       ∙ ap (λ z. take to a ++ (last_record g a x b y z ++ drop (to + w) a)) (sym e)
 
-  pub old_put : s ≡ After → (after : List ℕ) → after ≡ take to a ++ (take w (drop (x - w) a) ++ drop (to + w) a)
+  pub old_put : s ≡ Greater → (after : List ℕ) → after ≡ take to a ++ (take w (drop (x - w) a) ++ drop (to + w) a)
       → after ≡ take to a ++ (last_record g a x b y s ++ drop (to + w) a)
   old_put e after p = p ∙ ap (λ z. take to a ++ (last_record g a x b y z ++ drop (to + w) a)) (sym e)
 
-  pub joined_put : s ≡ Same → (after : List ℕ)
+  pub joined_put : s ≡ Equal → (after : List ℕ)
       → after ≡ take to a ++ (join_words g (record_at g a (x - w)) (take (y - (y - w)) (drop (y - w) b)) ++ drop (to + w) a)
       → after ≡ take to a ++ (last_record g a x b y s ++ drop (to + w) a)
   joined_put e after p =
@@ -157,20 +157,20 @@ module _ (g : ℕ) (a : List ℕ) (x : ℕ) (b : List ℕ) (y to : ℕ) (s : Com
       ∙ ap (λ q. take to a ++ (join_words g (record_at g a (x - w)) q ++ drop (to + w) a)) new_part
       ∙ ap (λ z. take to a ++ (last_record g a x b y z ++ drop (to + w) a)) (sym e)
 
-  pub joined_fits : s ≡ Same → join_fits g (record_at g a (x - w)) (take (y - (y - w)) (drop (y - w) b)) ≡ true
+  pub joined_fits : s ≡ Equal → join_fits g (record_at g a (x - w)) (take (y - (y - w)) (drop (y - w) b)) ≡ true
   joined_fits e = ap (join_fits g (record_at g a (x - w))) new_part ∙ l.fits e
 
   -- where the kept record is
-  pub same_old : s ≡ Same → (w ≤ x) × (x - w ≤ to)
+  pub same_old : s ≡ Equal → (w ≤ x) × (x - w ≤ to)
   same_old e =
-      let n : s ≡ Before → ⊥ = λ q. (let z : ◌≡◌ {A = ℕ} 0 1 = cc in omega arith) in
+      let n : s ≡ Less → ⊥ = λ q. (let z : ◌≡◌ {A = ℕ} 0 1 = cc in omega arith) in
       let p = l.old_there n in
       let q = l.old_below n in
       (p, omega arith)
 
-  pub after_old : s ≡ After → (w ≤ x) × (x - w ≤ to)
+  pub after_old : s ≡ Greater → (w ≤ x) × (x - w ≤ to)
   after_old e =
-      let n : s ≡ Before → ⊥ = λ q. (let z : ◌≡◌ {A = ℕ} 0 1 = cc in omega arith) in
+      let n : s ≡ Less → ⊥ = λ q. (let z : ◌≡◌ {A = ℕ} 0 1 = cc in omega arith) in
       let p = l.old_there n in
       let q = l.old_below n in
       (p, omega arith)

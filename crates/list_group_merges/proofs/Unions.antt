@@ -6,33 +6,32 @@ use mathlib.Core.Path.{◌≡◌, refl, sym, ◌∙◌, ap, ap₂}
 use mathlib.Core.Bool.{true, false, cond}
 use mathlib.Core.List.{List}
 use lib.ListN.{length}
-use Rattle.lists.specs.declared.Comes.{Comes}
-use Rattle.lists.specs.declared.Comes.TheVariants.{Before, Same, After}
-use Rattle.list_group_merges.specs.declared.Union.{Union}
-use Rattle.list_group_merges.specs.declared.Union.TheVariants.{Records, Overflows}
+use Rattle.std.specs.declared.cmp.Ordering.{Ordering}
+use Rattle.std.specs.declared.cmp.Ordering.TheVariants.{Less, Equal, Greater}
+use Rattle.std.specs.Prelude.{Option, Some, None}
 use Rattle.lists.specs.Groups.{totals_width}
 use Rattle.list_group_merges.specs.MergingBackwards.{walked, record_at, pick_at, sides, join_fits, more_by, count_walk, union_of}
 use Rattle.list_group_merges.proofs.BackWalks.{step_by, walk_end}
 use Rattle.list_group_merges.proofs.WalkSteps.{mul_small, old_left, new_left, WalkStepped, stepped, walk_steps}
 
-more_none : (u : Union) → u ≡ more_by 0 u
-more_none (Records n) = ap Records (omega arith)
-more_none Overflows = refl
+more_none : (u : Option ℕ) → u ≡ more_by 0 u
+more_none (Some n) = ap Some (omega arith)
+more_none None = refl
 
-more_more : (k : ℕ) (u : Union) → more_by k (more_by 1 u) ≡ more_by (k + 1) u
-more_more k (Records n) = ap Records (omega arith)
-more_more k Overflows = refl
+more_more : (k : ℕ) (u : Option ℕ) → more_by k (more_by 1 u) ≡ more_by (k + 1) u
+more_more k (Some n) = ap Some (omega arith)
+more_more k None = refl
 
 -- the words of whole records
 pub whole_words : (n w : ℕ) → n % w ≡ 0 → n ≡ n / w * w
 whole_words n w h = let d = div-add-mod' n w in omega arith
 
 -- the last records of i and j, where their totals fit if they are joined
-abbrev pub UnionFits : ℕ → List ℕ → ℕ → List ℕ → ℕ → Comes → Type 0
+abbrev pub UnionFits : ℕ → List ℕ → ℕ → List ℕ → ℕ → Ordering → Type 0
 UnionFits g a x b y s =
-    s ≡ Same → join_fits g (record_at g a (x - (g + totals_width))) (record_at g b (y - (g + totals_width))) ≡ true
+    s ≡ Equal → join_fits g (record_at g a (x - (g + totals_width))) (record_at g b (y - (g + totals_width))) ≡ true
 
-pub record UnionCounted (g : ℕ) (a b : List ℕ) (whole : Union) (most x y n : ℕ) : Type 0 where
+pub record UnionCounted (g : ℕ) (a b : List ℕ) (whole : Option ℕ) (most x y n : ℕ) : Type 0 where
   pub i : ℕ
   pub j : ℕ
   pub x_is : x ≡ i * (g + totals_width)
@@ -57,12 +56,12 @@ counted_start g a b used u h k =
       rest = more_none (union_of g a b (used / (g + totals_width)) (length b / (g + totals_width)));
     }
 
-module _ {g : ℕ} {a b : List ℕ} {whole : Union} {most x y n : ℕ} (c : UnionCounted g a b whole most x y n) where
+module _ {g : ℕ} {a b : List ℕ} {whole : Option ℕ} {most x y n : ℕ} (c : UnionCounted g a b whole most x y n) where
   -- the first kept record begins at word 0
   pub counted_first : x < g + totals_width → x ≡ 0
   counted_first h = mul_small c.i (g + totals_width) x c.x_is h
 
-  pub counted_end : y ≡ 0 → whole ≡ Records (n + x / (g + totals_width))
+  pub counted_end : y ≡ 0 → whole ≡ Some (n + x / (g + totals_width))
   unfolding union_of
   counted_end e =
       let none : c.j ≡ 0 = go c.j c.y_is in
@@ -70,20 +69,20 @@ module _ {g : ℕ} {a b : List ℕ} {whole : Union} {most x y n : ℕ} (c : Unio
       c.rest
       ∙ ap (λ j. more_by n (walked (sides g a b) (count_walk g a b) c.i j)) none
       ∙ ap (more_by n) (walk_end (sides g a b) (count_walk g a b) c.i)
-      ∙ ap Records (omega arith)
+      ∙ ap Some (omega arith)
     where
       go : (j : ℕ) → y ≡ j * (g + totals_width) → j ≡ 0
       go zero h = refl
       go (suc j) h = absurd (let s = suc-mul j (g + totals_width) in omega arith)
 
-  module _ (h : 0 < y) (s : Comes) (e : pick_at g a x b y ≡ s) where
+  module _ (h : 0 < y) (s : Ordering) (e : pick_at g a x b y ≡ s) where
     step : WalkStepped g x y c.i c.j s
     step = stepped g a b x y c.i c.j c.x_is c.y_is h s e
 
     pub counted_new : g + totals_width ≤ y
     counted_new = step.y_there
 
-    pub counted_old : (s ≡ Before → ⊥) → g + totals_width ≤ x
+    pub counted_old : (s ≡ Less → ⊥) → g + totals_width ≤ x
     counted_old = step.x_there
 
     steps : whole ≡ more_by n (step_by (count_walk g a b) s step.p step.q (union_of g a b step.p step.q))
@@ -91,10 +90,10 @@ module _ {g : ℕ} {a b : List ℕ} {whole : Union} {most x y n : ℕ} (c : Unio
     steps = c.rest ∙ ap (more_by n) (walk_steps g a b x y (count_walk g a b) c.i c.j c.x_is c.y_is s e step)
 
   -- one record more
-  pub counted_next : (h : 0 < y) (s : Comes) → pick_at g a x b y ≡ s → UnionFits g a x b y s
+  pub counted_next : (h : 0 < y) (s : Ordering) → pick_at g a x b y ≡ s → UnionFits g a x b y s
       → UnionCounted g a b whole most (old_left g s x) (new_left g s y) (n + 1)
-  counted_next h Before e f =
-      let t = step h Before e in
+  counted_next h Less e f =
+      let t = step h Less e in
       let m = c.small in
       let k = t.y_there in
       let l = c.y_in in
@@ -106,10 +105,10 @@ module _ {g : ℕ} {a b : List ℕ} {whole : Union} {most x y n : ℕ} (c : Unio
         x_in = c.x_in;
         y_in = omega arith;
         small = omega arith;
-        rest = steps h Before e ∙ more_more n (union_of g a b t.p t.q);
+        rest = steps h Less e ∙ more_more n (union_of g a b t.p t.q);
       }
-  counted_next h After e f =
-      let t = step h After e in
+  counted_next h Greater e f =
+      let t = step h Greater e in
       let m = c.small in
       let k = t.x_there (λ z. let d : ◌≡◌ {A = ℕ} 0 1 = cc in omega arith) in
       let l = c.x_in in
@@ -121,10 +120,10 @@ module _ {g : ℕ} {a b : List ℕ} {whole : Union} {most x y n : ℕ} (c : Unio
         x_in = omega arith;
         y_in = c.y_in;
         small = omega arith;
-        rest = steps h After e ∙ more_more n (union_of g a b t.p t.q);
+        rest = steps h Greater e ∙ more_more n (union_of g a b t.p t.q);
       }
-  counted_next h Same e f =
-      let t = step h Same e in
+  counted_next h Equal e f =
+      let t = step h Equal e in
       let m = c.small in
       let k = t.x_there (λ z. let d : ◌≡◌ {A = ℕ} 0 1 = cc in omega arith) in
       let k' = t.y_there in
@@ -141,15 +140,15 @@ module _ {g : ℕ} {a b : List ℕ} {whole : Union} {most x y n : ℕ} (c : Unio
         x_in = omega arith;
         y_in = omega arith;
         small = omega arith;
-        rest = steps h Same e ∙ ap (λ z. more_by n (cond z (more_by 1 u) Overflows)) fit ∙ more_more n u;
+        rest = steps h Equal e ∙ ap (λ z. more_by n (cond z (more_by 1 u) None)) fit ∙ more_more n u;
       }
 
   -- a total that does not fit
-  pub counted_over : (h : 0 < y) → pick_at g a x b y ≡ Same
-      → join_fits g (record_at g a (x - (g + totals_width))) (record_at g b (y - (g + totals_width))) ≡ false → whole ≡ Overflows
+  pub counted_over : (h : 0 < y) → pick_at g a x b y ≡ Equal
+      → join_fits g (record_at g a (x - (g + totals_width))) (record_at g b (y - (g + totals_width))) ≡ false → whole ≡ None
   counted_over h e f =
-      let t = step h Same e in
+      let t = step h Equal e in
       let u = union_of g a b t.p t.q in
       let over : join_fits g (record_at g a (t.p * (g + totals_width))) (record_at g b (t.q * (g + totals_width))) ≡ false =
       ap₂ (λ p q. join_fits g (record_at g a p) (record_at g b q)) (sym t.x_left) (sym t.y_left) ∙ f in
-      steps h Same e ∙ ap (λ z. more_by n (cond z (more_by 1 u) Overflows)) over
+      steps h Equal e ∙ ap (λ z. more_by n (cond z (more_by 1 u) None)) over

@@ -6,8 +6,8 @@ use mathlib.Core.Path.{◌≡◌, refl, sym, ◌∙◌, ap₂}
 use mathlib.Core.List.{List}
 use lib.ListN.{take, drop}
 use borrow.Author.Tests.{eq-eqb, ne_eqb}
-use Rattle.lists.specs.declared.Comes.{Comes}
-use Rattle.lists.specs.declared.Comes.TheVariants.{Before, Same, After}
+use Rattle.std.specs.declared.cmp.Ordering.{Ordering}
+use Rattle.std.specs.declared.cmp.Ordering.TheVariants.{Less, Equal, Greater}
 use Rattle.lists.specs.Groups.{totals_width}
 use Rattle.list_groups.specs.Keys.{keys_first}
 use Rattle.lists.specs.Sides.{side_by}
@@ -15,7 +15,7 @@ use Rattle.list_group_merges.specs.MergingBackwards.{by_side, BackWalk, walked, 
 use Rattle.list_group_merges.proofs.BackWalks.{Goes, new, both, old, step_by, walk_goes}
 
 -- ---- which record is the last
-pub pick_none : (g : ℕ) (a : List ℕ) (x : ℕ) (b : List ℕ) (y : ℕ) → x ≡ 0 → pick_at g a x b y ≡ Before
+pub pick_none : (g : ℕ) (a : List ℕ) (x : ℕ) (b : List ℕ) (y : ℕ) → x ≡ 0 → pick_at g a x b y ≡ Less
 unfolding pick_at
 pick_none g a x b y e = rw (eq-eqb x 0 e)
 
@@ -31,43 +31,43 @@ mul_small zero w x e h = omega arith
 mul_small (suc i) w x e h = absurd (let s = suc-mul i w in omega arith)
 
 -- the words that are left of each list
-abbrev pub old_left : ℕ → Comes → ℕ → ℕ
+abbrev pub old_left : ℕ → Ordering → ℕ → ℕ
 old_left g s x = by_side s x (x - (g + totals_width)) (x - (g + totals_width))
 
-abbrev pub new_left : ℕ → Comes → ℕ → ℕ
+abbrev pub new_left : ℕ → Ordering → ℕ → ℕ
 new_left g s y = by_side s (y - (g + totals_width)) (y - (g + totals_width)) y
 
-pub record WalkStepped (g : ℕ) (x y i j : ℕ) (s : Comes) : Type 0 where
+pub record WalkStepped (g : ℕ) (x y i j : ℕ) (s : Ordering) : Type 0 where
   pub p : ℕ
   pub q : ℕ
   pub goes : Goes i j s p q
   pub x_left : old_left g s x ≡ p * (g + totals_width)
   pub y_left : new_left g s y ≡ q * (g + totals_width)
   pub y_there : g + totals_width ≤ y
-  pub x_there : (s ≡ Before → ⊥) → g + totals_width ≤ x
+  pub x_there : (s ≡ Less → ⊥) → g + totals_width ≤ x
 
 module _ (g : ℕ) (a b : List ℕ) (x y : ℕ) where
-  pub stepped : (i j : ℕ) → x ≡ i * (g + totals_width) → y ≡ j * (g + totals_width) → 0 < y → (s : Comes) → pick_at g a x b y ≡ s
+  pub stepped : (i j : ℕ) → x ≡ i * (g + totals_width) → y ≡ j * (g + totals_width) → 0 < y → (s : Ordering) → pick_at g a x b y ≡ s
       → WalkStepped g x y i j s
   stepped i zero hx hy h s e = absurd (omega arith)
-  stepped i (suc q) hx hy h Before e =
+  stepped i (suc q) hx hy h Less e =
       let m = suc-mul q (g + totals_width) in
       record { p = i; q = q; goes = new; x_left = hx; y_left = omega arith; y_there = omega arith; x_there = λ n. absurd (n refl) }
-  stepped zero (suc q) hx hy h Same e =
+  stepped zero (suc q) hx hy h Equal e =
       absurd (let z = pick_none g a x b y (omega arith) in let c : ◌≡◌ {A = ℕ} 0 1 = cc in omega arith)
-  stepped zero (suc q) hx hy h After e =
+  stepped zero (suc q) hx hy h Greater e =
       absurd (let z = pick_none g a x b y (omega arith) in let c : ◌≡◌ {A = ℕ} 0 1 = cc in omega arith)
-  stepped (suc p) (suc q) hx hy h Same e =
+  stepped (suc p) (suc q) hx hy h Equal e =
       let k = suc-mul p (g + totals_width) in
       let m = suc-mul q (g + totals_width) in
       record { p = p; q = q; goes = both; x_left = omega arith; y_left = omega arith; y_there = omega arith; x_there = λ n. omega arith }
-  stepped (suc p) (suc q) hx hy h After e =
+  stepped (suc p) (suc q) hx hy h Greater e =
       let k = suc-mul p (g + totals_width) in
       let m = suc-mul q (g + totals_width) in
       record { p = p; q = suc q; goes = old; x_left = omega arith; y_left = hy; y_there = omega arith; x_there = λ n. omega arith }
 
   -- the walk there
-  pub walk_steps : {R : Type 0} (v : BackWalk R) (i j : ℕ) → x ≡ i * (g + totals_width) → y ≡ j * (g + totals_width) → (s : Comes)
+  pub walk_steps : {R : Type 0} (v : BackWalk R) (i j : ℕ) → x ≡ i * (g + totals_width) → y ≡ j * (g + totals_width) → (s : Ordering)
       → pick_at g a x b y ≡ s → (t : WalkStepped g x y i j s)
       → walked (sides g a b) v i j ≡ step_by v s t.p t.q (walked (sides g a b) v t.p t.q)
   walk_steps v i j hx hy s e t =

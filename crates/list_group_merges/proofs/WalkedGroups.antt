@@ -14,9 +14,8 @@ use Rattle.words.specs.Words.{key_rank}
 use Rattle.sequences.specs.Sequences.{all}
 use Rattle.sequences.proofs.Orders.{lex_trans, lex_asym, lex_weak}
 use Rattle.plans.specs.Endings.{group}
-use Rattle.lists.specs.declared.Comes.TheVariants.{Before, Same, After}
-use Rattle.list_group_merges.specs.declared.Union.{Union}
-use Rattle.list_group_merges.specs.declared.Union.TheVariants.{Records, Overflows}
+use Rattle.std.specs.declared.cmp.Ordering.TheVariants.{Less, Equal, Greater}
+use Rattle.std.specs.Prelude.{Option, Some, None}
 use Rattle.lists.specs.Groups.{Group, totals_width, together, keys_before, add_groups, group_words}
 use Rattle.lists.specs.Gathering.{groups_in, merged, group_fits, list_right, totals_fit}
 use Rattle.list_groups.specs.Keys.{keys_first}
@@ -42,8 +41,8 @@ unfolding flatten
 flat_last gs g = flat_append gs (g ∷ []) ∙ ap (λ l. flat gs ++ l) (append-nil (group_words g))
 
 -- the number of some records, unless a total does not fit
-abbrev pub count_of : List Group → Union
-count_of gs = cond (all group_fits gs) (Records (length gs)) Overflows
+abbrev pub count_of : List Group → Option ℕ
+count_of gs = cond (all group_fits gs) (Some (length gs)) None
 
 all_last : (gs : List Group) (g : Group) → all group_fits (gs ++ (g ∷ [])) ≡ (all group_fits gs && group_fits g)
 unfolding all
@@ -58,10 +57,10 @@ all_last (x ∷ gs) g = ap (λ b. group_fits x && b) (all_last gs g) ∙ and_ass
     and_assoc true b c = refl
     and_assoc false b c = refl
 
-count_last : (gs : List Group) (g : Group) → count_of (gs ++ (g ∷ [])) ≡ cond (group_fits g) (more_by 1 (count_of gs)) Overflows
-count_last gs g = ap₂ (λ b n. cond b (Records n) Overflows) (all_last gs g) (length-append gs (g ∷ [])) ∙ go (all group_fits gs) (group_fits g)
+count_last : (gs : List Group) (g : Group) → count_of (gs ++ (g ∷ [])) ≡ cond (group_fits g) (more_by 1 (count_of gs)) None
+count_last gs g = ap₂ (λ b n. cond b (Some n) None) (all_last gs g) (length-append gs (g ∷ [])) ∙ go (all group_fits gs) (group_fits g)
   where
-    go : (a b : Bool) → cond (a && b) (Records (length gs + 1)) Overflows ≡ cond b (more_by 1 (cond a (Records (length gs)) Overflows)) Overflows
+    go : (a b : Bool) → cond (a && b) (Some (length gs + 1)) None ≡ cond b (more_by 1 (cond a (Some (length gs)) None)) None
     go true true = refl
     go true false = refl
     go false true = refl
@@ -144,27 +143,27 @@ module _ (vs : List ℕ) (m : ℕ) (kept : List ℕ) (used : ℕ) (list : List �
       n k (omega arith) (omega arith)
 
   -- the count of the walk
-  ends_count : (i : ℕ) → i ≤ n → count_of (first (group_at g kept) i) ≡ Records i
+  ends_count : (i : ℕ) → i ≤ n → count_of (first (group_at g kept) i) ≡ Some i
   unfolding first all
   ends_count zero h = refl
   ends_count (suc i) h =
       count_last (first (group_at g kept) i) (group_at g kept i)
-      ∙ ap₂ (λ b c. cond b (more_by 1 c) Overflows) (record_fits g (record_at g kept (i * w)) (record_words g kept wk (i * w) (old_in i (omega arith))))
+      ∙ ap₂ (λ b c. cond b (more_by 1 c) None) (record_fits g (record_at g kept (i * w)) (record_words g kept wk (i * w) (old_in i (omega arith))))
       (ends_count i (omega arith))
-      ∙ ap Records (add-one i)
+      ∙ ap Some (add-one i)
 
   pub union_count : count_of groups ≡ union_of g kept list n k
   unfolding union_of
   union_count =
       walk_map (sides g kept list) (list_walk together (group_at g kept) (group_at g list)) (count_walk g kept list) count_of n k
       ends_count
-      (λ q h r. count_last r (group_at g list q) ∙ ap (λ b. cond b (more_by 1 (count_of r)) Overflows)
+      (λ q h r. count_last r (group_at g list q) ∙ ap (λ b. cond b (more_by 1 (count_of r)) None)
       (record_fits g (record_at g list (q * w)) (record_words g list wl (q * w) (new_in q h))))
-      (λ p h r. count_last r (group_at g kept p) ∙ ap (λ b. cond b (more_by 1 (count_of r)) Overflows)
+      (λ p h r. count_last r (group_at g kept p) ∙ ap (λ b. cond b (more_by 1 (count_of r)) None)
       (record_fits g (record_at g kept (p * w)) (record_words g kept wk (p * w) (old_in p h))))
       (λ p q h l r.
       count_last r (together (group_at g kept p) (group_at g list q))
-      ∙ ap (λ b. cond b (more_by 1 (count_of r)) Overflows) (join_fits_lem g (record_at g kept (p * w)) (record_at g list (q * w))))
+      ∙ ap (λ b. cond b (more_by 1 (count_of r)) None) (join_fits_lem g (record_at g kept (p * w)) (record_at g list (q * w))))
       n k (omega arith) (omega arith)
 
   -- ---- on right lists the walk adds the groups up
@@ -175,7 +174,7 @@ module _ (vs : List ℕ) (m : ℕ) (kept : List ℕ) (used : ℕ) (list : List �
       pick_some g kept (suc p * w) list (suc q * w) (λ e. omega arith)
       ∙ ap₂ (λ i j. side_by keys_first (take g (drop i kept)) (take g (drop j list)))
       (let z : suc p * w - w ≡ p * w = omega arith in z) (let z : suc q * w - w ≡ q * w = omega arith in z)
-      ∙ ap₂ (λ b c. cond b Before (cond c After Same)) (sym (before_keys g (drop (p * w) kept) (drop (q * w) list)))
+      ∙ ap₂ (λ b c. cond b Less (cond c Greater Equal)) (sym (before_keys g (drop (p * w) kept) (drop (q * w) list)))
       (sym (before_keys g (drop (q * w) list) (drop (p * w) kept)))
 
   module _ (rk : list_right (group vs m) (take used kept) ≡ true) (rl : list_right (group vs m) list ≡ true) where
@@ -201,16 +200,16 @@ module _ (vs : List ℕ) (m : ℕ) (kept : List ℕ) (used : ℕ) (list : List �
     union_added = sym union_count ∙ ap count_of added
 
     -- 13: the count says whether the totals fit
-    pub union_over : union_of g kept list n k ≡ Overflows → totals_fit (group vs m) (take used kept) list ≡ false
+    pub union_over : union_of g kept list n k ≡ None → totals_fit (group vs m) (take used kept) list ≡ false
     unfolding totals_fit
     union_over e = go (all group_fits (add_groups (groups_in vs (take used kept)) (groups_in vs list))) (sym union_added ∙ e)
       where
-        go : (b : Bool) → cond b (Records (length (add_groups (groups_in vs (take used kept)) (groups_in vs list)))) Overflows ≡ Overflows → b ≡ false
+        go : (b : Bool) → cond b (Some (length (add_groups (groups_in vs (take used kept)) (groups_in vs list)))) None ≡ None → b ≡ false
         go true e = let z : ◌≡◌ {A = ℕ} 0 1 = cc in absurd (omega arith)
         go false e = refl
 
     -- 14: and how many words the merged list has
-    pub union_fits : (c : ℕ) → union_of g kept list n k ≡ Records c
+    pub union_fits : (c : ℕ) → union_of g kept list n k ≡ Some c
         → (totals_fit (group vs m) (take used kept) list ≡ true) × (length (merged (group vs m) (take used kept) list) ≡ c * w)
     unfolding totals_fit merged
     union_fits c e = go (all group_fits gs) refl (sym union_added ∙ e)
@@ -223,7 +222,7 @@ module _ (vs : List ℕ) (m : ℕ) (kept : List ℕ) (used : ℕ) (list : List �
             length_flat (length vs) gs (have_add_all (length vs) (groups_in vs (take used kept)) (groups_in vs list) (have_keys_in vs (take used kept))
             (have_keys_in vs list))
 
-        go : (b : Bool) → all group_fits gs ≡ b → cond b (Records (length gs)) Overflows ≡ Records c
+        go : (b : Bool) → all group_fits gs ≡ b → cond b (Some (length gs)) None ≡ Some c
             → (all group_fits gs ≡ true) × (length (flat gs) ≡ c * w)
         go true h e = (h, size ∙ ap (λ j. j * w) (let p : length gs ≡ c = cc in p))
         go false h e = let z : ◌≡◌ {A = ℕ} 0 1 = cc in absurd (omega arith)

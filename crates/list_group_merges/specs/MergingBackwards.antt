@@ -1,19 +1,17 @@
 -- Two lists of records merged from the back: which record is the last of both, and what a walk from the back makes of them.
 -- Assumes nothing: these are definitions.
-use Rattle.std.specs.Prelude.{ℕ, zero, suc, ◌+◌, ◌*◌, ◌-◌, Bool, cond, List, ◌++◌, eqb, take, drop}
-use Rattle.lists.specs.declared.Comes.{Comes}
-use Rattle.lists.specs.declared.Comes.TheVariants.{Before, Same, After}
-use Rattle.list_group_merges.specs.declared.Union.{Union}
-use Rattle.list_group_merges.specs.declared.Union.TheVariants.{Records, Overflows}
+use Rattle.std.specs.Prelude.{ℕ, zero, suc, ◌+◌, ◌*◌, ◌-◌, Bool, cond, Option, Some, None, List, ◌++◌, eqb, take, drop}
+use Rattle.std.specs.declared.cmp.Ordering.{Ordering}
+use Rattle.std.specs.declared.cmp.Ordering.TheVariants.{Less, Equal, Greater}
 use Rattle.lists.specs.Groups.{totals_width}
 use Rattle.list_group_totals.specs.GroupTotals.{totals_in, totals_words, totals_both, both_fit}
 use Rattle.list_groups.specs.Keys.{keys_first}
 use Rattle.lists.specs.Sides.{side_by}
 
-abbrev pub by_side {ℓ} : {R : Type ℓ} → Comes → R → R → R → R
-by_side Before x y z = x
-by_side Same x y z = y
-by_side After x y z = z
+abbrev pub by_side {ℓ} : {R : Type ℓ} → Ordering → R → R → R → R
+by_side Less x y z = x
+by_side Equal x y z = y
+by_side Greater x y z = z
 
 -- ---- the walk
 -- what it makes of the first i records of the first list alone; with one more record of the second, of the first, of both
@@ -23,14 +21,14 @@ pub record BackWalk (R : Type 0) : Type 0 where
   pub old : ℕ → R → R
   pub both : ℕ → ℕ → R → R
 
-unfoldable pub walked_in : {R : Type 0} → (ℕ → Comes) → BackWalk R → (ℕ → R) → ℕ → ℕ → R
+unfoldable pub walked_in : {R : Type 0} → (ℕ → Ordering) → BackWalk R → (ℕ → R) → ℕ → ℕ → R
 walked_in side v rest i zero = v.ends (suc i)
 walked_in side v rest i (suc j) =
     by_side (side (suc j)) (v.new j (walked_in side v rest i j)) (v.both i j (rest j)) (v.old i (rest (suc j)))
 
 -- over i records of the first list and j of the second, where side i j says where the last of those i stands against the
 -- last of those j
-unfoldable pub walked : {R : Type 0} → (ℕ → ℕ → Comes) → BackWalk R → ℕ → ℕ → R
+unfoldable pub walked : {R : Type 0} → (ℕ → ℕ → Ordering) → BackWalk R → ℕ → ℕ → R
 walked side v zero zero = v.ends zero
 walked side v zero (suc j) = v.new j (walked side v zero j)
 walked side v (suc i) j = walked_in (side (suc i)) v (walked side v i) i j
@@ -40,11 +38,11 @@ abbrev pub record_at : ℕ → List ℕ → ℕ → List ℕ
 record_at g ws x = take (g + totals_width) (drop x ws)
 
 -- the record of `a` that ends at `x` against the one of `b` that ends at `y`; before it, where `a` has none left
-unfoldable pub pick_at : ℕ → List ℕ → ℕ → List ℕ → ℕ → Comes
+unfoldable pub pick_at : ℕ → List ℕ → ℕ → List ℕ → ℕ → Ordering
 pick_at g a x b y =
-    cond (eqb x 0) Before (side_by keys_first (take g (drop (x - (g + totals_width)) a)) (take g (drop (y - (g + totals_width)) b)))
+    cond (eqb x 0) Less (side_by keys_first (take g (drop (x - (g + totals_width)) a)) (take g (drop (y - (g + totals_width)) b)))
 
-abbrev pub sides : ℕ → List ℕ → List ℕ → ℕ → ℕ → Comes
+abbrev pub sides : ℕ → List ℕ → List ℕ → ℕ → ℕ → Ordering
 sides g a b i j = pick_at g a (i * (g + totals_width)) b (j * (g + totals_width))
 
 -- two records of one group: the words of both together, and that their totals fit
@@ -68,19 +66,19 @@ unfoldable pub merged_records : ℕ → List ℕ → List ℕ → ℕ → ℕ �
 merged_records g a b i j = walked (sides g a b) (word_walk g a b) i j
 
 -- the number of its records, or that a total overflows
-abbrev pub more_by : ℕ → Union → Union
-more_by k (Records n) = Records (n + k)
-more_by k Overflows = Overflows
+abbrev pub more_by : ℕ → Option ℕ → Option ℕ
+more_by k (Some n) = Some (n + k)
+more_by k None = None
 
-abbrev pub count_walk : ℕ → List ℕ → List ℕ → BackWalk Union
+abbrev pub count_walk : ℕ → List ℕ → List ℕ → BackWalk (Option ℕ)
 count_walk g a b =
     record {
-      ends = λ i. Records i;
+      ends = λ i. Some i;
       new = λ q r. more_by 1 r;
       old = λ p r. more_by 1 r;
       both = λ p q r.
-          cond (join_fits g (record_at g a (p * (g + totals_width))) (record_at g b (q * (g + totals_width)))) (more_by 1 r) Overflows;
+          cond (join_fits g (record_at g a (p * (g + totals_width))) (record_at g b (q * (g + totals_width)))) (more_by 1 r) None;
     }
 
-unfoldable pub union_of : ℕ → List ℕ → List ℕ → ℕ → ℕ → Union
+unfoldable pub union_of : ℕ → List ℕ → List ℕ → ℕ → ℕ → Option ℕ
 union_of g a b i j = walked (sides g a b) (count_walk g a b) i j

@@ -7,18 +7,9 @@ mod validity;
 pub use merge_backwards::merge_groups;
 pub use validity::is_groups;
 
-// Two lists of groups together: the number of their records, or that a total would leave its range.
+// Why two lists of groups are not merged: a total would leave its range, or the buffer of the kept list has no room.
 #[derive(Clone, Copy)]
-pub enum Union {
-    Records(usize),
-    Overflows,
-}
-
-// What a merge of groups answers: the words of the merged list, that a total would leave its range, or that the buffer of the kept list has
-// no room.
-#[derive(Clone, Copy)]
-pub enum Merged {
-    Words(usize),
+pub enum MergeFault {
     Overflow,
     NoRoom,
 }

@@ -1,26 +1,25 @@
 // Groups merged in place, from the back.
 ghost use Rattle.std.specs.Prelude.{◌≡◌, true, ◌++◌, ◌+◌, ◌/◌, ◌%◌, ◌≤◌, ◌<◌, length, take, drop};
 ghost use Rattle.plans.specs.Endings.{most_group_variables};
-ghost use Rattle.list_group_merges.specs.declared.Union.TheVariants.{Records};
 ghost use Rattle.lists.specs.Groups.{totals_width};
 ghost use Rattle.list_group_merges.specs.MergingBackwards.{record_at, pick_at, join_words, join_fits, merged_records, union_of};
 ghost use Rattle.list_group_merges.specs.MergingGroups.{BothGroups, AddsGroups, last_record, CanPut};
 
-use crate::{Merged, Union};
+use crate::MergeFault;
 use list_group_totals::{TOTALS, add_totals, read_totals, totals_fit};
 use list_groups::by_group;
 use list_rows::shift;
-use lists::Comes;
+use std::cmp::Ordering;
 use words::copy_in;
 
 // Where the kept record that ends at `x` stands against the record of `list` that ends at `y`; before it, where no kept record is left.
-fn pick(g: usize, kept: &[u32], x: usize, list: &[u32], y: usize) -> Comes
+fn pick(g: usize, kept: &[u32], x: usize, list: &[u32], y: usize) -> Ordering
     requires { (g ≤ most_group_variables) × (x ≤ length kept.now) × (x < g + totals_width → x ≡ 0) × (y ≤ length list.now)
         × (g + totals_width ≤ y) }
     ensures { result ≡ pick_at g kept.now x list.now y }
 {
     if x == 0 {
-        return Comes::Before;
+        return Ordering::Less;
     }
     let w = g + TOTALS;
     let old = x - w;
@@ -45,8 +44,8 @@ fn join_fits(g: usize, kept: &[u32], x: usize, list: &[u32], y: usize) -> bool
     )
 }
 
-// Counts the records that `list` makes merged with the first `used` words of `kept`, or says that a total overflows.
-fn union_of(g: usize, kept: &[u32], used: usize, list: &[u32]) -> Union
+// Counts the records that `list` makes merged with the first `used` words of `kept`; none, if a total overflows.
+fn union_of(g: usize, kept: &[u32], used: usize, list: &[u32]) -> Option<usize>
     requires { (g ≤ most_group_variables) × (used ≤ length kept.now) × (used % (g + totals_width) ≡ 0)
         × (length list.now % (g + totals_width) ≡ 0) }
     ensures { result ≡ union_of g kept.now list.now (used / (g + totals_width))
@@ -56,25 +55,26 @@ fn union_of(g: usize, kept: &[u32], used: usize, list: &[u32]) -> Union
     let mut x = used;
     let mut y = list.len();
     let mut n: usize = 0;
+    // No iterator: two lists are walked at once, by what their last records say.
     while 0 < y {
         n += 1;
         match pick(g, kept, x, list, y) {
-            Comes::Before => {
+            Ordering::Less => {
                 y -= w;
             }
-            Comes::After => {
+            Ordering::Greater => {
                 x -= w;
             }
-            Comes::Same => {
+            Ordering::Equal => {
                 x -= w;
                 y -= w;
                 if !join_fits(g, kept, x, list, y) {
-                    return Union::Overflows;
+                    return None;
                 }
             }
         }
     }
-    Union::Records(n + x / w)
+    Some(n + x / w)
 }
 
 // Moves the record of `w` words at `from` up to `to` in `kept`.
@@ -100,7 +100,15 @@ fn merge_record(g: usize, kept: &mut [u32], from: usize, to: usize, more: &[u32]
 }
 
 // Puts at `to` the last of the records that end at `x` and at `y`, or the two added up if they are of the same group, as `side` says.
-fn put_record(g: usize, kept: &mut [u32], x: usize, list: &[u32], y: usize, to: usize, side: Comes)
+fn put_record(
+    g: usize,
+    kept: &mut [u32],
+    x: usize,
+    list: &[u32],
+    y: usize,
+    to: usize,
+    side: Ordering,
+)
     requires { (g ≤ most_group_variables) × CanPut g kept.old x list.now y to side }
     ensures { kept.new ≡ take to kept.old
         ++ (last_record g kept.old x list.now y side ++ drop (to + (g + totals_width)) kept.old) }
@@ -108,13 +116,13 @@ fn put_record(g: usize, kept: &mut [u32], x: usize, list: &[u32], y: usize, to: 
     let w = g + TOTALS;
     let new = y - w;
     match side {
-        Comes::Before => {
+        Ordering::Less => {
             copy_in(kept, to, &list[new..y]);
         }
-        Comes::Same => {
+        Ordering::Equal => {
             merge_record(g, kept, x - w, to, &list[new..y]);
         }
-        Comes::After => {
+        Ordering::Greater => {
             move_record(kept, x - w, to, w);
         }
     }
@@ -125,7 +133,7 @@ fn merge_backwards(g: usize, kept: &mut [u32], used: usize, list: &[u32], words:
     requires { (g ≤ most_group_variables) × (used ≤ length kept.old) × (used % (g + totals_width) ≡ 0)
         × (length list.now % (g + totals_width) ≡ 0) × (words ≤ length kept.old)
         × (union_of g kept.old list.now (used / (g + totals_width)) (length list.now / (g + totals_width))
-        ≡ Records (words / (g + totals_width)))
+        ≡ Some (words / (g + totals_width)))
         × (words % (g + totals_width) ≡ 0) }
     ensures { kept.new
         ≡ merged_records g kept.old list.now (used / (g + totals_width)) (length list.now / (g + totals_width))
@@ -135,18 +143,19 @@ fn merge_backwards(g: usize, kept: &mut [u32], used: usize, list: &[u32], words:
     let mut x = used;
     let mut y = list.len();
     let mut to = words;
+    // No iterator: the same walk as in `union_of`.
     while 0 < y {
         to -= w;
         let side = pick(g, &kept[..], x, list, y);
         put_record(g, kept, x, list, y, to, side);
         match side {
-            Comes::Before => {
+            Ordering::Less => {
                 y -= w;
             }
-            Comes::After => {
+            Ordering::Greater => {
                 x -= w;
             }
-            Comes::Same => {
+            Ordering::Equal => {
                 x -= w;
                 y -= w;
             }
@@ -155,20 +164,21 @@ fn merge_backwards(g: usize, kept: &mut [u32], used: usize, list: &[u32], words:
 }
 
 // Adds the groups of `list` to the kept ones, which are the first `used` words of `kept`.
-pub fn merge_groups(g: usize, kept: &mut [u32], used: usize, list: &[u32]) -> Merged
+pub fn merge_groups(
+    g: usize,
+    kept: &mut [u32],
+    used: usize,
+    list: &[u32],
+) -> Result<usize, MergeFault>
     requires { (g ≤ most_group_variables) × (used ≤ length kept.old) × BothGroups g (take used kept.old) list.now }
     ensures { AddsGroups g (take used kept.old) list.now kept.old kept.new result }
 {
-    match union_of(g, &kept[..], used, list) {
-        Union::Overflows => Merged::Overflow,
-        Union::Records(n) => {
-            let w = g + TOTALS;
-            if kept.len() / w < n {
-                return Merged::NoRoom;
-            }
-            let words = n * w;
-            merge_backwards(g, kept, used, list, words);
-            Merged::Words(words)
-        }
+    let records = union_of(g, &kept[..], used, list).ok_or(MergeFault::Overflow)?;
+    let w = g + TOTALS;
+    if kept.len() / w < records {
+        return Err(MergeFault::NoRoom);
     }
+    let words = records * w;
+    merge_backwards(g, kept, used, list, words);
+    Ok(words)
 }

@@ -9,7 +9,7 @@ ghost use Rattle.list_group_merges.specs.GroupTests.{totals_right, follows_at};
 use list_group_totals::{TOTALS, Totals, read_totals};
 use list_groups::by_group;
 use list_rows::is_values;
-use lists::Comes;
+use std::cmp::Ordering;
 use words::Term;
 
 // Whether the sum, the least and the greatest of `t` can be those of as many numbers as it counts.
@@ -83,9 +83,9 @@ fn follows(g: usize, list: &[u32], at: usize) -> bool
     let before_end = before + g;
     let end = at + g;
     match by_group(&list[before..before_end], &list[at..end]) {
-        Comes::Before => true,
-        Comes::Same => false,
-        Comes::After => false,
+        Ordering::Less => true,
+        Ordering::Equal => false,
+        Ordering::Greater => false,
     }
 }
 
@@ -99,6 +99,7 @@ pub fn is_groups(g: usize, list: &[u32]) -> bool
         return false;
     }
     let mut at: usize = 0;
+    // No iterator: each record is looked at with the one before it, so it is its place that is passed on.
     while at < list.len() {
         if !record_right(g, list, at) {
             return false;

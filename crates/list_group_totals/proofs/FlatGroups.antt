@@ -1,5 +1,6 @@
 -- The words of some records, one after the other, and words that stand between others.
-use Rattle.std.proofs.Common.{◌≡◌, ℕ, ◌+◌, ◌*◌, List, ◌∷◌, ◌++◌, map, length, take, drop, sym, refl, ap, ◌∙◌, ap₂, append_assoc, length-append, take_at, drop_at}
+use Rattle.std.proofs.Common.{◌≡◌, ℕ, ◌+◌, ◌*◌, List, ◌∷◌, ◌++◌, map, length, take, drop, sym, refl, ap, ◌∙◌, ap₂, append_assoc, length-append, take_at}
+use Rattle.std.proofs.Common.{drop_at}
 use mathlib.Core.List.{map-append, flatten}
 use lib.ListN.{length-map}
 use Rattle.lists.specs.Groups.{Group, totals_width, group_words}
@@ -20,7 +21,8 @@ unfolding flatten
 flat_cons g gs = ap (λ l. l ++ flat gs) (group_words_lem g)
 
 pub length_flat : (n : ℕ) (gs : List Group) → HaveKeys n gs → length (flat gs) ≡ length gs * (n + totals_width)
-length_flat n gs h = length_flatten (n + totals_width) (map group_words gs) (wide_words_lem n gs h) ∙ ap (λ k. k * (n + totals_width)) (length-map gs group_words)
+length_flat n gs h = length_flatten (n + totals_width) (map group_words gs) (wide_words_lem n gs h) ∙
+    ap (λ k. k * (n + totals_width)) (length-map gs group_words)
 
 -- ---- words that stand between others
 pub regroup : (P K T Q R : List ℕ) → (P ++ K) ++ (T ++ (Q ++ R)) ≡ (P ++ ((K ++ T) ++ Q)) ++ R

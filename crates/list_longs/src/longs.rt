@@ -36,5 +36,5 @@ pub fn write64(s: &mut [u32], at: usize, x: u64)
 pub fn fits(x: u64, y: u64) -> bool
     ensures { result ≡ ltb (x + y) long_values }
 {
-    x <= 0xFFFF_FFFF_FFFF_FFFF - y
+    x <= u64::MAX - y
 }

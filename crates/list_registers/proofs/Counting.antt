@@ -12,7 +12,7 @@ use Rattle.sequences.specs.Sequences.{over}
 use Rattle.plans.specs.Endings.{registers}
 use Rattle.registers.specs.Registers.{register_count, registers_of, greater_of}
 use Rattle.registers.proofs.Bounds.{registers_length, greater_length}
-use Rattle.lists.specs.declared.Put.TheVariants.{Words}
+use Rattle.std.specs.Prelude.{Some}
 use Rattle.lists.specs.Rows.{has_value}
 use Rattle.lists.specs.Delivering.{with_value, with_row}
 use Rattle.lists.specs.Putting.{Taken}
@@ -25,7 +25,7 @@ with_length ws x h = go (has_value x)
     go false = h
 
 pub counted_taken : (v : ℕ) (b : Bindings) (out after : List ℕ) (used : ℕ) → used ≡ register_count → register_count ≤ length out
-    → after ≡ over (with_value (take register_count out) (value_of b v)) out → Taken (with_row (registers v) [] (take used out) b) out after (Words used)
+    → after ≡ over (with_value (take register_count out) (value_of b v)) out → Taken (with_row (registers v) [] (take used out) b) out after (Some used)
 unfolding with_row
 counted_taken v b out after used e h a =
     let ws = with_value (take register_count out) (value_of b v) in

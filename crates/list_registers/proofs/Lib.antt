@@ -1,4 +1,3 @@
 pub mod Raising
 pub mod Merged
-pub mod Tested
 pub mod Counting

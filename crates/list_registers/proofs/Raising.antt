@@ -14,7 +14,6 @@ use borrow.Author.Tests.{eq-eqb, ne_eqb}
 use Rattle.sequences.specs.Sequences.{numbers, over}
 use Rattle.sequences.proofs.Orders.{Three, less, same, more, three}
 use Rattle.sequences.proofs.Numbers.{numbers_none, numbers_next}
-use Rattle.sequences.proofs.Buffers.{over_next}
 use Rattle.register_hashes.specs.Hashes.{hash_of, picked_by, rank_in}
 use Rattle.registers.specs.Registers.{register_count, given_to, register_of, registers_of, greater_of}
 use Rattle.registers.proofs.Merging.{map_same}
@@ -28,14 +27,6 @@ zeros_length n = length-replicate {A = ℕ} n 0
 
 pub zeros_next : (n : ℕ) → zeros n ++ (0 ∷ []) ≡ zeros (suc n)
 zeros_next n = replicate-append-replicate {A = ℕ} n 1 0 ∙ ap (λ k. zeros k) (add-one n)
-
--- one zero more over a buffer
-pub zeros_over : (n : ℕ) (buffer : List ℕ) → n < length buffer
-    → set (over (zeros n) buffer) n 0 ≡ over (zeros (suc n)) buffer
-zeros_over n buffer h =
-    let e = zeros_length n in
-    ap (λ k. set (over (zeros n) buffer) k 0) (sym e) ∙ over_next (zeros n) buffer 0 (omega arith)
-    ∙ ap (λ l. over l buffer) (zeros_next n)
 
 pub registers_none : registers_of [] ≡ zeros register_count
 unfolding registers_of register_of numbers

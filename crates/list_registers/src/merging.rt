@@ -3,19 +3,14 @@ ghost use Rattle.std.specs.Prelude.{◌≡◌, true, ◌≤◌, length, take};
 ghost use Rattle.sequences.specs.Sequences.{over};
 ghost use Rattle.registers.specs.Registers.{register_count, registers_in, greater_of, kept_registers};
 
-use crate::values::greater;
-
 // Raises each register of `kept` to that of `list`, if this is the greater.
 fn merge_each(kept: &mut [u32], list: &[u32])
     requires { length list.now ≤ length kept.old }
     ensures { kept.new ≡ over (greater_of (take (length list.now) kept.old) list.now)
         kept.old }
 {
-    let mut i: usize = 0;
-    while i < list.len() {
-        let g = greater(kept[i], list[i]);
-        kept[i] = g;
-        i += 1;
+    for (i, other) in list.iter().enumerate() {
+        kept[i] = kept[i].max(*other);
     }
 }
 

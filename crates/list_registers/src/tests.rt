@@ -11,32 +11,19 @@ const MOST_RANK: u32 = 61;
 fn in_range(list: &[u32]) -> bool
     ensures { result ≡ all is_rank list.now }
 {
-    let mut i: usize = 0;
-    while i < list.len() {
-        if MOST_RANK < list[i] {
-            return false;
-        }
-        i += 1;
-    }
-    true
+    list.iter().all(|rank| *rank <= MOST_RANK)
 }
 
 // Whether `list`, a turn's, has all 16, and none too great.
 pub fn are_registers(list: &[u32]) -> bool
     ensures { result ≡ are_registers list.now }
 {
-    if list.len() == REGISTERS {
-        return in_range(list);
-    }
-    false
+    list.len() == REGISTERS && in_range(list)
 }
 
 // Whether `list`, a kept one, is empty or has all 16.
 pub fn kept_registers(list: &[u32]) -> bool
     ensures { result ≡ kept_registers list.now }
 {
-    if list.len() == 0 {
-        return true;
-    }
-    are_registers(list)
+    list.is_empty() || are_registers(list)
 }

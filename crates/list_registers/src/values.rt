@@ -1,5 +1,5 @@
 // Registers from values: of none, and with one value more.
-ghost use Rattle.std.specs.Prelude.{◌≡◌, [], ◌∷◌, ◌≤◌, max, length, take};
+ghost use Rattle.std.specs.Prelude.{◌≡◌, [], ◌∷◌, ◌≤◌, length, take};
 ghost use Rattle.sequences.specs.Sequences.{over};
 ghost use Rattle.plans.specs.Endings.{registers};
 ghost use Rattle.registers.specs.Registers.{register_count, registers_of, greater_of};
@@ -7,29 +7,14 @@ ghost use Rattle.lists.specs.Delivering.{with_value, with_row};
 ghost use Rattle.lists.specs.Putting.{Taken};
 
 use crate::REGISTERS;
-use lists::Put;
 use words::Term;
-
-// The greater of `a` and `b`.
-pub fn greater(a: u32, b: u32) -> u32
-    ensures { result ≡ max a b }
-{
-    if a < b {
-        return b;
-    }
-    a
-}
 
 // Writes the registers of no values to `out`: all of them, each 0.
 pub fn no_values(out: &mut [u32]) -> usize
     requires { register_count ≤ length out.old }
     ensures { (result ≡ length (registers_of [])) × (out.new ≡ over (registers_of []) out.old) }
 {
-    let mut i: usize = 0;
-    while i < REGISTERS {
-        out[i] = 0;
-        i += 1;
-    }
+    out[..REGISTERS].fill(0);
     REGISTERS
 }
 
@@ -40,8 +25,7 @@ fn raise(value: u32, out: &mut [u32])
 {
     let hash = register_hashes::hash_of(value);
     let at = register_hashes::picked_by(hash);
-    let g = greater(out[at], register_hashes::rank_in(hash));
-    out[at] = g;
+    out[at] = out[at].max(register_hashes::rank_in(hash));
 }
 
 // Takes up `value`: one that is not bound counts for nothing.
@@ -55,11 +39,11 @@ fn put_value(value: u32, out: &mut [u32])
 }
 
 // Takes up the value that the row in `bound` has for `variable`, the counted one.
-pub fn put_counted(variable: u32, bound: &[u32; 16], out: &mut [u32], used: usize) -> Put
+pub fn put_counted(variable: u32, bound: &[u32; 16], out: &mut [u32], used: usize) -> Option<usize>
     requires { (used ≡ register_count) × (register_count ≤ length out.old) }
     ensures { Taken (with_row (registers variable) [] (take used out.old) bound.now) out.old
         out.new result }
 {
     put_value(words::value_of(variable, bound), out);
-    Put::Words(used)
+    Some(used)
 }

@@ -5,10 +5,15 @@ use native.Mathlib.Numerals.{add-one}
 use mathlib.Core.Path.{◌≡◌, refl, sym, ◌∙◌, ap}
 use mathlib.Core.Bool.{Bool, true, false, cond, ◌||◌}
 use mathlib.Core.List.{List, [], ◌∷◌}
-use lib.Dec.{eqb}
+use lib.Dec.{eqb, ltb}
 use lib.ListN.{length, get_or, drop, drop_of_length-le}
 use lib.Seq.{drop-cons}
-use borrow.Author.Tests.{eq-eqb, ne_eqb}
+use borrow.Author.Tests.{eq-eqb, ne_eqb, ltb-false}
+use Rattle.std.specs.List.{position_or_len}
+use Rattle.std.specs.Option.{unwrap_or}
+use Rattle.std.specs.Prelude.{Some, None}
+use Rattle.std.proofs.lemmas.Grind.{common_steps}
+use Rattle.std.proofs.lemmas.List.Recursion.{is_position_or_len}
 use Rattle.words.specs.Words.{variable, low, kind, falling_kind, key_rank, last_rank, unbound}
 use Rattle.sequences.specs.Sequences.{all, member, lex_before}
 use Rattle.sequences.proofs.Booleans.{absurd_true}
@@ -19,19 +24,34 @@ use Rattle.plans.specs.Endings.{key_among}
 use Rattle.lists.specs.Rows.{index_of, rank_by, key_value, row_ranks, row_before}
 
 -- ---- where a word stands among others
-module _ (w : ℕ) (xs : List ℕ) (i : ℕ) where
-  pub index_end : length xs ≤ i → index_of w (drop i xs) ≡ 0
-  unfolding index_of
-  index_end h = rw (drop_of_length-le xs h)
+index_in : (w : ℕ) (xs : List ℕ) → index_of w xs ≤ length xs
+unfolding index_of
+index_in w [] = omega arith
+index_in w (x ∷ xs) =
+    let h = index_in w xs in
+    elim (eqb w x) as (λ b. cond b 0 (suc (index_of w xs)) ≤ suc (length xs)) [ true ↦ omega arith | false ↦ omega arith ]
 
-  module _ (h : i < length xs) where
-    pub index_here : get_or xs i 0 ≡ w → index_of w (drop i xs) ≡ 0
-    unfolding index_of
-    index_here e = rw (drop-cons xs i 0 h, eq-eqb w (get_or xs i 0) (sym e))
+-- as a search answers it, or their number
+abbrev first_place : ℕ → List ℕ → ℕ
+first_place w = position_or_len (λ x. eqb x w)
 
-    pub index_later : (get_or xs i 0 ≡ w → ⊥) → index_of w (drop i xs) ≡ suc (index_of w (drop (i + 1) xs))
-    unfolding index_of
-    index_later n = rw (add-one, drop-cons xs i 0 h, ne_eqb w (get_or xs i 0) (λ e. n (sym e)))
+turned : (a b : ℕ) → eqb a b ≡ eqb b a
+turned a b = grind (arith, common_steps)
+
+index_is : (w : ℕ) (xs : List ℕ) → index_of w xs ≡ first_place w xs
+unfolding index_of
+index_is w xs =
+    is_position_or_len (index_of w) (λ x. eqb x w) refl
+    (λ x ys. let n : suc (index_of w ys) ≡ 1 + index_of w ys = omega arith in
+    ap (λ b. cond b 0 (suc (index_of w ys))) (turned w x) ∙ ap (cond (eqb x w) 0) n) xs
+
+pub index_found : (w : ℕ) (xs : List ℕ)
+    → unwrap_or (cond (ltb (first_place w xs) (length xs)) (Some (first_place w xs)) None) (length xs) ≡ index_of w xs
+index_found w xs = rw (← (index_is w xs)) (go (index_of w xs) (index_in w xs) (ltb (index_of w xs) (length xs)) refl)
+  where
+    go : (n : ℕ) → n ≤ length xs → (b : Bool) → ltb n (length xs) ≡ b → unwrap_or (cond b (Some n) None) (length xs) ≡ n
+    go n h true e = refl
+    go n h false e = let l = ltb-false n (length xs) e in omega arith
 
 -- a word that is there stands at one of the places
 pub index_there : (w : ℕ) (xs : List ℕ) → member w xs ≡ true → index_of w xs < length xs

@@ -24,14 +24,10 @@ pub fn rank_by(key: u32, word: u32) -> u32
 fn index_of(word: u32, words: &[u32]) -> usize
     ensures { result ≡ index_of word words.now }
 {
-    let mut i: usize = 0;
-    while i < words.len() {
-        if words[i] == word {
-            return i;
-        }
-        i += 1;
-    }
-    i
+    words
+        .iter()
+        .position(|other| *other == word)
+        .unwrap_or(words.len())
 }
 
 // The column of a row with the variables `vars` that has the value of the variable of `key`.
@@ -47,19 +43,16 @@ pub fn comes_before(vars: &[u32], keys: &[u32], a: &[u32], b: &[u32]) -> bool
     requires { (all (key_among vars.now) keys.now ≡ true) × (length vars.now ≤ length a.now) × (length vars.now ≤ length b.now) }
     ensures { result ≡ row_before vars.now keys.now a.now b.now }
 {
-    let mut i: usize = 0;
-    while i < keys.len() {
-        let key = keys[i];
-        let column = column_of(vars, key);
-        let x = rank_by(key, a[column]);
-        let y = rank_by(key, b[column]);
+    for key in keys {
+        let column = column_of(vars, *key);
+        let x = rank_by(*key, a[column]);
+        let y = rank_by(*key, b[column]);
         if x < y {
             return true;
         }
         if y < x {
             return false;
         }
-        i += 1;
     }
     false
 }

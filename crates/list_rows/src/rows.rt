@@ -8,7 +8,6 @@ ghost use Rattle.lists.specs.Rows.{project};
 ghost use Rattle.lists.specs.Delivering.{with_row};
 ghost use Rattle.lists.specs.Putting.{Taken};
 
-use lists::Put;
 use words::Term;
 
 // Writes the row of the variables `vars` to `buf`, from `at` on.
@@ -16,11 +15,8 @@ fn write_row(vars: &[u32], bound: &[u32; 16], buf: &mut [u32], at: usize)
     requires { at + length vars.now ≤ length buf.old }
     ensures { buf.new ≡ paste buf.old at (project vars.now bound.now) (length vars.now) }
 {
-    let mut i: usize = 0;
-    while i < vars.len() {
-        let v = words::value_of(vars[i], bound);
-        buf[at + i] = v;
-        i += 1;
+    for (i, var) in vars.iter().enumerate() {
+        buf[at + i] = words::value_of(*var, bound);
     }
 }
 
@@ -34,16 +30,16 @@ pub fn row_of(vars: &[u32], bound: &[u32; 16]) -> [u32; 16]
     row
 }
 
-// Puts the row of the variables `vars` behind the list that is the first `used` words of `out`.
-pub fn put_row(vars: &[u32], bound: &[u32; 16], out: &mut [u32], used: usize) -> Put
+// Puts the row of the variables `vars` behind the list that is the first `used` words of `out`; answers the words of the list with it, if there is room.
+pub fn put_row(vars: &[u32], bound: &[u32; 16], out: &mut [u32], used: usize) -> Option<usize>
     requires { used ≤ length out.old }
     ensures { Taken (with_row (rows vars.now) [] (take used out.old) bound.now) out.old
         out.new result }
 {
     let w = vars.len();
     if out.len() - used < w {
-        return Put::NoRoom;
+        return None;
     }
     write_row(vars, bound, out, used);
-    Put::Words(used + w)
+    Some(used + w)
 }

@@ -9,12 +9,7 @@ pub fn shift(buf: &mut [u32], a: usize, e: usize, w: usize)
     requires { (a ≤ e) × (e + w ≤ length buf.old) }
     ensures { buf.new ≡ shifted buf.old a e w }
 {
-    let mut i = e;
-    while a < i {
-        i -= 1;
-        let v = buf[i];
-        buf[i + w] = v;
-    }
+    buf.copy_within(a..e, a + w);
 }
 
 // Puts `words` in at `a`, before those that stand there up to `e`.

@@ -11,14 +11,7 @@ use words::Term;
 pub fn is_values(list: &[u32]) -> bool
     ensures { result ≡ all is_value list.now }
 {
-    let mut i: usize = 0;
-    while i < list.len() {
-        if !Term(list[i]).is_value() {
-            return false;
-        }
-        i += 1;
-    }
-    true
+    list.iter().all(|word| Term(*word).is_value())
 }
 
 // Whether `threshold` is right for an ending that has none: rows, groups, or registers.
@@ -27,5 +20,5 @@ pub fn no_threshold(threshold: &[u32]) -> bool
     ensures groups { (vs : List ℕ) (m : ℕ) → result ≡ threshold_right (group vs m) threshold.now }
     ensures registers { (v : ℕ) → result ≡ threshold_right (registers v) threshold.now }
 {
-    threshold.len() == 0
+    threshold.is_empty()
 }

@@ -1,42 +1,15 @@
 -- Words that are moved and copied in a buffer.
-use Prim.Native.Nat.{ℕ, suc, ◌+◌, ◌-◌, ◌≤◌, ◌<◌}
-use mathlib.Core.Path.{◌≡◌, sym, ap, ◌∙◌}
-use mathlib.Core.List.{List, ◌∷◌, ◌++◌, append_assoc}
+use Prim.Native.Nat.{ℕ, ◌+◌, ◌-◌, ◌≤◌}
+use mathlib.Core.Path.{◌≡◌, ap, ◌∙◌}
+use mathlib.Core.List.{List, ◌++◌, append_assoc}
 use native.Mathlib.Omega.{arith}
-use lib.ListN.{length, get_or, take, drop, set, length-append, length-take, length-drop, take-append-drop, get_or-append}
-use lib.Seq.{take-suc, drop-cons, append_snoc, set_at, get_or-take, take-append-le, take-take, drop_at, take-length, take-add, length-take-le, paste}
+use lib.ListN.{length, take, drop, length-append, length-take, length-drop}
+use lib.Seq.{take-append-le, take-take, drop_at, take-length, take-add, length-take-le, paste}
 use Rattle.sequences.specs.Sequences.{over}
 use Rattle.lists.specs.Moves.{shifted, inserted}
 
-pub shift_start : (b : List ℕ) (e w : ℕ) → b ≡ shifted b e e w
-shift_start b e w =
-    let none : e - e ≡ 0 = omega arith in
-    rw none (sym (take-append-drop (e + w) b))
-
 pub length_shifted : (b : List ℕ) (a e w : ℕ) → a ≤ e → e + w ≤ length b → length (shifted b a e w) ≡ length b
 length_shifted b a e w h l = simp (length-append, length-take, length-drop) (omega arith)
-
-module _ (b : List ℕ) (i e w j : ℕ) (ij : i ≡ j + 1) (ie : i ≤ e) (fits : e + w ≤ length b) where
-  read_below : get_or (shifted b i e w) j 0 ≡ get_or b j 0
-  read_below =
-      let h : j < length (take (i + w) b) = simp length-take (omega arith) in
-      let g : j < i + w = omega arith in
-      get_or-append (take (i + w) b) _ 0 j h ∙ get_or-take (i + w) b j 0 g
-
-  one_higher : get_or b j 0 ∷ take (e - i) (drop i b) ≡ take (e - j) (drop j b)
-  one_higher =
-      let h : j < length b = omega arith in
-      let up : e - j ≡ suc (e - i) = omega arith in
-      let next : i ≡ suc j = omega arith in
-      rw (up, drop-cons b j 0 h, next)
-
-  pub shift_more : set (shifted b i e w) (j + w) (get_or (shifted b i e w) j 0) ≡ shifted b j e w
-  shift_more =
-      let h : j + w < length b = omega arith in
-      let up : i + w ≡ suc (j + w) = omega arith in
-      rw (read_below, up, take-suc b (j + w) 0 h, append_snoc)
-      (set_at (take (j + w) b) (get_or b (j + w) 0) _ (get_or b j 0) (j + w) (length-take-le (j + w) b (omega arith))
-      ∙ rw (← one_higher))
 
 pub insert_both : (b r : List ℕ) (a e : ℕ) → a ≤ e → e + length r ≤ length b → paste (shifted b a e (length r)) a r (length r)
     ≡ inserted b a e r

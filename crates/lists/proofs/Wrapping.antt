@@ -91,5 +91,6 @@ words_added_one x gs =
     (one_joins x (map wrapped gs) ∙ ap (add_by keys_before wrapped_together (wrapped x)) (all_wrapped_twice gs) ∙ sym (one_joins x gs))
     ∙ map_words (add_by keys_before together x gs)
   where
-    one_joins : (y : Group) (hs : List Group) → map wrapped (add_by keys_before together y hs) ≡ add_by keys_before wrapped_together (wrapped y) (map wrapped hs)
+    one_joins : (y : Group) (hs : List Group) →
+        map wrapped (add_by keys_before together y hs) ≡ add_by keys_before wrapped_together (wrapped y) (map wrapped hs)
     one_joins = add_map wrapped keys_before keys_before before_same together wrapped_together wrapped_joins

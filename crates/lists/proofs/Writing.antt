@@ -11,7 +11,7 @@ use Rattle.words.specs.Bindings.{Bindings, value_of}
 use Rattle.sequences.specs.Sequences.{over}
 use Rattle.words.proofs.Bound.{any_default}
 use Rattle.plans.specs.Endings.{rows}
-use Rattle.lists.specs.declared.Put.TheVariants.{Words, NoRoom}
+use Rattle.std.specs.Prelude.{Some, None}
 use Rattle.lists.specs.Rows.{project}
 use Rattle.lists.specs.Delivering.{with_row}
 use Rattle.lists.specs.Putting.{put_as, put_over}
@@ -45,14 +45,14 @@ module _ (vs : List ℕ) (b : Bindings) (out : List ℕ) (used : ℕ) (h : used 
       ∙ length-append (take used out) (project vs b)
       ∙ ap₂ ◌+◌ (length-take-le used out h) (length_project vs b)
 
-  pub no_room : length out - used < length vs → (NoRoom ≡ put_as with_it out) × (out ≡ put_over with_it out)
+  pub no_room : length out - used < length vs → (None ≡ put_as with_it out) × (out ≡ put_over with_it out)
   no_room l =
       let n = length_with_it in
       let t = lt-leb (length with_it) (length out) (omega arith) in
       (rw t, rw t)
 
   pub room : length vs ≤ length out - used → (after : List ℕ) → after ≡ paste out used (project vs b) (length vs)
-      → (Words (used + length vs) ≡ put_as with_it out) × (after ≡ put_over with_it out)
+      → (Some (used + length vs) ≡ put_as with_it out) × (after ≡ put_over with_it out)
   room l after e =
       let n = length_with_it in
       let t = le-leb (length with_it) (length out) (omega arith) in

@@ -7,6 +7,7 @@ use Rattle.lists.specs.Sums.{sum_bits}
 use Rattle.lists.specs.Rows.{index_of, row_ranks, row_before, ahead}
 
 unfoldable pub computing : Unit {0}
-unfolding closed with_row records_in gathered threshold_right merged group_right list_right totals_fit lesser greater keys_before add_by add_all_by group_words group_in
+unfolding closed with_row records_in gathered threshold_right merged group_right list_right totals_fit lesser greater keys_before add_by add_all_by
+    group_words group_in
     sum_bits index_of row_ranks row_before ahead
 computing = tt

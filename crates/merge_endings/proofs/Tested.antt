@@ -17,7 +17,9 @@ use Rattle.plans.specs.Endings.{Ending, rows, top, group, registers}
 use Rattle.plans.specs.Plans.{plan_tests}
 use Rattle.registers.specs.Registers.{register_count, registers_in, greater_of, is_rank, are_registers, kept_registers}
 use Rattle.list_registers.proofs.Merged.{merged_sixteen}
-use Rattle.list_group_merges.specs.declared.Merged.{Merged}
+use Rattle.std.specs.Prelude.{Result, Ok, Err}
+use Rattle.list_group_merges.specs.declared.MergeFault.{MergeFault}
+use Rattle.list_group_merges.specs.declared.MergeFault.TheVariants.{Overflow, NoRoom}
 use Rattle.lists.specs.Gathering.{kept_right, list_right, totals_fit, merged}
 use Rattle.list_group_merges.specs.MergingGroups as groups
 use Rattle.lists.specs.Putting.{Listed}
@@ -96,7 +98,7 @@ module _ (v : ℕ) (kept list : List ℕ) (h : both_right (registers v) kept lis
 groups_answer : (fit room : Bool) (n : ℕ) (after kept : List ℕ)
     → ◌≡◌ {A = WordsResult}
     (record {
-      answer = written_of (cond fit (cond room (Merged.Words n) Merged.NoRoom) Merged.Overflow);
+      answer = written_of (cond fit (cond room (Ok n) (Err NoRoom)) (Err Overflow));
       buffers = cond fit (cond room after kept) kept;
     })
     (cond fit (cond room (record { answer = Words n; buffers = after }) (record { answer = Refused 14; buffers = kept }))
@@ -174,7 +176,7 @@ module _ (i : MergeInput) where
     abbrev added : List ℕ
     added = merged (group vs m) (given_kept i) i.list
 
-    pub groups_merged : {after : List ℕ} {r : Merged} → r ≡ groups.groups_merged_as fits added i.kept
+    pub groups_merged : {after : List ℕ} {r : Result ℕ MergeFault} → r ≡ groups.groups_merged_as fits added i.kept
         → after ≡ groups.merged_over fits added i.kept
         → record { answer = written_of r; buffers = after } ≡ merge_of i
     groups_merged er ea =

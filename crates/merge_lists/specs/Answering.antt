@@ -1,13 +1,13 @@
 -- What the code of a merge starts from and answers, by what it has tested. Assumes nothing: these are definitions.
-use Rattle.std.specs.Prelude.{ℕ, ◌≤◌, ◌≡◌, Bool, ◌&&◌, List, length}
+use Rattle.std.specs.Prelude.{ℕ, ◌≤◌, ◌≡◌, Bool, ◌&&◌, Result, Ok, Err, List, length}
 use Rattle.std.proofs.Math.Option.{none}
 use Rattle.words.specs.declared.Written.{Written}
 use Rattle.words.specs.declared.Written.TheVariants.{Words, Refused}
 use Rattle.words.specs.Tests.{first_failing}
 use Rattle.plans.specs.Endings.{Ending, rows, top, group, registers, most_group_variables}
 use Rattle.plans.specs.Plans.{plan_of, plan_tests}
-use Rattle.list_group_merges.specs.declared.Merged.{Merged}
-use Rattle.list_group_merges.specs.declared.Merged.TheVariants as groups
+use Rattle.list_group_merges.specs.declared.MergeFault.{MergeFault}
+use Rattle.list_group_merges.specs.declared.MergeFault.TheVariants.{Overflow, NoRoom}
 use Rattle.lists.specs.Gathering.{kept_right, list_right}
 use Rattle.list_best.specs.BestLists.{TopParts}
 use Rattle.calls.specs.Words.{WordsResult}
@@ -35,7 +35,7 @@ MergedFor e kept given list r =
     (plan : List ℕ) → AcceptedPlan plan e → r ≡ merge_of (record { plan = plan; kept = kept; given = given; list = list })
 
 -- the answer of a merge of groups, by the tests' numbers
-abbrev pub written_of : Merged → Written
-written_of (groups.Words n) = Words n
-written_of groups.Overflow = Refused 13
-written_of groups.NoRoom = Refused 14
+abbrev pub written_of : Result ℕ MergeFault → Written
+written_of (Ok n) = Words n
+written_of (Err Overflow) = Refused 13
+written_of (Err NoRoom) = Refused 14

@@ -6,7 +6,7 @@ ghost use Rattle.plans.specs.Endings.{top, group, registers, most_group_variable
 ghost use Rattle.list_best.specs.BestLists.{TopParts};
 ghost use Rattle.merge_lists.specs.Answering.{both_right, written_of};
 
-use list_group_merges::Merged;
+use list_group_merges::MergeFault;
 use merges::{ROOM, TOTALS};
 use words::Written;
 
@@ -43,12 +43,12 @@ pub fn are_registers(kept: &[u32], list: &[u32]) -> bool
 }
 
 // The answer of the merge `m` of groups, by the tests' numbers.
-pub fn written(m: Merged) -> Written
+pub fn written(m: Result<usize, MergeFault>) -> Written
     ensures { result ≡ written_of m }
 {
     match m {
-        Merged::Words(n) => Written::Words(n),
-        Merged::Overflow => Written::Refused(TOTALS),
-        Merged::NoRoom => Written::Refused(ROOM),
+        Ok(n) => Written::Words(n),
+        Err(MergeFault::Overflow) => Written::Refused(TOTALS),
+        Err(MergeFault::NoRoom) => Written::Refused(ROOM),
     }
 }

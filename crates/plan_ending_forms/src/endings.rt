@@ -2,8 +2,7 @@
 ghost use Rattle.std.specs.Prelude.{◌≡◌};
 ghost use Rattle.plans.specs.Endings.{rows_form, keys_form, ending_form};
 
-use crate::Wanted;
-use crate::searches::all_wanted;
+use crate::searches::{all_keys, all_variables};
 use plan_endings::{ending_kind_of, row_width};
 use plans::{EndingKind, first};
 use words::PlanWord;
@@ -22,10 +21,7 @@ pub fn rows_form(p: &[u32]) -> bool
         return false;
     }
     let end = 1 + n;
-    if end <= p.len() {
-        return all_wanted(&p[1..end], Wanted::Variable);
-    }
-    false
+    end <= p.len() && all_variables(&p[1..end])
 }
 
 // Whether `p` is 1 to 4 keys.
@@ -35,10 +31,7 @@ pub fn keys_form(p: &[u32]) -> bool
     if p.len() == 0 {
         return false;
     }
-    if p.len() <= MOST_KEYS {
-        return all_wanted(p, Wanted::Key);
-    }
-    false
+    p.len() <= MOST_KEYS && all_keys(p)
 }
 
 // Whether `p` is one ending and nothing more.
@@ -46,12 +39,7 @@ pub fn ending_form(p: &[u32]) -> bool
     ensures { result ≡ ending_form p.now }
 {
     match ending_kind_of(first(p)) {
-        EndingKind::Rows => {
-            if rows_form(p) {
-                return p.len() == 1 + row_width(p);
-            }
-            false
-        }
+        EndingKind::Rows => rows_form(p) && p.len() == 1 + row_width(p),
         EndingKind::Top => {
             let rest = &p[1..];
             if rows_form(rest) {
@@ -61,17 +49,9 @@ pub fn ending_form(p: &[u32]) -> bool
             false
         }
         EndingKind::Group => {
-            if p.len() == 2 + words::wide(PlanWord(first(p)).low()) {
-                return all_wanted(&p[1..], Wanted::Variable);
-            }
-            false
+            p.len() == 2 + words::wide(PlanWord(first(p)).low()) && all_variables(&p[1..])
         }
-        EndingKind::Registers => {
-            if p.len() == REGISTERS_WORDS {
-                return all_wanted(&p[1..], Wanted::Variable);
-            }
-            false
-        }
+        EndingKind::Registers => p.len() == REGISTERS_WORDS && all_variables(&p[1..]),
         EndingKind::Invalid => false,
     }
 }

@@ -1,12 +1,10 @@
 // Tests of each word of a list.
 ghost use Rattle.std.specs.Prelude.{◌≡◌};
 ghost use Rattle.sequences.specs.Sequences.{all, distinct};
+ghost use Rattle.words.specs.Words.{is_variable};
 ghost use Rattle.plans.specs.Branches.{term_right};
 ghost use Rattle.plans.specs.Endings.{is_key};
-ghost use Rattle.plan_ending_forms.specs.Wanting.{is_wanted};
 
-use crate::Wanted;
-use plans::among;
 use words::{PlanWord, Term};
 
 // The number of a plan's variables.
@@ -16,13 +14,10 @@ pub const VARIABLES: u32 = 16;
 pub fn all_differ(words: &[u32]) -> bool
     ensures { result ≡ distinct words.now }
 {
-    let mut i: usize = 0;
-    while i < words.len() {
-        let after = i + 1;
-        if among(words[i], &words[after..]) {
+    for (i, word) in words.iter().enumerate() {
+        if words[i + 1..].contains(word) {
             return false;
         }
-        i = after;
     }
     true
 }
@@ -31,10 +26,7 @@ fn is_key(word: u32) -> bool
     ensures { result ≡ is_key word }
 {
     let kind = PlanWord(word).kind();
-    if kind == PlanWord::RISING {
-        return true;
-    }
-    kind == PlanWord::FALLING
+    kind == PlanWord::RISING || kind == PlanWord::FALLING
 }
 
 // Whether `word` is no variable above ?15.
@@ -42,32 +34,26 @@ fn is_right(word: u32) -> bool
     ensures { result ≡ term_right word }
 {
     let t = Term(word);
-    if t.is_variable() {
-        return t.value() < VARIABLES;
-    }
-    true
+    !t.is_variable() || t.value() < VARIABLES
 }
 
-fn is_wanted(word: u32, wanted: Wanted) -> bool
-    ensures { result ≡ is_wanted wanted word }
+// Whether each of `words` is a variable.
+pub fn all_variables(words: &[u32]) -> bool
+    ensures { result ≡ all is_variable words.now }
 {
-    match wanted {
-        Wanted::Variable => Term(word).is_variable(),
-        Wanted::Key => is_key(word),
-        Wanted::RightTerm => is_right(word),
-    }
+    words.iter().all(|word| Term(*word).is_variable())
 }
 
-// Whether each of `words` is what is `wanted`.
-pub fn all_wanted(words: &[u32], wanted: Wanted) -> bool
-    ensures { result ≡ all (is_wanted wanted) words.now }
+// Whether each of `words` is a key.
+pub fn all_keys(words: &[u32]) -> bool
+    ensures { result ≡ all is_key words.now }
 {
-    let mut i: usize = 0;
-    while i < words.len() {
-        if !is_wanted(words[i], wanted) {
-            return false;
-        }
-        i += 1;
-    }
-    true
+    words.iter().all(|word| is_key(*word))
+}
+
+// Whether none of `words` is a variable above ?15.
+pub fn all_right(words: &[u32]) -> bool
+    ensures { result ≡ all term_right words.now }
+{
+    words.iter().all(|word| is_right(*word))
 }

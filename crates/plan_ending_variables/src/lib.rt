@@ -10,7 +10,7 @@ ghost use Rattle.plans.specs.Reading.{is_read, branches_in};
 use plan_ending_forms::{all_differ, ending_form};
 use plan_endings::{ending_kind, keys, measured, variables};
 use plan_parts::branch_words;
-use plans::{EndingKind, among, terms};
+use plans::{EndingKind, terms};
 use words::{PlanWord, Term};
 
 // Whether one of the first `count` branches that `p` starts with has `word` among its patterns' terms.
@@ -19,14 +19,12 @@ pub fn some_binds(p: &[u32], count: u32, word: u32) -> bool
     ensures { result ≡ binds (branches_in count p.now) word }
 {
     let mut at: usize = 0;
-    let mut left = count;
-    while left > 0 {
+    for _ in 0..count {
         let rest = &p[at..];
-        if among(word, terms(rest)) {
+        if terms(rest).contains(&word) {
             return true;
         }
         at += branch_words(rest);
-        left -= 1;
     }
     false
 }
@@ -36,35 +34,20 @@ pub fn all_bound(p: &[u32], count: u32, list: &[u32]) -> bool
     requires { is_read (read_branches count p.now) ≡ true }
     ensures { result ≡ all (binds (branches_in count p.now)) list.now }
 {
-    let mut i: usize = 0;
-    while i < list.len() {
-        if !some_binds(p, count, list[i]) {
-            return false;
-        }
-        i += 1;
-    }
-    true
+    list.iter().all(|word| some_binds(p, count, *word))
 }
 
 fn is_key_among(key: u32, list: &[u32]) -> bool
     ensures { result ≡ key_among list.now key }
 {
-    let t = Term::variable(PlanWord(key).low());
-    among(t.0, list)
+    list.contains(&Term::variable(PlanWord(key).low()).0)
 }
 
 // Whether the variable of each of `keys` is in `list`.
 pub fn keys_among(keys: &[u32], list: &[u32]) -> bool
     ensures { result ≡ all (key_among list.now) keys.now }
 {
-    let mut i: usize = 0;
-    while i < keys.len() {
-        if !is_key_among(keys[i], list) {
-            return false;
-        }
-        i += 1;
-    }
-    true
+    keys.iter().all(|key| is_key_among(*key, list))
 }
 
 // Whether the variables of `list` are bound and differ.
@@ -72,10 +55,7 @@ fn variables_right(p: &[u32], count: u32, list: &[u32]) -> bool
     requires { is_read (read_branches count p.now) ≡ true }
     ensures { result ≡ (all (binds (branches_in count p.now)) list.now && distinct list.now) }
 {
-    if all_bound(p, count, list) {
-        return all_differ(list);
-    }
-    false
+    all_bound(p, count, list) && all_differ(list)
 }
 
 // Whether `e` is an ending whose variables are right, after the `count` branches that `p` starts with.

@@ -4,7 +4,7 @@ ghost use Rattle.plans.specs.Branches.{read_branch, read_branches};
 ghost use Rattle.plans.specs.Reading.{is_read, words_read};
 
 use crate::nodes::condition;
-use plans::{MOST_DEPTH, PATTERN_WIDTH, Tree, pattern_count};
+use plans::{MOST_DEPTH, PATTERN_WIDTH, pattern_count};
 
 // The words of the branch that `p` starts with.
 pub fn branch_words(p: &[u32]) -> usize
@@ -12,13 +12,9 @@ pub fn branch_words(p: &[u32]) -> usize
     ensures { result ≡ words_read (read_branch p.now) }
 {
     let at = 1 + PATTERN_WIDTH * pattern_count(p);
-    match condition(&p[at..], MOST_DEPTH, &p[..0]) {
-        Tree::Bad => at,
-        Tree::Reads {
-            words,
-            nodes,
-            bound,
-        } => at + words,
+    match condition(&p[at..], MOST_DEPTH, &[]) {
+        None => at,
+        Some(tree) => at + tree.words,
     }
 }
 
@@ -28,10 +24,8 @@ pub fn branches_words(p: &[u32], count: u32) -> usize
     ensures { result ≡ words_read (read_branches count p.now) }
 {
     let mut at: usize = 0;
-    let mut left = count;
-    while left > 0 {
+    for _ in 0..count {
         at += branch_words(&p[at..]);
-        left -= 1;
     }
     at
 }

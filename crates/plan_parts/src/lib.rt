@@ -13,7 +13,7 @@ ghost use Rattle.plans.specs.Plans.{read_plan, has_form, plan_of, branch_at};
 ghost use Rattle.plans.specs.Reading.{Gives, branch_start};
 
 pub use branches::branch_words;
-pub use nodes::{both, condition};
+pub use nodes::condition;
 use plans::{branch_count, condition_part, from_head, terms};
 
 // The part of `plan` behind its head.

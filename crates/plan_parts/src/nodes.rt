@@ -1,9 +1,9 @@
 // Conditions of a plan: one read, and whether its variables are bound.
-ghost use Rattle.std.specs.Prelude.{◌≡◌, ◌&&◌};
+ghost use Rattle.std.specs.Prelude.{◌≡◌};
 ghost use Rattle.plans.specs.Conditions.{read_condition, bound_in};
 ghost use Rattle.plans.specs.Reading.{tree_of, SmallTree, comparison_tree, over_tree, join_trees};
 
-use plans::{Node, Tree, among, node_of};
+use plans::{Node, Tree, node_of};
 use words::Term;
 
 // A comparison's words: itself and two terms.
@@ -13,57 +13,32 @@ pub const COMPARISON_WORDS: usize = 3;
 fn is_bound(word: u32, terms: &[u32]) -> bool
     ensures { result ≡ bound_in terms.now word }
 {
-    if Term(word).is_variable() {
-        return among(word, terms);
-    }
-    true
-}
-
-fn both_bound(a: u32, b: u32, terms: &[u32]) -> bool
-    ensures { result ≡ (bound_in terms.now a && bound_in terms.now b) }
-{
-    if is_bound(a, terms) {
-        return is_bound(b, terms);
-    }
-    false
-}
-
-pub fn both(a: bool, b: bool) -> bool
-    ensures { result ≡ (a && b) }
-{
-    if a { b } else { false }
+    !Term(word).is_variable() || terms.contains(&word)
 }
 
 // The comparison that `p` starts with: its word and two terms.
-fn comparison(p: &[u32], terms: &[u32]) -> Tree
+fn comparison(p: &[u32], terms: &[u32]) -> Option<Tree>
     ensures { result ≡ comparison_tree terms.now p.now }
 {
     if p.len() < COMPARISON_WORDS {
-        return Tree::Bad;
+        return None;
     }
-    Tree::Reads {
+    Some(Tree {
         words: COMPARISON_WORDS,
         nodes: 1,
-        bound: both_bound(p[1], p[2], terms),
-    }
+        bound: is_bound(p[1], terms) && is_bound(p[2], terms),
+    })
 }
 
-// The condition `tree` under one more node.
-fn over(tree: Tree) -> Tree
-    requires { SmallTree tree }
-    ensures { result ≡ over_tree tree }
+// The condition `inner` under one more node.
+fn over(inner: Tree) -> Tree
+    requires { SmallTree inner }
+    ensures { result ≡ over_tree inner }
 {
-    match tree {
-        Tree::Bad => Tree::Bad,
-        Tree::Reads {
-            words,
-            nodes,
-            bound,
-        } => Tree::Reads {
-            words: 1 + words,
-            nodes: 1 + nodes,
-            bound: bound,
-        },
+    Tree {
+        words: 1 + inner.words,
+        nodes: 1 + inner.nodes,
+        bound: inner.bound,
     }
 }
 
@@ -72,59 +47,40 @@ fn join(first: Tree, second: Tree) -> Tree
     requires { SmallTree first × SmallTree second }
     ensures { result ≡ join_trees first second }
 {
-    match first {
-        Tree::Bad => Tree::Bad,
-        Tree::Reads {
-            words,
-            nodes,
-            bound,
-        } => match second {
-            Tree::Bad => Tree::Bad,
-            Tree::Reads {
-                words: more,
-                nodes: others,
-                bound: also,
-            } => Tree::Reads {
-                words: 1 + words + more,
-                nodes: 1 + nodes + others,
-                bound: both(bound, also),
-            },
-        },
+    Tree {
+        words: 1 + first.words + second.words,
+        nodes: 1 + first.nodes + second.nodes,
+        bound: first.bound && second.bound,
     }
 }
 
 // Reads the condition at the start of `p`, at most `left` deep, of a branch whose patterns have the terms `terms`.
-pub fn condition(p: &[u32], left: u32, terms: &[u32]) -> Tree
+pub fn condition(p: &[u32], left: u32, terms: &[u32]) -> Option<Tree>
     ensures { result ≡ tree_of terms.now (read_condition left p.now) }
 {
     if left == 0 {
-        return Tree::Bad;
+        return None;
     }
     if p.len() == 0 {
-        return Tree::Bad;
+        return None;
     }
     match node_of(p[0]) {
-        Node::Wrong => Tree::Bad,
-        Node::Always => Tree::Reads {
+        Node::Wrong => None,
+        Node::Always => Some(Tree {
             words: 1,
             nodes: 1,
             bound: true,
-        },
+        }),
         Node::Compared => comparison(p, terms),
-        Node::Negated => over(condition(&p[1..], left - 1, terms)),
+        Node::Negated => {
+            let inner = condition(&p[1..], left - 1, terms)?;
+            Some(over(inner))
+        }
         Node::Pair => {
-            let first = condition(&p[1..], left - 1, terms);
-            match first {
-                Tree::Bad => Tree::Bad,
-                Tree::Reads {
-                    words,
-                    nodes: _,
-                    bound: _,
-                } => {
-                    let skip = 1 + words;
-                    join(first, condition(&p[skip..], left - 1, terms))
-                }
-            }
+            let first = condition(&p[1..], left - 1, terms)?;
+            let skip = 1 + first.words;
+            let second = condition(&p[skip..], left - 1, terms)?;
+            Some(join(first, second))
         }
     }
 }

@@ -9,12 +9,12 @@ use mathlib.Core.List.{List, ◌∷◌}
 use lib.Dec.{leb}
 use lib.ListN.{length, get_or, take, drop}
 use borrow.Author.Tests.{ne_eqb, lt-ltb, le-ltb}
+use Rattle.std.specs.Prelude.{Option, None, Some, option_map}
+use Rattle.std.proofs.lemmas.Option.{none-some}
 use Rattle.sequences.specs.Sequences.{all}
 use Rattle.sequences.proofs.Walking.{rest_of, rest_length}
 use Rattle.plan_tests.specs.declared.Part.{Part}
-use Rattle.plan_tests.specs.declared.Part.TheVariants.{Ends, Broken}
 use Rattle.plans.specs.declared.Tree.{Tree}
-use Rattle.plans.specs.declared.Tree.TheVariants.{Reads, Bad}
 use Rattle.plans.specs.Conditions.{Condition, Read, next, read_condition, nodes, most_depth, most_nodes}
 use Rattle.plans.specs.Branches.{Branch, pattern_width, pattern_count, with_condition, read_branch, read_branches, term_right, branch_right}
 use Rattle.plans.specs.Reading.{is_read, words_read, tree_of}
@@ -24,34 +24,38 @@ use Rattle.plans.proofs.BranchRead.{branch_in_lem, lent_terms, lent_terms_lem}
 use Rattle.plans.proofs.BranchList.{branches_fit}
 
 -- ---- a part that was read takes no more words than there are
+answer_words : Option Part → ℕ
+answer_words None = 0
+answer_words (Some a) = a.words
+
 module _ {A : Type 0} (test : A → Bool) where
-  pub ends_words : (r : Read A) (w : ℕ) (b : Bool) → part_of test r ≡ Ends w b → words_read r ≡ w
-  ends_words none w b e = let z : ◌≡◌ {A = ℕ} 0 1 = cc in absurd (omega arith)
-  ends_words (some x) w b e = cc
+  pub part_words : (r : Read A) (a : Part) → part_of test r ≡ Some a → words_read r ≡ a.words
+  unfolding answer_words
+  part_words none a e = absurd (none-some a e)
+  part_words (some x) a e = ap answer_words e
 
-  pub ends_read : (r : Read A) (w : ℕ) (b : Bool) → part_of test r ≡ Ends w b → is_read r ≡ true
-  ends_read none w b e = let z : ◌≡◌ {A = ℕ} 0 1 = cc in absurd (omega arith)
-  ends_read (some x) w b e = refl
+  pub part_read : (r : Read A) (a : Part) → part_of test r ≡ Some a → is_read r ≡ true
+  part_read none a e = absurd (none-some a e)
+  part_read (some x) a e = refl
 
-pub branch_words_lem : (ws : List ℕ) (w : ℕ) (b : Bool) → part_of branch_right (read_branch ws) ≡ Ends w b → w ≤ length ws
-branch_words_lem ws w b e =
-    omega (arith, ends_words branch_right (read_branch ws) w b e, (branch_in_lem ws (ends_read branch_right (read_branch ws) w b e)).fit)
+pub branch_words_lem : (ws : List ℕ) (a : Part) → part_of branch_right (read_branch ws) ≡ Some a → a.words ≤ length ws
+branch_words_lem ws a e =
+    omega (arith, part_words branch_right (read_branch ws) a e, (branch_in_lem ws (part_read branch_right (read_branch ws) a e)).fit)
 
-pub branches_words : (n : ℕ) (ws : List ℕ) (w : ℕ) (b : Bool) → part_of (all branch_right) (read_branches n ws) ≡ Ends w b
-    → w ≤ length ws
-branches_words n ws w b e =
+pub branches_words : (n : ℕ) (ws : List ℕ) (a : Part) → part_of (all branch_right) (read_branches n ws) ≡ Some a → a.words ≤ length ws
+branches_words n ws a e =
     omega (
       arith,
-      ends_words (all branch_right) (read_branches n ws) w b e,
-      branches_fit n ws (ends_read (all branch_right) (read_branches n ws) w b e),
+      part_words (all branch_right) (read_branches n ws) a e,
+      branches_fit n ws (part_read (all branch_right) (read_branches n ws) a e),
     )
 
 -- ---- a branch, from its condition
-abbrev pub branch_part : ℕ → Bool → Tree → Part
-branch_part at right Bad = Broken
-branch_part at right (Reads w n b) = cond (leb n most_nodes) (Ends (at + w) (right && b)) Broken
+abbrev pub branch_part : ℕ → Bool → Option Tree → Option Part
+branch_part at right None = None
+branch_part at right (Some a) = cond (leb a.nodes most_nodes) (Some (record { words = at + a.words; right = right && a.bound })) None
 
-kept : (t : Bool) (x : Branch × ℕ) → part_of branch_right (cond t (some x) none) ≡ cond t (Ends x.1 (branch_right x.0)) Broken
+kept : (t : Bool) (x : Branch × ℕ) → part_of branch_right (cond t (some x) none) ≡ cond t (Some (record { words = x.1; right = branch_right x.0 })) None
 kept true x = refl
 kept false x = refl
 
@@ -77,7 +81,7 @@ module _ (ws : List ℕ) (n : ℕ) (en : n ≡ pattern_count (get_or ws 0 0)) wh
     unfolding read_branch
     branch_long h = rw (← en, ne_eqb n 0 hn, le-ltb (length ws) (1 + pattern_width * n) h)
 
-    module _ (h : 1 + pattern_width * n ≤ length ws) (l : Tree)
+    module _ (h : 1 + pattern_width * n ≤ length ws) (l : Option Tree)
         (el : l ≡ tree_of (lent_terms n ws) (read_condition most_depth (take (length ws - (1 + pattern_width * n)) (drop (1 + pattern_width * n) ws))))
       where
         pub branch_with : part_of branch_right (read_branch ws) ≡ branch_part (1 + pattern_width * n) (all term_right (lent_terms n ws)) l
@@ -86,28 +90,26 @@ module _ (ws : List ℕ) (n : ℕ) (en : n ≡ pattern_count (get_or ws 0 0)) wh
             ∙ part_of_lem n ws (lent_terms n ws) (lent_terms_lem n ws) (read_condition most_depth (drop (1 + pattern_width * n) ws))
             ∙ rw (el, rest_of)
 
-        pub condition_words_lem : (w k : ℕ) (b : Bool) → l ≡ Reads w k b → 1 + pattern_width * n + w ≤ length ws
-        condition_words_lem w k b e =
+        pub condition_words_lem : (a : Tree) → l ≡ Some a → 1 + pattern_width * n + a.words ≤ length ws
+        condition_words_lem a e =
             omega (
               arith,
               rest_length ws (1 + pattern_width * n),
-              tree_words (lent_terms n ws) most_depth (take (length ws - (1 + pattern_width * n)) (drop (1 + pattern_width * n) ws)) l el w k b e,
+              tree_words (lent_terms n ws) most_depth (take (length ws - (1 + pattern_width * n)) (drop (1 + pattern_width * n) ws)) l el a e,
             )
 
 -- ---- branches, from the first and the rest
 abbrev pub join_parts : Part → Part → Part
-join_parts Broken q = Broken
-join_parts (Ends w a) Broken = Broken
-join_parts (Ends w a) (Ends m b) = Ends (w + m) (a && b)
+join_parts a b = record { words = a.words + b.words; right = a.right && b.right }
 
 -- the rest is read where the first ends
-abbrev pub part_then : Part → (ℕ → Part) → Part
-part_then Broken f = Broken
-part_then (Ends w a) f = join_parts (Ends w a) (f w)
+abbrev pub part_then : Option Part → (ℕ → Option Part) → Option Part
+part_then None f = None
+part_then (Some a) f = option_map (join_parts a) (f a.words)
 
 rest_part : (x : Branch × ℕ) (r : Read (List Branch))
     → part_of (all branch_right) (next r (λ y. some (x.0 ∷ y.0, x.1 + y.1)))
-    ≡ join_parts (Ends x.1 (branch_right x.0)) (part_of (all branch_right) r)
+    ≡ option_map (join_parts (record { words = x.1; right = branch_right x.0 })) (part_of (all branch_right) r)
 unfolding all
 rest_part x none = refl
 rest_part x (some y) = refl
@@ -118,7 +120,7 @@ two_parts : (g : List ℕ → Read (List Branch)) (ws : List ℕ) (r : Read Bran
 two_parts g ws none = refl
 two_parts g ws (some x) = rest_part x (g (drop x.1 ws))
 
-pub no_branches : (n : ℕ) (ws : List ℕ) → n ≡ 0 → part_of (all branch_right) (read_branches n ws) ≡ Ends 0 true
+pub no_branches : (n : ℕ) (ws : List ℕ) → n ≡ 0 → part_of (all branch_right) (read_branches n ws) ≡ Some (record { words = 0; right = true })
 unfolding read_branches all
 no_branches zero ws h = refl
 no_branches (suc n) ws h = absurd (omega arith)
@@ -130,18 +132,23 @@ unfolding read_branches
 branches_step zero ws h = absurd (h refl)
 branches_step (suc n) ws h = rw sub-one (two_parts (read_branches n) ws (read_branch ws))
 
-module _ (n : ℕ) (ws : List ℕ) (hn : n ≡ 0 → ⊥) (l : Part) (el : l ≡ part_of branch_right (read_branch ws)) where
-  pub branches_broken : l ≡ Broken → part_of (all branch_right) (read_branches n ws) ≡ Broken
+module _ (n : ℕ) (ws : List ℕ) (hn : n ≡ 0 → ⊥) (l : Option Part) (el : l ≡ part_of branch_right (read_branch ws)) where
+  pub branches_broken : l ≡ None → part_of (all branch_right) (read_branches n ws) ≡ None
   branches_broken e = branches_step n ws hn ∙ rw (← el, e)
 
-  module _ (w : ℕ) (a : Bool) (e : l ≡ Ends w a) where
-    pub first_words : w ≤ length ws
-    first_words = branch_words_lem ws w a (sym el ∙ e)
+  module _ (a : Part) (e : l ≡ Some a) where
+    pub first_words : a.words ≤ length ws
+    first_words = branch_words_lem ws a (sym el ∙ e)
 
-    module _ (r : Part) (er : r ≡ part_of (all branch_right) (read_branches (n - 1) (take (length ws - w) (drop w ws)))) where
-      pub rest_words : (m : ℕ) (b : Bool) → r ≡ Ends m b → w + m ≤ length ws
-      rest_words m b x =
-          omega (arith, first_words, rest_length ws w, branches_words (n - 1) (take (length ws - w) (drop w ws)) m b (sym er ∙ x))
+    module _ (r : Option Part) (er : r ≡ part_of (all branch_right) (read_branches (n - 1) (take (length ws - a.words) (drop a.words ws)))) where
+      pub rest_words : (b : Part) → r ≡ Some b → a.words + b.words ≤ length ws
+      rest_words b x =
+          omega (
+            arith,
+            first_words,
+            rest_length ws a.words,
+            branches_words (n - 1) (take (length ws - a.words) (drop a.words ws)) b (sym er ∙ x),
+          )
 
-      pub branches_two : part_of (all branch_right) (read_branches n ws) ≡ join_parts (Ends w a) r
+      pub branches_two : part_of (all branch_right) (read_branches n ws) ≡ option_map (join_parts a) r
       branches_two = branches_step n ws hn ∙ rw (← el, e, er, rest_of)

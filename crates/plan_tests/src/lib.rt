@@ -12,7 +12,6 @@ ghost use Rattle.plan_tests.specs.Testing.{plan_number};
 use plan_ending_forms::ending_form;
 use plan_ending_variables::ending_right;
 use plan_numbers::{FORM, number_of};
-use plan_parts::both;
 use plans::{Years, year_allowed};
 
 pub const MOST_WORDS: usize = 256;
@@ -20,11 +19,11 @@ pub const MOST_WORDS: usize = 256;
 // The number of the test of a plan's variables.
 pub const VARIABLES: u32 = plan_numbers::VARIABLES;
 
-// A part of a plan that was read: its words, and whether its variables are right; or no such part.
+// A part of a plan that was read: its words, and whether its variables are right.
 #[derive(Clone, Copy)]
-pub enum Part {
-    Ends { words: usize, right: bool },
-    Broken,
+pub struct Part {
+    pub words: usize,
+    pub right: bool,
 }
 
 // The check of a plan that reads `years`, from `body` on, the words after its head: there `count` branches and one ending are to stand.
@@ -32,12 +31,12 @@ fn check_body(years: Years, body: &[u32], count: u32) -> u32
     ensures { result ≡ plan_number (with_ending years body.now (read_branches count body.now)) }
 {
     match branches::branches(body, count) {
-        Part::Broken => FORM,
-        Part::Ends { words, right } => {
-            let e = &body[words..];
+        None => FORM,
+        Some(part) => {
+            let e = &body[part.words..];
             number_of(
                 ending_form(e),
-                both(right, ending_right(body, count, e)),
+                part.right && ending_right(body, count, e),
                 year_allowed(years),
             )
         }

@@ -20,7 +20,8 @@ use Rattle.plans.specs.Years.{years_in, head_of, body_of}
 use Rattle.plans.specs.Conditions.{Condition, Read, next, read_condition, nodes, most_depth, most_nodes}
 use Rattle.plans.specs.Branches.{Branch, pattern_width, most_patterns, pattern_count, with_condition, read_branch, read_branches, nth_branch}
 use Rattle.plans.specs.Endings.{most_row_variables, most_best, default_best, most_keys, most_group_variables}
-use Rattle.plans.specs.Endings.{best_count, row_width, row_variables, after_rows, rows_form, keys_form, ending_kind_of, form_as, ending_form, ending_as, ending_at}
+use Rattle.plans.specs.Endings.{best_count, row_width, row_variables, after_rows, rows_form, keys_form, ending_kind_of, form_as, ending_form, ending_as}
+use Rattle.plans.specs.Endings.{ending_at}
 pub use Rattle.plans.specs.Forms.{BranchForm, RowForm, TopForm, GroupForm, EndingForm}
 use Rattle.plans.specs.Plans.{Plan, most_branches, most_plan_words, branch_count, with_ending, read_plan, has_form, plan_or, branch_at}
 

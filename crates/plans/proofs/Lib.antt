@@ -2,6 +2,7 @@ pub mod Bounds
 pub mod VariableBounds
 pub mod Operators
 pub mod Trees
+pub mod Chains
 pub mod Readers
 pub mod Given
 pub mod BranchRead

@@ -20,7 +20,8 @@ use Rattle.plans.specs.Years.{years_in, year_words, from_head, head_of, body_of,
 use Rattle.plans.specs.Conditions.{Read}
 use Rattle.plans.specs.Branches.{Branch, read_branches}
 use Rattle.plans.specs.Endings.{ending_form}
-use Rattle.plans.specs.Plans.{Plan, most_branches, most_plan_words, branch_count, with_ending, read_plan, variables_right, has_form, plan_or, plan_of, plan_tests}
+use Rattle.plans.specs.Plans.{Plan, most_branches, most_plan_words, branch_count, with_ending, read_plan, variables_right, has_form, plan_or, plan_of}
+use Rattle.plans.specs.Plans.{plan_tests}
 use Rattle.plans.specs.Grammar.{branch_words, years_words, YearNumbered, PlanWords, YearKnown, PlanAccepted}
 use Rattle.plans.proofs.Bounds.{cond_some, was_read}
 use Rattle.plans.proofs.ConditionWords.{behind_part}

@@ -2,7 +2,7 @@
 use Prim.Native.Nat.{ℕ, zero, suc, ◌+◌, ◌-◌, ◌≤◌, ◌<◌}
 use native.Mathlib.Omega.{arith}
 use native.Mathlib.Numerals.{sub-one}
-use mathlib.Core.Path.{◌≡◌, refl, sym, ◌∙◌}
+use mathlib.Core.Path.{◌≡◌, refl, sym, ◌∙◌, ap}
 use mathlib.Core.Bool.{Bool, true, false, cond}
 use mathlib.Core.Option.{none, some}
 use mathlib.Core.List.{List, [], ◌∷◌}
@@ -10,12 +10,13 @@ use lib.Dec.{eqb}
 use lib.ListN.{length, get_or, take, drop, length-drop}
 use lib.Seq.{drop-drop}
 use borrow.Author.Tests.{le-ltb}
+use Rattle.std.specs.Prelude.{Option, None, Some, option_map}
+use Rattle.std.proofs.lemmas.Option.{none-some}
 use Rattle.words.specs.Words.{kind, and_kind}
 use Rattle.sequences.proofs.Walking.{rest_of, rest_length}
 use Rattle.plans.specs.declared.Node.{Node}
 use Rattle.plans.specs.declared.Node.TheVariants.{Always, Pair, Negated, Compared, Wrong}
 use Rattle.plans.specs.declared.Tree.{Tree}
-use Rattle.plans.specs.declared.Tree.TheVariants.{Reads, Bad}
 use Rattle.plans.specs.Conditions.{Condition, both, either, negated, Read, next, node_of, pair_of, read_node, read_condition, nodes, all_bound}
 use Rattle.plans.specs.Reading.{words_read, tree_of, comparison_tree, over_tree, join_trees, SmallTree}
 
@@ -82,58 +83,72 @@ fits zero ws = tt
 fits (suc d) [] = tt
 fits (suc d) (w ∷ ws) = node_fits (read_condition d) (fits d) (node_of w) w ws
 
--- ---- the words and nodes of an answer can be added up
-small : (ts : List ℕ) (x : Read Condition) (len : ℕ) → len < 0x2000_0000_0000_0000 → Fits x len → SmallTree (tree_of ts x)
-small ts none len b h = tt
-small ts (some x) len b h = (omega arith, omega arith)
+-- ---- the words of an answer, and its nodes
+answer_words : Option Tree → ℕ
+answer_words None = 0
+answer_words (Some a) = a.words
 
-words_fit : (ts : List ℕ) (x : Read Condition) (len w n : ℕ) (b : Bool) → Fits x len → tree_of ts x ≡ Reads w n b → w ≤ len
-words_fit ts none len w n b h e = let z : ◌≡◌ {A = ℕ} 0 1 = cc in absurd (omega arith)
-words_fit ts (some x) len w n b h e = let k : x.1 ≡ w = cc in omega arith
+answer_nodes : Option Tree → ℕ
+answer_nodes None = 0
+answer_nodes (Some a) = a.nodes
 
--- the words of an answer
-pub bad_words : (ts : List ℕ) (r : Read Condition) → tree_of ts r ≡ Bad → words_read r ≡ 0
-bad_words ts none e = refl
-bad_words ts (some x) e = cc
+answer_fits : (ts : List ℕ) (x : Read Condition) (len : ℕ) (a : Tree) → Fits x len → tree_of ts x ≡ Some a → (a.words ≤ len) × (a.nodes ≤ a.words)
+unfolding answer_words answer_nodes
+answer_fits ts none len a h e = absurd (none-some a e)
+answer_fits ts (some x) len a h e =
+    let w : x.1 ≡ a.words = ap answer_words e in let n : nodes x.0 ≡ a.nodes = ap answer_nodes e in (omega arith, omega arith)
 
-pub reads_words : (ts : List ℕ) (r : Read Condition) (w n : ℕ) (b : Bool) → tree_of ts r ≡ Reads w n b → words_read r ≡ w
-reads_words ts none w n b e = cc
-reads_words ts (some x) w n b e = cc
+pub unread_words : (ts : List ℕ) (r : Read Condition) → tree_of ts r ≡ None → words_read r ≡ 0
+unread_words ts none e = refl
+unread_words ts (some x) e = cc
 
-module _ (ts : List ℕ) (d : ℕ) (ws : List ℕ) (l : Tree) (el : l ≡ tree_of ts (read_condition d ws)) where
-  pub tree_small : length ws < 0x2000_0000_0000_0000 → SmallTree l
-  tree_small b = rw el (small ts (read_condition d ws) (length ws) b (fits d ws))
+pub tree_words_read : (ts : List ℕ) (r : Read Condition) (a : Tree) → tree_of ts r ≡ Some a → words_read r ≡ a.words
+unfolding answer_words
+tree_words_read ts none a e = absurd (none-some a e)
+tree_words_read ts (some x) a e = ap answer_words e
 
-  pub tree_words : (w n : ℕ) (b : Bool) → l ≡ Reads w n b → w ≤ length ws
-  tree_words w n b e = words_fit ts (read_condition d ws) (length ws) w n b (fits d ws) (sym el ∙ e)
+module _ (ts : List ℕ) (d : ℕ) (ws : List ℕ) (l : Option Tree) (el : l ≡ tree_of ts (read_condition d ws)) (a : Tree) (e : l ≡ Some a) where
+  tree_fits : (a.words ≤ length ws) × (a.nodes ≤ a.words)
+  tree_fits = answer_fits ts (read_condition d ws) (length ws) a (fits d ws) (sym el ∙ e)
+
+  -- they can be added up
+  pub tree_small : length ws < 0x2000_0000_0000_0000 → SmallTree a
+  tree_small b = let f = tree_fits in (omega arith, omega arith)
+
+  pub tree_words : a.words ≤ length ws
+  tree_words = tree_fits.0
 
 -- the same of a part that is read from a place on
-pub part_small : (ts : List ℕ) (d : ℕ) (ws : List ℕ) (at : ℕ) (l : Tree)
-    → l ≡ tree_of ts (read_condition d (take (length ws - at) (drop at ws))) → length ws < 0x2000_0000_0000_0000 → SmallTree l
-part_small ts d ws at l el b = tree_small ts d (take (length ws - at) (drop at ws)) l el (omega (arith, rest_length ws at))
+pub part_small : (ts : List ℕ) (d : ℕ) (ws : List ℕ) (at : ℕ) (l : Option Tree)
+    → l ≡ tree_of ts (read_condition d (take (length ws - at) (drop at ws))) → (a : Tree) → l ≡ Some a
+    → length ws < 0x2000_0000_0000_0000 → SmallTree a
+part_small ts d ws at l el a e b = tree_small ts d (take (length ws - at) (drop at ws)) l el a e (omega (arith, rest_length ws at))
 
 module _ (ts : List ℕ) where
   -- ---- what is answered of a node, from what is answered of those inside
-  over_of : (x : Read Condition) → tree_of ts (next x (λ y. some (negated y.0, 1 + y.1))) ≡ over_tree (tree_of ts x)
+  over_of : (x : Read Condition) → tree_of ts (next x (λ y. some (negated y.0, 1 + y.1))) ≡ option_map over_tree (tree_of ts x)
   unfolding nodes all_bound
   over_of none = refl
   over_of (some x) = refl
 
+  abbrev whole : Condition → ℕ → Tree
+  whole a m = record { words = m; nodes = nodes a; bound = all_bound ts a }
+
   pair_tree_lem : (t : Bool) (a b : Condition) (m n : ℕ)
-      → tree_of ts (some (cond t (both a b) (either a b), 1 + m + n)) ≡ join_trees (tree_of ts (some (a, m))) (tree_of ts (some (b, n)))
+      → tree_of ts (some (cond t (both a b) (either a b), 1 + m + n)) ≡ Some (join_trees (whole a m) (whole b n))
   unfolding nodes all_bound
   pair_tree_lem true a b m n = refl
   pair_tree_lem false a b m n = refl
 
   second_of : (w m : ℕ) (a : Condition) (y : Read Condition)
-      → tree_of ts (next y (λ y. some (pair_of w a y.0, 1 + m + y.1))) ≡ join_trees (tree_of ts (some (a, m))) (tree_of ts y)
+      → tree_of ts (next y (λ y. some (pair_of w a y.0, 1 + m + y.1))) ≡ option_map (join_trees (whole a m)) (tree_of ts y)
   second_of w m a none = refl
   second_of w m a (some y) = pair_tree_lem (eqb (kind w) and_kind) a y.0 m y.1
 
   -- two conditions, the second read where the first ends
-  abbrev pub pair_tree : Tree → (ℕ → Tree) → Tree
-  pair_tree Bad f = Bad
-  pair_tree (Reads w n b) f = join_trees (Reads w n b) (f w)
+  abbrev pub pair_tree : Option Tree → (ℕ → Option Tree) → Option Tree
+  pair_tree None f = None
+  pair_tree (Some a) f = option_map (join_trees a) (f a.words)
 
   pair_of_lem : (w : ℕ) (inner : List ℕ → Read Condition) (ws : List ℕ) (x : Read Condition)
       → tree_of ts (next x (λ x. next (inner (drop x.1 ws)) (λ y. some (pair_of w x.0 y.0, 1 + x.1 + y.1))))
@@ -154,26 +169,25 @@ module _ (ts : List ℕ) where
     here : (k : Node) → t ≡ k → read_condition d ws ≡ read_node k (read_condition (d - 1)) (get_or ws 0 0) (drop 1 ws)
     here k e = at_node d ws hd hw ∙ rw (← et, e)
 
-    pub at_wrong : t ≡ Wrong → tree_of ts (read_condition d ws) ≡ Bad
+    pub at_wrong : t ≡ Wrong → tree_of ts (read_condition d ws) ≡ None
     unfolding read_node
     at_wrong e = rw (here Wrong e)
 
-    pub at_always : t ≡ Always → tree_of ts (read_condition d ws) ≡ Reads 1 1 true
+    pub at_always : t ≡ Always → tree_of ts (read_condition d ws) ≡ Some (record { words = 1; nodes = 1; bound = true })
     unfolding read_node nodes all_bound
     at_always e = rw (here Always e)
 
     pub at_compared : t ≡ Compared → tree_of ts (read_condition d ws) ≡ comparison_tree ts ws
     at_compared e = rw (here Compared e) (compared_of (read_condition (d - 1)) (get_or ws 0 0) ws)
 
-    module _ (l : Tree) (el : l ≡ tree_of ts (read_condition (d - 1) (take (length ws - 1) (drop 1 ws)))) where
+    module _ (l : Option Tree) (el : l ≡ tree_of ts (read_condition (d - 1) (take (length ws - 1) (drop 1 ws)))) where
       first : tree_of ts (read_condition (d - 1) (drop 1 ws)) ≡ l
       first = sym (el ∙ rw rest_of)
 
-      pub first_words : (w n : ℕ) (b : Bool) → l ≡ Reads w n b → 1 + w ≤ length ws
-      first_words w n b e =
-          omega (arith, hw, rest_length ws 1, tree_words ts (d - 1) (take (length ws - 1) (drop 1 ws)) l el w n b e)
+      pub first_words : (a : Tree) → l ≡ Some a → 1 + a.words ≤ length ws
+      first_words a e = omega (arith, hw, rest_length ws 1, tree_words ts (d - 1) (take (length ws - 1) (drop 1 ws)) l el a e)
 
-      pub at_not : t ≡ Negated → tree_of ts (read_condition d ws) ≡ over_tree l
+      pub at_not : t ≡ Negated → tree_of ts (read_condition d ws) ≡ option_map over_tree l
       unfolding read_node
       at_not e = rw (here Negated e, over_of, first)
 
@@ -182,11 +196,11 @@ module _ (ts : List ℕ) where
       at_pair e =
           rw (here Pair e, pair_of_lem (get_or ws 0 0) (read_condition (d - 1)) (drop 1 ws) (read_condition (d - 1) (drop 1 ws)), first)
 
-      pub at_half : t ≡ Pair → l ≡ Bad → tree_of ts (read_condition d ws) ≡ Bad
+      pub at_half : t ≡ Pair → l ≡ None → tree_of ts (read_condition d ws) ≡ None
       at_half e b = at_pair e ∙ rw b
 
-      pub at_two : t ≡ Pair → (w n : ℕ) (b : Bool) → l ≡ Reads w n b
-          → (r : Tree) → r ≡ tree_of ts (read_condition (d - 1) (take (length ws - (1 + w)) (drop (1 + w) ws)))
-          → tree_of ts (read_condition d ws) ≡ join_trees l r
-      at_two e w n b el r er =
+      pub at_two : t ≡ Pair → (a : Tree) → l ≡ Some a
+          → (r : Option Tree) → r ≡ tree_of ts (read_condition (d - 1) (take (length ws - (1 + a.words)) (drop (1 + a.words) ws)))
+          → tree_of ts (read_condition d ws) ≡ option_map (join_trees a) r
+      at_two e a el r er =
           at_pair e ∙ rw (el, er, rest_of, drop-drop)

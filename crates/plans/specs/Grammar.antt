@@ -2,7 +2,8 @@
 -- may name. Nothing here reads words. Assumes nothing: these are definitions.
 use Rattle.std.specs.Prelude.{ℕ, zero, suc, ◌/◌, ◌≤◌, ◌<◌, ◌≡◌, true, length, get_or}
 use mathlib.Core.List.{List, [], ◌∷◌, ◌++◌, map, flatten}
-use Rattle.words.specs.Words.{low_numbers, low, word, is_variable, term_value, variable, most_year, year_word, head_kind, branch_kind, true_kind, and_kind, or_kind}
+use Rattle.words.specs.Words.{low_numbers, low, word, is_variable, term_value, variable, most_year, year_word, head_kind, branch_kind, true_kind, and_kind}
+use Rattle.words.specs.Words.{or_kind}
 use Rattle.words.specs.Words.{not_kind, comparison_kind, last_operator, rows_kind, top_kind, group_kind, registers_kind}
 use Rattle.words.specs.Bindings.{variable_count}
 use Rattle.sequences.specs.Sequences.{member}

@@ -1,5 +1,5 @@
 -- What the code answers of the words that it reads. Assumes nothing: these are definitions.
-use Rattle.std.specs.Prelude.{ℕ, ◌+◌, ◌<◌, ◌≡◌, Bool, true, false, cond, ◌&&◌, List, [], ◌∷◌, eqb, leb, ltb, length, get_or}
+use Rattle.std.specs.Prelude.{ℕ, ◌+◌, ◌<◌, ◌≡◌, Bool, true, false, cond, ◌&&◌, List, [], ◌∷◌, eqb, leb, ltb, length, get_or, Option, None, Some}
 use Rattle.std.proofs.Math.Option.{none, some}
 use Rattle.words.specs.Words.{kind, low}
 use Rattle.plans.specs.Conditions.{Condition, Read, comparison_words, nodes, bound_in, all_bound}
@@ -9,7 +9,6 @@ use Rattle.plans.specs.Years.{year_words, body_of}
 use Rattle.plans.specs.declared.EndingKind.{EndingKind}
 use Rattle.plans.specs.declared.EndingKind.TheVariants.{Rows, Top, Group, Registers}
 use Rattle.plans.specs.declared.Tree.{Tree}
-use Rattle.plans.specs.declared.Tree.TheVariants.{Reads, Bad}
 
 -- ---- words
 -- the count in the word `w`, 0 where it is not of the kind `k` or the count is above `most`
@@ -37,29 +36,26 @@ Gives r a = r ≡ some (a, words_read r)
 
 -- ---- answers
 -- a condition: its words, its nodes, and whether its variables are among a branch's terms
-abbrev pub tree_of : List ℕ → Read Condition → Tree
-tree_of terms none = Bad
-tree_of terms (some x) = Reads x.1 (nodes x.0) (all_bound terms x.0)
+abbrev pub tree_of : List ℕ → Read Condition → Option Tree
+tree_of terms none = None
+tree_of terms (some x) = Some (record { words = x.1; nodes = nodes x.0; bound = all_bound terms x.0 })
 
 -- a comparison's two terms after its first word
-abbrev pub comparison_tree : List ℕ → List ℕ → Tree
+abbrev pub comparison_tree : List ℕ → List ℕ → Option Tree
 comparison_tree terms ws =
-    cond (ltb (length ws) comparison_words) Bad (Reads comparison_words 1 (bound_in terms (get_or ws 1 0) && bound_in terms (get_or ws 2 0)))
+    cond (ltb (length ws) comparison_words) None
+    (Some (record { words = comparison_words; nodes = 1; bound = bound_in terms (get_or ws 1 0) && bound_in terms (get_or ws 2 0) }))
 
 -- a condition under one more node, and two conditions under one node
 abbrev pub over_tree : Tree → Tree
-over_tree Bad = Bad
-over_tree (Reads w n b) = Reads (1 + w) (1 + n) b
+over_tree a = record { words = 1 + a.words; nodes = 1 + a.nodes; bound = a.bound }
 
 abbrev pub join_trees : Tree → Tree → Tree
-join_trees Bad t = Bad
-join_trees (Reads w n b) Bad = Bad
-join_trees (Reads w n b) (Reads m k d) = Reads (1 + w + m) (1 + n + k) (b && d)
+join_trees a b = record { words = 1 + a.words + b.words; nodes = 1 + a.nodes + b.nodes; bound = a.bound && b.bound }
 
 -- words and nodes that can be added up: no slice of words has as many
 abbrev pub SmallTree : Tree → Type 0
-SmallTree Bad = Unit {0}
-SmallTree (Reads w n b) = (w < 0x2000_0000_0000_0000) × (n < 0x2000_0000_0000_0000)
+SmallTree a = (a.words < 0x2000_0000_0000_0000) × (a.nodes < 0x2000_0000_0000_0000)
 
 -- ---- branches
 -- the branch, and the first n branches, at the start of some words

@@ -34,15 +34,12 @@ pub enum Node {
     Wrong,
 }
 
-// A condition that was read: its words, its nodes, and whether its variables are bound; or no condition.
+// A condition that was read: its words, its nodes, and whether its variables are bound.
 #[derive(Clone, Copy)]
-pub enum Tree {
-    Reads {
-        words: usize,
-        nodes: usize,
-        bound: bool,
-    },
-    Bad,
+pub struct Tree {
+    pub words: usize,
+    pub nodes: usize,
+    pub bound: bool,
 }
 
 // The years whose rows a plan reads: the latest that the tables have, every one, or one by its number.

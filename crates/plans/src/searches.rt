@@ -1,4 +1,4 @@
-// Searches in lists of words.
+// What the first word of some words is, and what it counts; a word looked for.
 ghost use Rattle.std.specs.Prelude.{◌≡◌, ◌≤◌, get_or};
 ghost use Rattle.sequences.specs.Sequences.{member};
 ghost use Rattle.plans.specs.Reading.{count_in};
@@ -9,10 +9,7 @@ use words::PlanWord;
 pub fn first(p: &[u32]) -> u32
     ensures { result ≡ get_or p.now 0 0 }
 {
-    if p.len() == 0 {
-        return 0;
-    }
-    p[0]
+    p.first().copied().unwrap_or(0)
 }
 
 // The count in the first word of `p`, or 0 where that is not of the kind `kind` or the count is above `most`.
@@ -34,12 +31,5 @@ pub fn count_in(p: &[u32], kind: u32, most: u32) -> u32
 pub fn among(word: u32, words: &[u32]) -> bool
     ensures { result ≡ member word words.now }
 {
-    let mut i: usize = 0;
-    while i < words.len() {
-        if words[i] == word {
-            return true;
-        }
-        i += 1;
-    }
-    false
+    words.contains(&word)
 }

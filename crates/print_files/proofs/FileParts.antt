@@ -7,7 +7,7 @@ use lib.ListN.{length, take, drop, get_or, length-drop}
 use lib.Seq.{take_all, take-take, get_or-take}
 use Rattle.tables.specs.Tables.{tables_of, column_count}
 use Rattle.print_reading.specs.declared.FileParts.{FileParts}
-use Rattle.print_reading.specs.declared.Layout.TheVariants.{Parts}
+use Rattle.std.proofs.Common.{Ok}
 use Rattle.print_reading.specs.Files.{file_words, row_count_in, pos_at, osp_at, plan_at, layout_of}
 use Rattle.print_reading.proofs.LaidOut.{file_counted}
 use Rattle.print_writing.specs.FileQueries.{rows_in, pos_in, osp_in, plan_in, file_tables, file_plan, file_quantum, Asks}
@@ -20,7 +20,7 @@ part_of_lem zero (suc a) (suc w) [] h = refl
 part_of_lem (suc k) (suc a) (suc w) [] h = refl
 part_of_lem k (suc a) (suc w) (x ∷ xs) h = part_of_lem k a w xs (omega arith)
 
-module _ (bytes file : List ℕ) (p : FileParts) (h : layout_of bytes ≡ Parts p) (e : take p.words file ≡ file_words bytes) where
+module _ (bytes file : List ℕ) (p : FileParts) (h : layout_of bytes ≡ Ok p) (e : take p.words file ≡ file_words bytes) where
   abbrev ws : List ℕ
   ws = file_words bytes
 

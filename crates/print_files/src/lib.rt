@@ -1,11 +1,10 @@
 // A file of the printer: opened, read, and its query opened.
 #![tactic(auto)]
 
-ghost use Rattle.std.specs.Prelude.{◌≡◌, ◌≤◌, length, take};
-ghost use Rattle.print_reading.specs.declared.Layout.TheVariants.{Parts};
+ghost use Rattle.std.specs.Prelude.{◌≡◌, ◌≤◌, Ok, length, take};
 ghost use Rattle.print_reading.specs.Files.{file_words, Laid, layout_of};
 
-use print_reading::{FileParts, Layout, read_full};
+use print_reading::{FileParts, read_full};
 use print_rounds::{SURVEY, run};
 use print_writing::print_refused;
 use std::fs::File;
@@ -18,7 +17,7 @@ use words::Written;
 // Opens the query of `file`, whose words were read and whose `parts` were found, and runs it; a refusal is printed.
 fn print_query(rt: &(impl Print + Eprint), bytes: &[u8], file: &[u32], parts: FileParts)
     requires laid { (Laid parts) × (parts.words ≤ length file.now) }
-    requires bytes_value { (layout_of bytes.now ≡ Parts parts) × (take parts.words file.now ≡ file_words bytes.now) }
+    requires bytes_value { (layout_of bytes.now ≡ Ok parts) × (take parts.words file.now ≡ file_words bytes.now) }
 {
     let pos_at = parts.pos;
     let osp_at = parts.osp;
@@ -40,10 +39,9 @@ fn print_query(rt: &(impl Print + Eprint), bytes: &[u8], file: &[u32], parts: Fi
 // Finds the parts of the file that has these `bytes`, and prints what its query answers.
 fn print_bytes(rt: &(impl Print + Eprint), bytes: &[u8]) {
     let mut file = [0u32; 16384];
-    let layout = print_reading::read_file(bytes, &mut file);
-    match layout {
-        Layout::Parts(parts) => print_query(rt, bytes, &file, parts),
-        Layout::Refused(x) => print_refused(rt, bytes, x),
+    match print_reading::read_file(bytes, &mut file) {
+        Ok(parts) => print_query(rt, bytes, &file, parts),
+        Err(x) => print_refused(rt, bytes, x),
     }
 }
 

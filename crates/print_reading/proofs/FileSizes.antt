@@ -6,7 +6,7 @@ use mathlib.Core.List.{List}
 use lib.ListN.{length, get_or, take, length-replicate}
 use Rattle.sequences.specs.Sequences.{parts}
 use Rattle.lists.specs.Gathering.{records_in}
-use Rattle.print_reading.specs.declared.Layout.TheVariants.{Parts, Refused}
+use Rattle.std.proofs.Common.{Ok, Err}
 use Rattle.print_reading.specs.Files.{word_bytes, little_endian, file_words, most_file_bytes, plan_at, parts_of, counts_right, parts_in, layout_of}
 use Rattle.print_reading.specs.FileSizes.{zero_bytes, longest_with, FileSizesWorked}
 use Rattle.print_reading.proofs.FileWords.{length_words, too_short, right_parts, too_long, whole, first_word}
@@ -23,13 +23,13 @@ module _ (bytes : List ℕ) (n words : ℕ) (first : n ≡ little_endian (take w
   read : parts_in (file_words bytes) ≡ layout_of bytes
   read = whole bytes (omega (arith, counted)) (omega (arith, counted))
 
-  laid : plan_at n ≤ words → layout_of bytes ≡ Parts (parts_of n words)
+  laid : plan_at n ≤ words → layout_of bytes ≡ Ok (parts_of n words)
   laid h = sym (right_parts (file_words bytes) n headed (omega (arith, count)) (omega (arith, count)) _ _ _ _ refl refl refl count ∙ read)
 
-  past : words < plan_at n → layout_of bytes ≡ Refused 1
+  past : words < plan_at n → layout_of bytes ≡ Err 1
   past h = sym (too_short (file_words bytes) n headed (omega (arith, count)) (omega (arith, count)) ∙ read)
 
-longer : (n : ℕ) → most_file_bytes < n → layout_of (zero_bytes n) ≡ Refused 1
+longer : (n : ℕ) → most_file_bytes < n → layout_of (zero_bytes n) ≡ Err 1
 longer n h = sym (too_long (zero_bytes n) (omega (arith, length-replicate {A = ℕ} n 0)))
 
 pub file_sizes : FileSizesWorked

@@ -2,7 +2,7 @@
 use Prim.Native.Nat.{ℕ, suc, ◌+◌, ◌*◌, ◌/◌, ◌%◌, ◌≤◌, ◌<◌}
 use native.Mathlib.Omega.{arith}
 use native.Mathlib.Numerals.{add-one}
-use mathlib.Core.Path.{◌≡◌, sym, ◌∙◌, ap, ap₂}
+use mathlib.Core.Path.{◌≡◌, sym, ◌∙◌, ap}
 use mathlib.Core.List.{List, [], ◌∷◌}
 use lib.ListN.{length, get_or, take, drop, set, length-map, get_or-map}
 use lib.Seq.{drop-cons, take-suc, take_all, length-take-le}
@@ -12,8 +12,7 @@ use Rattle.sequences.proofs.Buffers.{over_next}
 use Rattle.lists.specs.Gathering.{records_in}
 use Rattle.lists.proofs.Records.{length_records}
 use Rattle.sequences.proofs.Parts.{part_at}
-use Rattle.print_reading.specs.declared.Layout.{Layout}
-use Rattle.print_reading.specs.declared.Layout.TheVariants.{Parts, Refused}
+use Rattle.std.proofs.Common.{Ok, Err}
 use Rattle.print_reading.specs.Files.{word_bytes, little_endian, file_words, most_file_bytes, pos_at, osp_at, plan_at, rows_at}
 use Rattle.print_reading.specs.Files.{counts_right, parts_in, layout_of, words_as, read_of}
 
@@ -71,28 +70,28 @@ over_all ws buffer i h = ap (λ (t : List ℕ). over t buffer) (take_all i ws h)
 
 -- ---- where the parts begin
 module _ (ws : List ℕ) where
-  pub too_few : length ws < rows_at → Refused 1 ≡ parts_in ws
+  pub too_few : length ws < rows_at → Err 1 ≡ parts_in ws
   unfolding parts_in counts_right
   too_few h = rw (lt-leb rows_at (length ws) h)
 
   module _ (n : ℕ) (e : n ≡ get_or ws 0 0) (head : rows_at ≤ length ws) where
-    pub too_short : length ws < plan_at n → Refused 1 ≡ parts_in ws
+    pub too_short : length ws < plan_at n → Err 1 ≡ parts_in ws
     unfolding parts_in counts_right
     too_short h = rw (le-leb rows_at (length ws) head, ← e, lt-leb (plan_at n) (length ws) h)
 
     pub right_parts : plan_at n ≤ length ws → (pos osp plan count : ℕ)
         → pos ≡ pos_at n → osp ≡ osp_at n → plan ≡ plan_at n → count ≡ length ws
-        → Parts (record { pos = pos; osp = osp; plan = plan; words = count }) ≡ parts_in ws
+        → Ok (record { pos = pos; osp = osp; plan = plan; words = count }) ≡ parts_in ws
     unfolding parts_in counts_right
     right_parts h pos osp plan count p q r s = rw (le-leb rows_at (length ws) head, ← e, le-leb (plan_at n) (length ws) h, p, q, r, s)
 
 -- ---- the file
 module _ (bytes : List ℕ) where
-  pub too_long : most_file_bytes < length bytes → Refused 1 ≡ layout_of bytes
+  pub too_long : most_file_bytes < length bytes → Err 1 ≡ layout_of bytes
   unfolding layout_of
   too_long h = rw (lt-leb (length bytes) most_file_bytes h)
 
-  pub not_whole : length bytes ≤ most_file_bytes → (length bytes % word_bytes ≡ 0 → ⊥) → Refused 1 ≡ layout_of bytes
+  pub not_whole : length bytes ≤ most_file_bytes → (length bytes % word_bytes ≡ 0 → ⊥) → Err 1 ≡ layout_of bytes
   unfolding layout_of
   not_whole short h = rw (le-leb (length bytes) most_file_bytes short, ne_eqb (length bytes % word_bytes) 0 h)
 
@@ -105,11 +104,6 @@ module _ (bytes : List ℕ) where
   first_word h = word_in bytes 0 (omega arith)
 
   module _ (words : List ℕ) where
-    -- read, by the answer
-    pub read_as : (r : Layout) → r ≡ layout_of bytes → (after : List ℕ) → after ≡ words_as bytes words r
-        → record { answer = r; words = after } ≡ read_of bytes words
-    read_as r e after f = ap₂ (λ l ws. record { answer = l; words = ws }) e (f ∙ ap (words_as bytes words) e)
-
     -- a refusal changes no word
-    pub read_refused : (x : ℕ) → (read_of bytes words).answer ≡ Refused x → (read_of bytes words).words ≡ words
+    pub read_refused : (x : ℕ) → (read_of bytes words).answer ≡ Err x → (read_of bytes words).words ≡ words
     read_refused x e = ap (words_as bytes words) e

@@ -9,8 +9,8 @@ use lib.ListN.{length, take}
 use borrow.Author.Tests.{leb-true}
 use Rattle.sequences.proofs.Booleans.{and_left, and_right}
 use Rattle.sequences.proofs.Buffers.{take_over}
+use Rattle.std.proofs.Common.{Result, Ok, Err}
 use Rattle.print_reading.specs.declared.FileParts.{FileParts}
-use Rattle.print_reading.specs.declared.Layout.TheVariants.{Parts, Refused}
 use Rattle.print_reading.specs.Files.{word_bytes, most_file_bytes, file_words, rows_at, plan_at, row_count_in, parts_of, Laid, counts_right, parts_in}
 use Rattle.print_reading.specs.Files.{is_file_short, is_whole, layout_of, words_as}
 use Rattle.print_reading.proofs.FileWords.{length_words}
@@ -20,12 +20,12 @@ pub record FileCounted (ws : List ℕ) (p : FileParts) : Type 0 where
   pub enough : plan_at (row_count_in ws) ≤ length ws
   pub parts : p ≡ parts_of (row_count_in ws) (length ws)
 
-counted : (ws : List ℕ) (p : FileParts) → parts_in ws ≡ Parts p → FileCounted ws p
+counted : (ws : List ℕ) (p : FileParts) → parts_in ws ≡ Ok p → FileCounted ws p
 unfolding parts_in counts_right
 counted ws p = go (counts_right ws) refl
   where
     go : (b : Bool) → (leb rows_at (length ws) && leb (plan_at (row_count_in ws)) (length ws)) ≡ b
-        → cond b (Parts (parts_of (row_count_in ws) (length ws))) (Refused 1) ≡ Parts p → FileCounted ws p
+        → cond {A = Result FileParts ℕ} b (Ok (parts_of (row_count_in ws) (length ws))) (Err 1) ≡ Ok p → FileCounted ws p
     go true e q =
         let r : p ≡ parts_of (row_count_in ws) (length ws) = cc in
         let h = and_right (leb rows_at (length ws)) (leb (plan_at (row_count_in ws)) (length ws)) e in
@@ -33,16 +33,16 @@ counted ws p = go (counts_right ws) refl
     go false e q = let z : ◌≡◌ {A = ℕ} 0 1 = cc in absurd (omega arith)
 
 module _ (bytes : List ℕ) (p : FileParts) where
-  accepted : layout_of bytes ≡ Parts p → (length bytes ≤ most_file_bytes) × FileCounted (file_words bytes) p
+  accepted : layout_of bytes ≡ Ok p → (length bytes ≤ most_file_bytes) × FileCounted (file_words bytes) p
   unfolding layout_of
   accepted = go (is_file_short bytes && is_whole bytes) refl
     where
-      go : (b : Bool) → (is_file_short bytes && is_whole bytes) ≡ b → cond b (parts_in (file_words bytes)) (Refused 1) ≡ Parts p
+      go : (b : Bool) → (is_file_short bytes && is_whole bytes) ≡ b → cond {A = Result FileParts ℕ} b (parts_in (file_words bytes)) (Err 1) ≡ Ok p
           → (length bytes ≤ most_file_bytes) × FileCounted (file_words bytes) p
       go true e q = (leb-true (length bytes) most_file_bytes (and_left (is_file_short bytes) (is_whole bytes) e), counted (file_words bytes) p q)
       go false e q = let z : ◌≡◌ {A = ℕ} 0 1 = cc in absurd (omega arith)
 
-  module _ (h : layout_of bytes ≡ Parts p) where
+  module _ (h : layout_of bytes ≡ Ok p) where
     pub not_long : length bytes ≤ most_file_bytes
     not_long = (accepted h).0
 

@@ -1,11 +1,9 @@
 -- The turn printer's file: its words, the tests of its size, and where its parts begin. Assumes nothing: these are definitions.
-use Rattle.std.specs.Prelude.{ℕ, ◌+◌, ◌*◌, ◌%◌, ◌≤◌, Bool, cond, ◌&&◌, List, [], ◌∷◌, map, eqb, leb, length, get_or}
+use Rattle.std.specs.Prelude.{Result, Ok, Err, ℕ, ◌+◌, ◌*◌, ◌%◌, ◌≤◌, Bool, cond, ◌&&◌, List, [], ◌∷◌, map, eqb, leb, length, get_or}
 use Rattle.sequences.specs.Sequences.{over}
 use Rattle.tables.specs.Tables.{column_count}
 use Rattle.lists.specs.Gathering.{records_in}
 use Rattle.print_reading.specs.declared.FileParts.{FileParts}
-use Rattle.print_reading.specs.declared.Layout.{Layout}
-use Rattle.print_reading.specs.declared.Layout.TheVariants.{Parts, Refused}
 
 -- ---- words
 abbrev pub word_bytes : ℕ
@@ -57,8 +55,8 @@ Laid p = (rows_at ≤ p.pos) × (p.pos ≤ p.osp) × (p.osp ≤ p.plan) × (p.pl
 unfoldable pub counts_right : List ℕ → Bool
 counts_right words = leb rows_at (length words) && leb (plan_at (row_count_in words)) (length words)
 
-unfoldable pub parts_in : List ℕ → Layout
-parts_in words = cond (counts_right words) (Parts (parts_of (row_count_in words) (length words))) (Refused 1)
+unfoldable pub parts_in : List ℕ → Result FileParts ℕ
+parts_in words = cond (counts_right words) (Ok (parts_of (row_count_in words) (length words))) (Err 1)
 
 -- a file that is not too long and in whole words
 abbrev pub is_file_short : List ℕ → Bool
@@ -67,18 +65,18 @@ is_file_short bytes = leb (length bytes) most_file_bytes
 abbrev pub is_whole : List ℕ → Bool
 is_whole bytes = eqb (length bytes % word_bytes) 0
 
-unfoldable pub layout_of : List ℕ → Layout
-layout_of bytes = cond (is_file_short bytes && is_whole bytes) (parts_in (file_words bytes)) (Refused 1)
+unfoldable pub layout_of : List ℕ → Result FileParts ℕ
+layout_of bytes = cond (is_file_short bytes && is_whole bytes) (parts_in (file_words bytes)) (Err 1)
 
 -- what reading a file answers, and the buffer of words at exit
 pub record FileRead : Type 0 where
-  pub answer : Layout
+  pub answer : Result FileParts ℕ
   pub words : List ℕ
 
 -- by the answer: the words of a file that is accepted are read, and a refusal leaves all as they were
-abbrev pub words_as : List ℕ → List ℕ → Layout → List ℕ
-words_as bytes words (Parts p) = over (file_words bytes) words
-words_as bytes words (Refused x) = words
+abbrev pub words_as : List ℕ → List ℕ → Result FileParts ℕ → List ℕ
+words_as bytes words (Ok p) = over (file_words bytes) words
+words_as bytes words (Err x) = words
 
 abbrev pub read_of : List ℕ → List ℕ → FileRead
 read_of bytes words = record { answer = layout_of bytes; words = words_as bytes words (layout_of bytes) }

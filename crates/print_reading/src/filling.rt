@@ -8,6 +8,7 @@ pub fn read_full<R: Read>(input: &mut R, buf: &mut [u8]) -> usize
     ensures { result ≤ length buf.new }
 {
     let mut done = 0;
+    // no iterator: what each read answers says how far it goes on
     while done < buf.len() {
         match input.read(&mut buf[done..]) {
             Ok(0) => return done,

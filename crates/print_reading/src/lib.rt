@@ -1,7 +1,7 @@
 // The turn printer's file, read from bytes: its words, and where its parts begin.
 #![tactic(auto)]
 
-ghost use Rattle.std.specs.Prelude.{◌≡◌, ◌+◌, ◌/◌, ◌<◌, ◌≤◌, length, take, drop};
+ghost use Rattle.std.specs.Prelude.{◌≡◌, ◌+◌, ◌/◌, ◌≤◌, length, take, drop};
 ghost use Rattle.sequences.specs.Sequences.{over};
 ghost use Rattle.print_reading.specs.Files.{little_endian, file_words, word_bytes, most_file_bytes, parts_in, layout_of, read_of};
 
@@ -19,31 +19,15 @@ pub struct FileParts {
     pub words: usize,
 }
 
-// What reading a file answers: its parts, or the number of the test that refused it.
-#[derive(Clone, Copy)]
-pub enum Layout {
-    Parts(FileParts),
-    Refused(u32),
-}
-
 // The bytes of a file, at most.
 pub const MOST_BYTES: usize = 65536;
-
-// `b` as a word.
-fn byte(b: u8) -> u32
-    ensures { (result ≡ b) × (result < 256) }
-{
-    b as u32
-}
 
 // The word in the four bytes from `at` on, the low one first.
 fn word_at(bytes: &[u8], at: usize) -> u32
     requires { at + word_bytes ≤ length bytes.now }
     ensures { result ≡ little_endian (take word_bytes (drop at bytes.now)) }
 {
-    let low = byte(bytes[at]) + 256 * byte(bytes[at + 1]);
-    let high = byte(bytes[at + 2]) + 256 * byte(bytes[at + 3]);
-    low + 65536 * high
+    u32::from_le_bytes([bytes[at], bytes[at + 1], bytes[at + 2], bytes[at + 3]])
 }
 
 // Reads the whole words of `bytes` into `words`.
@@ -52,61 +36,53 @@ fn read_words(bytes: &[u8], words: &mut [u32])
     ensures { words.new ≡ over (file_words bytes.now) words.old }
 {
     let count = bytes.len() / 4;
-    let mut i: usize = 0;
-    while i < count {
-        let word = word_at(bytes, i * 4);
-        words[i] = word;
-        i += 1;
+    for i in 0..count {
+        words[i] = word_at(bytes, i * 4);
     }
 }
 
-// Where the parts begin among the whole words of `bytes`.
-fn parts_in(bytes: &[u8]) -> Layout
+// Where the parts begin among the whole words of `bytes`, or the number that refuses the file.
+fn parts_in(bytes: &[u8]) -> Result<FileParts, u32>
     ensures { result ≡ parts_in (file_words bytes.now) }
 {
     let count = bytes.len() / 4;
     if count < 2 {
-        return Layout::Refused(1);
+        return Err(1);
     }
     let rows = words::wide(word_at(bytes, 0));
     let pos = 2 + COLUMNS * rows;
     let osp = pos + rows;
     let plan = osp + rows;
     if count < plan {
-        return Layout::Refused(1);
+        return Err(1);
     }
-    Layout::Parts(FileParts {
-        pos: pos,
-        osp: osp,
-        plan: plan,
+    Ok(FileParts {
+        pos,
+        osp,
+        plan,
         words: count,
     })
 }
 
 // Where the parts of a file begin, if its `bytes` are whole words and not too many.
-fn layout_of(bytes: &[u8]) -> Layout
+fn layout_of(bytes: &[u8]) -> Result<FileParts, u32>
     ensures { result ≡ layout_of bytes.now }
 {
     if bytes.len() > MOST_BYTES {
-        return Layout::Refused(1);
+        return Err(1);
     }
     if bytes.len() % 4 != 0 {
-        return Layout::Refused(1);
+        return Err(1);
     }
     parts_in(bytes)
 }
 
-// Finds the parts of a file, and then reads its `bytes` into `words`; nothing is written of a file that is refused.
-pub fn read_file(bytes: &[u8], words: &mut [u32]) -> Layout
+// Finds the parts of a file, and then reads its `bytes` into `words`; or answers the number that refuses it, and writes nothing.
+pub fn read_file(bytes: &[u8], words: &mut [u32]) -> Result<FileParts, u32>
     requires { most_file_bytes / word_bytes ≤ length words.old }
     ensures { record { answer = result; words = words.new } ≡ read_of bytes.now words.old }
 {
-    let layout = layout_of(bytes);
-    match layout {
-        Layout::Parts(parts) => {
-            read_words(bytes, words);
-            Layout::Parts(parts)
-        }
-        Layout::Refused(x) => Layout::Refused(x),
-    }
+    let parts = layout_of(bytes)?;
+    read_words(bytes, words);
+    Ok(parts)
 }

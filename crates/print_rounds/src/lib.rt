@@ -96,8 +96,7 @@ fn go_on(
 {
     let mut saved = opened;
     let mut used: usize = 0;
-    let mut made: u64 = 0;
-    while made < MOST_TURNS {
+    for made in 0..MOST_TURNS {
         let went = print_step(
             rt, bytes, rows, pos, osp, plan, state, saved, quantum, output, kept, used, lists, made,
         );
@@ -105,16 +104,12 @@ fn go_on(
             Went::On { saved: left, words } => {
                 saved = left;
                 used = words;
-                made += 1;
             }
             Went::Over(words) => return Played::Finished(words),
             Went::Stopped(x) => return Played::Stopped(x),
         }
     }
-    Played::Unfinished {
-        saved: saved,
-        words: used,
-    }
+    Played::Unfinished { saved, words: used }
 }
 
 // Runs an opened query with the printer's buffers: an output of exactly `OUTPUT_RECORDS` rows or records, and a kept list.

@@ -19,13 +19,8 @@ fn print_delivered(rt: &(impl Print + Eprint), lists: Listing, list: &[u32])
     requires has_width { HasWidth lists.kind lists.width }
     requires width_len { lists.kind ≡ Rows → length list.now % lists.width ≡ 0 }
 {
-    let kind = lists.kind;
-    match kind {
-        EndingKind::Rows => print_list(rt, lists, list),
-        EndingKind::Top => {}
-        EndingKind::Group => {}
-        EndingKind::Registers => {}
-        EndingKind::Invalid => {}
+    if matches!(lists.kind, EndingKind::Rows) {
+        print_list(rt, lists, list);
     }
 }
 
@@ -71,8 +66,7 @@ pub fn print_played(
 {
     match played {
         Played::Finished(words) => print_whole(rt, bytes, &kept[..words], lists),
-        Played::Unfinished { saved: _, words: _ } => {}
         Played::Stopped(x) => print_refused(rt, bytes, x),
-        Played::Refused(_) => {}
+        Played::Unfinished { .. } | Played::Refused(_) => {}
     }
 }

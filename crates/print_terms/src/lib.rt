@@ -12,7 +12,7 @@ use words::Term;
 // Half the values of a number's 30 bits: from there on they are below zero.
 const HALF_VALUES: u64 = words::HALF_VALUES as u64;
 
-// How a word is shown: as a term, or as a number.
+// How a word is shown: as a term, or as a number. An enum of two and no closure, which would need a contract of its own.
 #[derive(Clone, Copy)]
 pub enum ShownAs {
     Term,
@@ -82,11 +82,8 @@ fn put_fields(line: &mut [u8], at: usize, words: &[u32], shown: ShownAs) -> usiz
     ensures { PlacedText (fields (field_as shown) words.now) at line.old line.new result }
 {
     let mut next = at;
-    let mut i: usize = 0;
-    while i < words.len() {
-        let word = words[i];
-        next = put_field(line, next, word, shown);
-        i += 1;
+    for word in words {
+        next = put_field(line, next, *word, shown);
     }
     next
 }

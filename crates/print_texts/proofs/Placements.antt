@@ -7,7 +7,7 @@ use mathlib.Core.Path.{◌≡◌, sym, ◌∙◌, ap}
 use mathlib.Core.List.{List, [], ◌∷◌, ◌++◌, append_assoc}
 use lib.ListN.{length, take, drop, set, length-append}
 use lib.Seq.{take_at, drop_at, drop-drop, set_split, take-set-le, drop-set-lt, drop-cons, get_or-set_same, lt-length-set, append_snoc, length-take-le}
-use lib.Seq.{take-length, paste, paste-zero}
+use lib.Seq.{paste-zero}
 use Rattle.lists.specs.Putting.{Listed}
 use Rattle.print_texts.specs.Texts.{Text, newline, digit, decimal}
 use Rattle.print_texts.specs.Placing.{placed, PlacedText}
@@ -78,10 +78,6 @@ module _ (line : List ℕ) (i n : ℕ) (l : length (decimal n) ≤ i) (h : i ≤
   -- the only digit
   pub digit_one : n < 10 → set line (i - 1) (digit n) ≡ placed (decimal n) (i - length (decimal n)) line
   digit_one m = let e = length_one n m in rw (e, decimal_one n m) (placed_byte (digit n) (i - 1) line (omega arith))
-
--- ---- a copy
-pub placed_paste : (text : Text) (at : ℕ) (line : List ℕ) → paste line at text (length text) ≡ placed text at line
-placed_paste text at line = rw (take-length text)
 
 -- ---- a whole line: a word, fields, and the end of the line
 module _ (word mid : Text) (p q r : ℕ) (line one two three : List ℕ) (h : length word + length mid + 1 ≤ length line) where

@@ -18,6 +18,7 @@ fn digit_count(x: u64) -> usize
 {
     let mut rest = x;
     let mut count: usize = 1;
+    // no range: it divides until one digit is left
     while rest >= 10 {
         rest = rest / 10;
         count += 1;
@@ -32,6 +33,7 @@ fn write_digits(line: &mut [u8], end: usize, x: u64)
 {
     let mut rest = x;
     let mut i = end;
+    // no range: it divides until one digit is left
     while rest >= 10 {
         i -= 1;
         line[i] = digit(rest % 10);

@@ -22,13 +22,9 @@ pub fn put_bytes(line: &mut [u8], at: usize, text: &[u8]) -> usize
     requires { at + length text.now ≤ length line.old }
     ensures { PlacedText text.now at line.old line.new result }
 {
-    let mut i: usize = 0;
-    while i < text.len() {
-        let byte = text[i];
-        line[at + i] = byte;
-        i += 1;
-    }
-    at + i
+    let end = at + text.len();
+    line[at..end].copy_from_slice(text);
+    end
 }
 
 // Puts `x`, after a blank.

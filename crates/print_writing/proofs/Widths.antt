@@ -1,13 +1,10 @@
 -- How wide the rows or records of a plan's lists are.
-use Prim.Native.Nat.{ℕ, ◌%◌, ◌≤◌, ◌<◌}
+use Prim.Native.Nat.{ℕ, ◌≤◌}
 use native.Mathlib.Omega.{arith}
-use native.Mathlib.Nat.{mod-eq_of_lt}
-use mathlib.Core.Path.{◌≡◌, refl, sym, ◌∙◌, subst⁻¹}
-use mathlib.Core.Bool.{Bool, true, false}
+use mathlib.Core.Path.{◌≡◌, refl, subst⁻¹}
+use mathlib.Core.Bool.{true}
 use mathlib.Core.List.{List}
-use lib.Dec.{leb}
 use lib.ListN.{length}
-use borrow.Author.Tests.{leb-true, leb-false}
 use Rattle.plans.specs.declared.EndingKind.{EndingKind}
 use Rattle.plans.specs.declared.EndingKind.TheVariants.{Rows, Top, Group, Registers, Invalid}
 use Rattle.plans.specs.Endings.{Ending, rows, top, group, registers, most_row_variables}
@@ -51,11 +48,3 @@ some_words Top n h = h
 some_words Group n h = (omega (arith, h.0), omega (arith, h.1))
 some_words Registers n h = (omega (arith, h), omega (arith, h))
 some_words Invalid n h = absurd h
-
--- what is left of whole rows or records has one more
-pub one_more_fact : (w n : ℕ) → n % w ≡ 0 → 0 < n → w ≤ n
-one_more_fact w n e h = go (leb w n) refl
-  where
-    go : (b : Bool) → leb w n ≡ b → w ≤ n
-    go true p = leb-true w n p
-    go false p = let z = sym (mod-eq_of_lt (leb-false w n p)) ∙ e in absurd (omega arith)

@@ -1,13 +1,12 @@
 -- The query in a file's bytes: its tables, its plan and its quantum; and the buffers that the printer lends it. Assumes nothing: these are
 -- definitions.
-use Rattle.std.specs.Prelude.{ℕ, ◌*◌, ◌≡◌, List, take, drop}
+use Rattle.std.specs.Prelude.{ℕ, Ok, ◌*◌, ◌≡◌, List, take, drop}
 use Rattle.tables.specs.Tables.{Tables, tables_of, column_count}
 use Rattle.plans.specs.Plans.{plan_of}
 use Rattle.steps.specs.Saved.{least_state_words}
 use Rattle.lists.specs.Gathering.{width}
 use Rattle.turns.specs.Surveys.{Survey, under_number, survey_of}
 use Rattle.print_reading.specs.declared.FileParts.{FileParts}
-use Rattle.print_reading.specs.declared.Layout.TheVariants.{Parts}
 use Rattle.print_reading.specs.Files.{file_words, row_count_in, quantum_in, rows_at, pos_at, osp_at, plan_at, layout_of}
 
 -- ---- the parts of a file's words
@@ -42,7 +41,7 @@ file_quantum bytes = quantum_in (file_words bytes)
 
 -- the file's size is accepted
 abbrev pub IsAccepted : List ℕ → Type 0
-IsAccepted bytes = (p : FileParts) × (layout_of bytes ≡ Parts p)
+IsAccepted bytes = (p : FileParts) × (layout_of bytes ≡ Ok p)
 
 -- what the calls are lent, under that number
 abbrev pub lent_survey : List ℕ → List ℕ → List ℕ → Survey

@@ -1,6 +1,6 @@
 -- What the printer may print of a file: turns of the uncut run with their rows, its whole list at the end, and the number that refuses it.
 -- Assumes nothing: these are definitions.
-use Rattle.std.specs.Prelude.{ℕ, ◌≤◌, ◌≡◌, List, length, take}
+use Rattle.std.specs.Prelude.{ℕ, Err, ◌≤◌, ◌≡◌, List, length, take}
 use Rattle.words.specs.declared.Written.TheVariants as written
 use Rattle.turns.specs.declared.Turned.{Turned}
 use Rattle.turns.specs.Surveys.{Survey}
@@ -9,7 +9,6 @@ use Rattle.queries.specs.declared.Keeping.TheVariants.{Merged}
 use Rattle.queries.specs.declared.Played.{Played}
 use Rattle.queries.specs.declared.Played.TheVariants.{Finished, Unfinished, Stopped, Refused}
 use Rattle.queries.specs.Playing.{Stops, Shows, IsWhole}
-use Rattle.print_reading.specs.declared.Layout.TheVariants as layout
 use Rattle.print_reading.specs.Files.{layout_of}
 use Rattle.print_writing.specs.FileQueries.{file_tables, file_survey, file_plan, file_quantum, IsAccepted, state_room, output_room, kept_room}
 
@@ -33,7 +32,7 @@ ListShown bytes list = IsWhole Merged (file_tables bytes) (file_plan bytes) list
 
 -- by what a file is refused: for its size; by the opening of its query; or by what stops that, once it is opened
 pub data RefusedBy (bytes : List ℕ) : ℕ → Type 0 where
-  for_size : (x : ℕ) → layout_of bytes ≡ layout.Refused x → RefusedBy bytes x
+  for_size : (x : ℕ) → layout_of bytes ≡ Err x → RefusedBy bytes x
   by_opening : IsAccepted bytes → (state : List ℕ) → length state ≡ state_room
       → (x : ℕ) → (open_of (file_survey bytes) (file_plan bytes) state).answer ≡ written.Refused x → RefusedBy bytes x
   by_turns_fact : IsAccepted bytes → CanOpen (file_survey bytes) (file_plan bytes) → (before kept : List ℕ) → length before ≡ kept_room

@@ -73,8 +73,7 @@ fn print_record(rt: &(impl Print + Eprint), kind: EndingKind, words: &[u32])
     requires { HasWidth kind (length words.now) }
 {
     match kind {
-        EndingKind::Rows => print_row(rt, words),
-        EndingKind::Top => print_row(rt, words),
+        EndingKind::Rows | EndingKind::Top => print_row(rt, words),
         EndingKind::Group => print_group(rt, words),
         EndingKind::Registers => print_registers(rt, words),
         EndingKind::Invalid => {}
@@ -86,12 +85,7 @@ pub fn print_list(rt: &(impl Print + Eprint), lists: Listing, list: &[u32])
     requires has_width { HasWidth lists.kind lists.width }
     requires width_len { length list.now % lists.width ≡ 0 }
 {
-    let kind = lists.kind;
-    let width = lists.width;
-    let mut at: usize = 0;
-    while at < list.len() {
-        let end = at + width;
-        print_record(rt, kind, &list[at..end]);
-        at = end;
+    for words in list.chunks_exact(lists.width) {
+        print_record(rt, lists.kind, words);
     }
 }

@@ -14,8 +14,7 @@ fn record_width(kind: EndingKind, variables: usize) -> usize
     ensures { result ≡ width_of kind variables }
 {
     match kind {
-        EndingKind::Rows => variables,
-        EndingKind::Top => variables,
+        EndingKind::Rows | EndingKind::Top => variables,
         EndingKind::Group => variables + TOTALS_WIDTH,
         EndingKind::Registers => REGISTERS,
         EndingKind::Invalid => 0,
@@ -31,7 +30,7 @@ pub fn lists_of(plan: &[u32]) -> Listing
     let kind = plan_endings::ending_kind(ending);
     let variables = plan_endings::variables(ending).len();
     Listing {
-        kind: kind,
+        kind,
         width: record_width(kind, variables),
     }
 }

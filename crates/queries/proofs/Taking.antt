@@ -1,20 +1,14 @@
 -- One turn and its list: from what the calls leave to the definition of a step.
-use Prim.Native.Nat.{ℕ, ◌+◌, ◌≤◌, ◌<◌}
+use Prim.Native.Nat.{ℕ, ◌≤◌}
 use native.Mathlib.Omega.{arith}
 use mathlib.Core.Path.{◌≡◌, refl, sym, ◌∙◌, ap}
 use mathlib.Core.Bool.{Bool, true, false}
-use mathlib.Core.List.{List, ◌++◌}
-use lib.Dec.{leb}
-use lib.ListN.{length, take, length-append}
-use lib.Seq.{paste, take-length, length-take-le}
-use borrow.Author.Tests.{le-leb, lt-leb}
-use Rattle.words.specs.declared.Written.TheVariants as written
+use mathlib.Core.List.{List}
+use lib.ListN.{length, take}
 use Rattle.sequences.proofs.Booleans.{absurd_true}
 use Rattle.plans.specs.declared.EndingKind.{EndingKind}
 use Rattle.plans.specs.declared.EndingKind.TheVariants as last
-use Rattle.plans.specs.Endings.{Ending, rows, top, group, registers, ending_at}
 use Rattle.plans.specs.Plans.{read_plan, has_form}
-use Rattle.plans.specs.Reading.{ending_kind_in}
 use Rattle.turns.specs.declared.TurnEnding.{TurnEnding}
 use Rattle.turns.specs.declared.TurnEnding.TheVariants as ending
 use Rattle.turns.specs.declared.Turned.{Turned}
@@ -26,8 +20,7 @@ use Rattle.turns.proofs.OnTheRun.{keeps_lengths}
 use Rattle.calls.specs.Words.{WordsResult}
 use Rattle.queries.specs.declared.Step.{Step}
 use Rattle.queries.specs.declared.Keeping.{Keeping}
-use Rattle.lists.specs.Gathering.{is_rows}
-use Rattle.queries.specs.Stepping.{is_served, join_of, left_as_is, list_taken, Stepped, stepped_as, output_list, take_turn_of}
+use Rattle.queries.specs.Stepping.{is_served, left_as_is, list_taken, Stepped, stepped_as, output_list, take_turn_of}
 
 -- ---- the kind of an ending
 abbrev pub rows_kind : EndingKind → Bool
@@ -36,17 +29,6 @@ rows_kind last.Top = false
 rows_kind last.Group = false
 rows_kind last.Registers = false
 rows_kind last.Invalid = false
-
-pub by_kind : (e : Ending) → rows_kind (ending_kind_in e) ≡ is_rows e
-by_kind (rows vs) = refl
-by_kind (top k vs keys) = refl
-by_kind (group vs m) = refl
-by_kind (registers v) = refl
-
--- ending words of some kind, which end a plan
-pub rows_by_kind : (ws : List ℕ) (e : Ending) → ending_at ws ≡ e → (k k₁ : EndingKind) → k ≡ ending_kind_in (ending_at ws) → k ≡ k₁
-    → rows_kind k₁ ≡ is_rows e
-rows_by_kind ws e f k k₁ g h = ap rows_kind (sym h ∙ g) ∙ by_kind (ending_at ws) ∙ ap is_rows f
 
 -- ---- a served turn
 serves : (i : TurnInput) (e : TurnEnding) → (turn_of i).answer.ending ≡ e → is_served e ≡ true → Served i
@@ -113,18 +95,3 @@ module _ (keep : Keeping) (i : TurnInput) (kept : List ℕ) (used : ℕ) where
     pub step_output : out ≡ (turn_of i).buffers.output
     unfolding take_turn_of
     step_output = ap (λ (x : Stepped). x.output) h
-
--- ---- joining
-module _ (kept : List ℕ) (used : ℕ) (list : List ℕ) where
-  pub no_room : length kept < used + length list → record { answer = written.Refused 14; buffers = kept } ≡ join_of kept used list
-  no_room h =
-      let g : leb (used + length list) (length kept) ≡ false = lt-leb (used + length list) (length kept) (omega arith) in
-      rw g
-
-  pub joined : used + length list ≤ length kept
-      → record { answer = written.Words (used + length list); buffers = paste kept used list (length list) } ≡ join_of kept used list
-  joined h =
-      let g : leb (used + length list) (length kept) ≡ true = le-leb (used + length list) (length kept) (omega arith) in
-      let n : length (take used kept ++ list) ≡ used + length list =
-      omega (arith, length-append (take used kept) list, length-take-le used kept (omega arith)) in
-      rw (g, n, take-length)

@@ -12,12 +12,7 @@ use turns::TurnEnding;
 pub fn is_served(ending: TurnEnding) -> bool
     ensures { result ≡ is_served ending }
 {
-    match ending {
-        TurnEnding::Done => true,
-        TurnEnding::Spent => true,
-        TurnEnding::Full => true,
-        TurnEnding::Refused(_) => false,
-    }
+    !matches!(ending, TurnEnding::Refused(_))
 }
 
 // The answer of a play whose query stands at `went` after its last turn.
@@ -25,10 +20,7 @@ pub fn play_answer(went: Went) -> Played
     ensures { result ≡ play_answer went }
 {
     match went {
-        Went::On { saved, words } => Played::Unfinished {
-            saved: saved,
-            words: words,
-        },
+        Went::On { saved, words } => Played::Unfinished { saved, words },
         Went::Over(words) => Played::Finished(words),
         Went::Stopped(x) => Played::Stopped(x),
     }

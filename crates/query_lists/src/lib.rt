@@ -18,23 +18,17 @@ fn is_rows(plan: &[u32]) -> bool
     requires { has_form (read_plan plan.now) ≡ true }
     ensures { result ≡ is_rows (plan_of plan.now).ending }
 {
-    match plan_endings::ending_kind(plan_parts::ending_part(plan)) {
-        EndingKind::Rows => true,
-        EndingKind::Top => false,
-        EndingKind::Group => false,
-        EndingKind::Registers => false,
-        EndingKind::Invalid => false,
-    }
+    matches!(
+        plan_endings::ending_kind(plan_parts::ending_part(plan)),
+        EndingKind::Rows
+    )
 }
 
 // Joins the rows of `list` behind the first `used` words of `kept`, or refuses where there is no room for them.
 fn join(kept: &mut [u32], used: usize, list: &[u32]) -> Written
     ensures { record { answer = result; buffers = kept.new } ≡ join_of kept.old used list.now }
 {
-    if kept.len() < used {
-        return Written::Refused(ROOM);
-    }
-    if kept.len() - used < list.len() {
+    if kept.len() < used || kept.len() - used < list.len() {
         return Written::Refused(ROOM);
     }
     words::copy_in(kept, used, list);

@@ -31,8 +31,7 @@ fn go_on(
 {
     let mut saved = opened;
     let mut used: usize = 0;
-    let mut n: u64 = 0;
-    while n < most {
+    for _ in 0..most {
         let went = advance(
             rows,
             pos,
@@ -51,16 +50,12 @@ fn go_on(
             Went::On { saved: left, words } => {
                 saved = left;
                 used = words;
-                n += 1;
             }
             Went::Over(_) => return play_answer(went),
             Went::Stopped(_) => return play_answer(went),
         }
     }
-    Played::Unfinished {
-        saved: saved,
-        words: used,
-    }
+    Played::Unfinished { saved, words: used }
 }
 
 // Opens a query and plays it: at most `most` turns of `quantum` steps, each turn's list taken into `kept`.

@@ -42,19 +42,12 @@ pub fn take_turn(
         &plan[..0],
         output,
     );
-    let ending = turned.ending;
-    let listed = turned.listed;
-    if is_served(ending) {
-        let taken = query_lists::take_list(plan, kept, used, &output[..listed], keeping);
-        return Step {
-            turned: turned,
-            taken: taken,
-        };
-    }
-    Step {
-        turned: turned,
-        taken: Written::Words(used),
-    }
+    let taken = if is_served(turned.ending) {
+        query_lists::take_list(plan, kept, used, &output[..turned.listed], keeping)
+    } else {
+        Written::Words(used)
+    };
+    Step { turned, taken }
 }
 
 // How the query goes on after `step`, a turn whose list was taken, or not.
@@ -62,19 +55,13 @@ pub fn outcome(step: Step) -> Went
     ensures { result ≡ went_of step }
 {
     let turned = step.turned;
-    let ending = turned.ending;
-    let taken = step.taken;
-    match taken {
+    match step.taken {
         Written::Refused(x) => Went::Stopped(x),
-        Written::Words(words) => match ending {
+        Written::Words(words) => match turned.ending {
             TurnEnding::Done => Went::Over(words),
-            TurnEnding::Spent => Went::On {
+            TurnEnding::Spent | TurnEnding::Full => Went::On {
                 saved: turned.saved,
-                words: words,
-            },
-            TurnEnding::Full => Went::On {
-                saved: turned.saved,
-                words: words,
+                words,
             },
             TurnEnding::Refused(x) => Went::Stopped(x),
         },

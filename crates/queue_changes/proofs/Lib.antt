@@ -1,4 +1,3 @@
-pub mod Rooms
 pub mod Numbering
 pub mod Following
 pub mod Seeing

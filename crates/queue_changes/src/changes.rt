@@ -44,7 +44,7 @@ pub fn removed(gap: usize, count: usize) -> Change
     ensures { result ≡ removed gap count }
 {
     Change {
-        gap: gap,
+        gap,
         last: count - 1,
         adds: false,
     }
@@ -66,19 +66,11 @@ pub fn rotated(count: usize) -> Change
 pub fn room_right(room: usize, spare: usize, given: usize, kept: usize, more: usize) -> bool
     ensures { result ≡ room_by room spare given kept more }
 {
-    if room < MOST_ENTRIES {
-        return false;
-    }
-    if spare < MOST_ENTRIES {
-        return false;
-    }
-    if given > MOST_ENTRIES {
-        return false;
-    }
-    if kept > MOST_ENTRIES - given {
-        return false;
-    }
-    more <= MOST_ENTRIES - given - kept
+    room >= MOST_ENTRIES
+        && spare >= MOST_ENTRIES
+        && given <= MOST_ENTRIES
+        && kept <= MOST_ENTRIES - given
+        && more <= MOST_ENTRIES - given - kept
 }
 
 // The number of the first of tests 17 and 18 that fails, or 0: `entries` says whether the one passes, `room` whether the other does.

@@ -7,30 +7,12 @@ use queue_entries::Seen;
 pub fn join_right(seen: Seen) -> bool
     ensures { result ≡ (seen.lined && seen.rested) && (not (ltb seen.place seen.waiting) && not (ltb seen.found seen.resting)) }
 {
-    if !seen.lined {
-        return false;
-    }
-    if !seen.rested {
-        return false;
-    }
-    if seen.place < seen.waiting {
-        return false;
-    }
-    seen.found >= seen.resting
+    seen.lined && seen.rested && seen.place >= seen.waiting && seen.found >= seen.resting
 }
 
 // Test 17 of a top-up with `amount` steps: both lists are right, `amount` is not 0, and the owner has an entry that is set aside.
 pub fn top_up_right(seen: Seen, amount: u64) -> bool
     ensures { result ≡ (seen.lined && seen.rested) && (leb 1 amount && ltb seen.found seen.resting) }
 {
-    if !seen.lined {
-        return false;
-    }
-    if !seen.rested {
-        return false;
-    }
-    if amount == 0 {
-        return false;
-    }
-    seen.found < seen.resting
+    seen.lined && seen.rested && amount > 0 && seen.found < seen.resting
 }

@@ -12,9 +12,10 @@ use queues::{Entry, Queued};
 pub fn with_allowance(e: Entry, amount: u64) -> Entry
     ensures { result ≡ with_allowance amount e }
 {
-    let mut next = e;
-    next.allowance = amount;
-    next
+    Entry {
+        allowance: amount,
+        ..e
+    }
 }
 
 // `e` goes from the place `found` of the list set aside, which has `kept` entries, to the end of the line, which has `given`.

@@ -1,18 +1,14 @@
 -- A settled list, by its parts: the entries before the gap, those behind it up to the last place, and what was past them.
 use Prim.Native.Nat.{ℕ, zero, suc, ◌+◌, ◌-◌, ◌<◌, ◌≤◌}
 use native.Mathlib.Omega.{arith}
-use mathlib.Core.Path.{◌≡◌, refl, sym, ◌∙◌, ap}
+use mathlib.Core.Path.{◌≡◌, sym, ◌∙◌, ap}
 use mathlib.Core.Bool.{true, false}
 use mathlib.Core.List.{List, [], ◌∷◌, ◌++◌, append_assoc, append-nil}
-use lib.ListN.{length, take, drop, set, get_or, length-append, length-drop, length-set, take-append-drop}
-use lib.Seq.{get_or-drop, drop-cons, length-take-le, take-suc, set_at, set_split, get_or-append-add}
+use lib.ListN.{length, take, drop, set, get_or, length-append, length-drop, take-append-drop}
+use lib.Seq.{get_or-drop, drop-cons, length-take-le, paste, take-suc, set_at, set_split, get_or-append-add}
 use Rattle.queues.specs.declared.Entry.{Entry}
 use Rattle.queues.specs.Lists.{entries_over}
 use Rattle.queue_entries.specs.Entries.{nobody, moved_up, settled}
-
-pub moved_up_length : (ys : List Entry) (at k : ℕ) → length (moved_up ys at k) ≡ length ys
-moved_up_length ys at zero = refl
-moved_up_length ys at (suc k) = simp length-set (moved_up_length ys at k)
 
 -- the entries before the gap `g`, and `k` of those behind it
 abbrev moved : List Entry → ℕ → ℕ → List Entry
@@ -79,6 +75,12 @@ moved_up_is ys g (suc k) h = there (moved_up_is ys g k (omega arith)) ∙ sym he
     here =
         (λ i. one_more_fact i ++ (ap (λ (n : ℕ). drop n ys) (let z : g + suc k ≡ suc at = omega arith in z) ∙ behind) i)
         ∙ append_assoc p (b ∷ []) (b ∷ rest)
+
+-- they are moved by one copy too
+pub moved_up_paste : (ys : List Entry) (g last : ℕ) → g < last → last < length ys
+    → paste ys g (drop (g + 1) ys) (last + 1 - (g + 1)) ≡ moved_up ys g (last - g)
+moved_up_paste ys g last l h =
+    let k : last + 1 - (g + 1) ≡ last - g = omega arith in ap (paste ys g (drop (g + 1) ys)) k ∙ sym (moved_up_is ys g (last - g) (omega arith))
 
 -- ---- what a list is after it is settled
 module _ (ys : List Entry) (e : Entry) where

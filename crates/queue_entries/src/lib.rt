@@ -2,7 +2,7 @@
 #![tactic(auto)]
 
 ghost use Rattle.queues.specs.Lists.{lent_as, owners_in};
-ghost use Rattle.std.specs.Prelude.{◌≡◌, true, cond, ◌&&◌, not, ◌<◌, ◌≤◌, min, leb, ltb, eqb, length, take, get_or};
+ghost use Rattle.std.specs.Prelude.{◌≡◌, true, cond, ◌&&◌, not, ◌<◌, ◌≤◌, leb, ltb, eqb, length, take, get_or};
 ghost use Rattle.queue_entries.specs.Entries.{nobody, FoundAt, standing, settled};
 ghost use Rattle.queue_entries.specs.Seeing.{SeenOf};
 
@@ -26,10 +26,10 @@ pub fn nobody() -> Entry
 pub fn entry_at(list: &[Entry], at: usize) -> Entry
     ensures { result ≡ get_or list.now at nobody }
 {
-    if at < list.len() {
-        return list[at];
+    match list.get(at) {
+        Some(e) => *e,
+        None => nobody(),
     }
-    nobody()
 }
 
 // The first place from `from` on and below `to` at which an entry of `owner` stands; `to` where there is none.
@@ -37,12 +37,10 @@ pub fn find_owner(list: &[Entry], from: usize, to: usize, owner: u32) -> usize
     requires { (from ≤ to) × (to ≤ length list.now) }
     ensures { FoundAt list.now from to owner result }
 {
-    let mut i = from;
-    while i < to {
+    for i in from..to {
         if list[i].owner == owner {
             return i;
         }
-        i += 1;
     }
     to
 }
@@ -52,9 +50,10 @@ pub fn steps_right(allowance: u64, waiting: bool) -> bool
     ensures { result ≡ cond waiting (leb 1 allowance) (eqb allowance 0) }
 {
     if waiting {
-        return 1 <= allowance;
+        allowance > 0
+    } else {
+        allowance == 0
     }
-    allowance == 0
 }
 
 // Whether one entry is right: its steps are, and its owner was found neither `again` in its own list nor `elsewhere`, in the other.
@@ -68,13 +67,7 @@ pub fn entry_valid(
 ) -> bool
     ensures { result ≡ cond waiting (leb 1 allowance) (eqb allowance 0) && (not (ltb again count) && not (ltb elsewhere others)) }
 {
-    if !steps_right(allowance, waiting) {
-        return false;
-    }
-    if again < count {
-        return false;
-    }
-    !(elsewhere < others)
+    steps_right(allowance, waiting) && again >= count && elsewhere >= others
 }
 
 // Whether the first `count` entries of `list` are right, and no owner of them is among the first `few` entries of `others`.
@@ -82,31 +75,20 @@ pub fn list_right(list: &[Entry], count: usize, others: &[Entry], few: usize, wa
     requires { (count ≤ length list.now) × (few ≤ length others.now) }
     ensures { result ≡ standing waiting (take count list.now) (owners_in (take few others.now)) }
 {
-    let mut i: usize = 0;
-    while i < count {
+    for i in 0..count {
         let e = list[i];
         let again = find_owner(list, i + 1, count, e.owner);
         let elsewhere = find_owner(others, 0, few, e.owner);
         if !entry_valid(e.allowance, waiting, again, count, elsewhere, few) {
             return false;
         }
-        i += 1;
     }
     true
 }
 
-// The lesser of `a` and `b`.
-pub fn least(a: usize, b: usize) -> usize
-    ensures { result ≡ min a b }
-{
-    if a < b {
-        return a;
-    }
-    b
-}
-
 // What a look over both lists finds: whether the entries of the line and those set aside are right; how many there are; the places of
-// an owner's entry in the line and in the list set aside, or their ends; and the entries that each buffer has.
+// an owner's entry in the line and in the list set aside, or their ends (no Options, since `SeenOf` and `FoundAt` say so); and the entries that each
+// buffer has.
 #[derive(Clone, Copy)]
 pub struct Seen {
     pub lined: bool,
@@ -123,19 +105,19 @@ pub struct Seen {
 pub fn look(line: &[Entry], given: usize, aside: &[Entry], kept: usize, owner: u32) -> Seen
     ensures { SeenOf (lent_as line.now given aside.now kept) owner result }
 {
-    let waiting = least(given, line.len());
-    let resting = least(kept, aside.len());
+    let waiting = given.min(line.len());
+    let resting = kept.min(aside.len());
     let lined = list_right(line, waiting, aside, resting, true);
     let rested = list_right(aside, resting, line, 0, false);
     let place = find_owner(line, 0, waiting, owner);
     let found = find_owner(aside, 0, resting, owner);
     Seen {
-        lined: lined,
-        rested: rested,
-        waiting: waiting,
-        resting: resting,
-        place: place,
-        found: found,
+        lined,
+        rested,
+        waiting,
+        resting,
+        place,
+        found,
         room: line.len(),
         spare: aside.len(),
     }
@@ -146,10 +128,8 @@ pub fn remove_then_append(list: &mut [Entry], gap: usize, last: usize, adds: boo
     requires { (gap < last → last < length list.old) × (adds ≡ true → last < length list.old) }
     ensures { list.new ≡ settled list.old gap last adds e }
 {
-    let mut i = gap;
-    while i < last {
-        list[i] = list[i + 1];
-        i += 1;
+    if gap < last {
+        list.copy_within(gap + 1..last + 1, gap);
     }
     if adds {
         list[last] = e;

@@ -14,11 +14,12 @@ pub fn entry_with(e: Entry, steps: u32, saved: u32, state: [u32; 11]) -> Entry
     requires { steps ≤ e.allowance }
     ensures { result ≡ entry_with e steps saved state }
 {
-    let mut next = e;
-    next.allowance = e.allowance - (steps as u64);
-    next.saved = saved;
-    next.state = state;
-    next
+    Entry {
+        allowance: e.allowance - u64::from(steps),
+        saved,
+        state,
+        ..e
+    }
 }
 
 // A call that is refused by `number` changes neither list.
@@ -51,11 +52,11 @@ fn answered(ended: Ended, waiting: usize, resting: usize) -> Service
     let turned = ended.turned;
     let entry = ended.entry;
     Service {
-        turned: turned,
+        turned,
         owner: entry.owner,
         left: entry.allowance,
-        waiting: waiting,
-        resting: resting,
+        waiting,
+        resting,
     }
 }
 
@@ -69,7 +70,7 @@ fn dequeued(ended: Ended, given: usize, kept: usize) -> ServeChanges
         answer: answered(ended, given - 1, kept),
         line: removed(0, given),
         aside: unchanged(),
-        entry: entry,
+        entry,
     }
 }
 
@@ -84,14 +85,14 @@ fn requeued(ended: Ended, given: usize, kept: usize) -> ServeChanges
             answer: answered(ended, given - 1, kept + 1),
             line: removed(0, given),
             aside: appended(kept),
-            entry: entry,
+            entry,
         };
     }
     ServeChanges {
         answer: answered(ended, given, kept),
         line: rotated(given),
         aside: unchanged(),
-        entry: entry,
+        entry,
     }
 }
 
@@ -100,12 +101,9 @@ pub fn turn_outcome(ended: Ended, given: usize, kept: usize) -> ServeChanges
     requires { (1 ≤ given) × (given + kept ≤ most_entries) }
     ensures { result ≡ turn_outcome_by ended.turned.ending ended given kept }
 {
-    let turned = ended.turned;
-    let ending = turned.ending;
-    match ending {
+    match ended.turned.ending {
         TurnEnding::Done => dequeued(ended, given, kept),
-        TurnEnding::Spent => requeued(ended, given, kept),
-        TurnEnding::Full => requeued(ended, given, kept),
+        TurnEnding::Spent | TurnEnding::Full => requeued(ended, given, kept),
         TurnEnding::Refused(number) => refused(number),
     }
 }

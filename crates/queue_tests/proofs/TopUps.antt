@@ -106,7 +106,8 @@ module _ (line : List Entry) (given : ℕ) (aside : List Entry) (kept owner amou
       record {
         line = ((λ z. absurd (omega arith)), (λ z. absurd_true z refl));
         aside = ((λ z. absurd (omega arith)), (λ z. absurd_true z refl));
-        result = sym (ap (result_by_number (top_up_schema l) (owner, amount)) (sym same_tests ∙ one_fails (first_failing (top_up_tests_by entries room)) n e h));
+        result = sym (ap (result_by_number (top_up_schema l) (owner, amount))
+            (sym same_tests ∙ one_fails (first_failing (top_up_tests_by entries room)) n e h));
       }
 
   -- all tests pass

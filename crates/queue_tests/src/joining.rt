@@ -46,8 +46,8 @@ fn entry_of(owner: u32, allowance: u64, plan: &[u32], state: &[u32]) -> Entry
     let mut saved = [0u32; 11];
     words::copy_in(&mut saved, 0, state);
     Entry {
-        allowance: allowance,
-        owner: owner,
+        allowance,
+        owner,
         planned: plan.len() as u32,
         saved: state.len() as u32,
         plan: words,

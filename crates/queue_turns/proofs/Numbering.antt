@@ -2,7 +2,7 @@
 use Prim.Native.Nat.{ℕ, ◌<◌, ◌≤◌}
 use native.Mathlib.Omega.{arith}
 use mathlib.Core.Path.{◌≡◌, refl, ap, ◌∙◌}
-use mathlib.Core.Bool.{Bool, true, false, ◌&&◌, not}
+use mathlib.Core.Bool.{Bool, true, false, not}
 use mathlib.Core.List.{◌++◌}
 use lib.Dec.{eqb}
 use borrow.Author.Tests.{le-leb, lt-leb, eq-eqb, ne_eqb}
@@ -80,12 +80,3 @@ unfolding all
 tables_then t quantum survey =
     ap (first_number (number_of (first_failing (table_tests t)))) (numbers_follow (quantum_tests quantum) (number_tests survey) refl)
     ∙ numbers_follow (table_tests t) (quantum_tests quantum ++ number_tests survey) refl
-
--- ---- test 17 of both lists
-pub line_wrong : (lined rested : Bool) → not lined ≡ true → false ≡ lined && rested
-line_wrong true rested h = absurd_true h refl
-line_wrong false rested h = refl
-
-pub line_right : (lined rested : Bool) → not lined ≡ false → rested ≡ lined && rested
-line_right true rested h = refl
-line_right false rested h = absurd_true refl h

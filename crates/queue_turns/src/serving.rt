@@ -21,20 +21,14 @@ use queues::Entry;
 fn lists_right(seen: Seen) -> bool
     ensures { result ≡ seen.lined && seen.rested }
 {
-    if !seen.lined {
-        return false;
-    }
-    seen.rested
+    seen.lined && seen.rested
 }
 
 // The most steps of a turn: `quantum`, and no more than `allowance`, which are left.
 fn least_steps(quantum: u32, allowance: u64) -> u32
     ensures { result ≡ min quantum allowance }
 {
-    if allowance < (quantum as u64) {
-        return allowance as u32;
-    }
-    quantum
+    allowance.min(u64::from(quantum)) as u32
 }
 
 // The number of the first test that fails, or 0: those of the front entry `e`, or of an empty line; then `late`, the number of both lists.

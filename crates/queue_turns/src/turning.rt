@@ -40,7 +40,7 @@ pub fn turn_entry(
         output,
     );
     Ended {
-        turned: turned,
+        turned,
         entry: entry_with(e, turned.steps, turned.saved as u32, state),
     }
 }

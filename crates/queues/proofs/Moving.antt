@@ -135,7 +135,8 @@ pub found : (owner : ℕ) (es : List Entry) → member owner (owners_in es) ≡ 
 unfolding member distinct keep all
 found owner [] h d z = absurd_true h refl
 found owner (e ∷ es) h d z =
-    by_owner_lem (λ m. found owner es m (and_right (not (member e.owner (owners_in es))) (distinct (owners_in es)) d) (and_right (has_none e) (all has_none es) z))
+    by_owner_lem (λ m. found owner es m (and_right (not (member e.owner (owners_in es))) (distinct (owners_in es)) d)
+    (and_right (has_none e) (all has_none es) z))
     (eqb e.owner owner) refl
   where
     by_owner_lem : (member owner (owners_in es) ≡ true → FoundEntry owner es) → (b : Bool) → eqb e.owner owner ≡ b → FoundEntry owner (e ∷ es)
@@ -208,7 +209,8 @@ module _ (q : Queue) (m : MadeCall) where
   top_up_leaves v owner n = by_tests (first_failing (top_up_tests lent owner n))
     where
       by_tests : (o : Option ℕ)
-          → after_queued q (result_by_number (top_up_schema lent) (owner, n) o) (result_by_number (top_up_schema lent) (owner, n) o).answer ≡ topped_to owner n o
+          → after_queued q (result_by_number (top_up_schema lent) (owner, n) o)
+          (result_by_number (top_up_schema lent) (owner, n) o).answer ≡ topped_to owner n o
       by_tests (some x) = refl
       by_tests none = read_back lent (topped_up lent owner n) ∙ (λ i. queue
           (line_lent q m i ++ map (with_allowance n) (keep (has_owner owner) (aside_lent q m i))) (keep (not_owner owner) (aside_lent q m i)))

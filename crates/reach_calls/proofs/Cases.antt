@@ -2,12 +2,11 @@
 use Prim.Native.Nat.{ℕ, zero, suc, ◌+◌, ◌-◌, ◌/◌, ◌≤◌, ◌<◌}
 use native.Mathlib.Omega.{arith}
 use mathlib.Core.Path.{◌≡◌, refl, sym, ◌∙◌, ap, ap₂}
-use mathlib.Core.Bool.{Bool, true, false, cond, ◌&&◌, not}
+use mathlib.Core.Bool.{Bool, true, false, cond, ◌&&◌}
 use mathlib.Core.Option.{none}
 use mathlib.Core.List.{List, []}
-use lib.Dec.{eqb, ltb}
+use lib.Dec.{ltb}
 use lib.ListN.{length}
-use borrow.Author.Tests.{eq-eqb, ne_eqb}
 use Rattle.sequences.specs.Sequences.{all, count_below}
 use Rattle.tables.specs.declared.Place.{Place}
 use Rattle.words.specs.Words.{term_values, number}
@@ -40,30 +39,6 @@ use Rattle.reach.specs.declared.HowFar.{HowFar}
 use Rattle.reach.specs.declared.HowFar.TheVariants.{At, Refused}
 use Rattle.reach.specs.Reach.{begins_year, years_before, or_one, year_count, year_number, outermost, far_of, reach_tests, as_answer, reach_schema, reached_of}
 use Rattle.reach.proofs.Refusals.{reach_is_right}
-
-pub one_none : (n : ℕ) → n ≡ 0 → 1 ≡ or_one n
-one_none n e = rw (eq-eqb n 0 e) refl
-
-pub one_some : (n : ℕ) → (n ≡ 0 → ⊥) → n ≡ or_one n
-one_some n h = rw (ne_eqb n 0 h) refl
-
-pub begins_first : (t : Tables) (row : ℕ) → row ≡ 0 → true ≡ begins_year t row
-begins_first t row e = rw (eq-eqb row 0 e) refl
-
-pub begins_later : (t : Tables) (row : ℕ) → (row ≡ 0 → ⊥) → not (eqb (year_at t row) (year_at t (row - 1))) ≡ begins_year t row
-begins_later t row h = rw (ne_eqb row 0 h) refl
-
-pub begins_yes : (b : Bool) (x y a : ℕ) → b ≡ true → a ≡ x → ltb a y ≡ b && ltb x y
-begins_yes b x y a e f = ap (λ n. ltb n y) f ∙ sym (ap (λ c. c && ltb x y) e)
-
-pub begins_no : (b c : Bool) → b ≡ false → false ≡ b && c
-begins_no b c e = sym (ap (λ d. d && c) e)
-
-pub begun_yes : (b : Bool) → b ≡ true → ◌≡◌ {A = ℕ} 1 (cond b 1 0)
-begun_yes b e = sym (ap (λ c. cond c 1 0) e)
-
-pub begun_no : (b : Bool) → b ≡ false → ◌≡◌ {A = ℕ} 0 (cond b 1 0)
-begun_no b e = sym (ap (λ c. cond c 1 0) e)
 
 -- one row more is counted, or not
 pub none_counted : (f : ℕ → Bool) → 0 ≡ count_below f 0

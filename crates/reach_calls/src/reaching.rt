@@ -1,5 +1,5 @@
 // The call: its tests, and how far its state is.
-ghost use Rattle.std.specs.Prelude.{◌≡◌, true, [], ◌-◌, ◌<◌, length};
+ghost use Rattle.std.specs.Prelude.{◌≡◌, true, [], ◌<◌, length};
 ghost use Rattle.words.specs.Words.{number};
 ghost use Rattle.calls.specs.Calls.{AnswersRight};
 ghost use Rattle.tables.specs.Tables.{tables_of, section_of};
@@ -17,8 +17,8 @@ use crate::years::{year_count, year_number};
 use reach::HowFar;
 use step_cursors::Cursor;
 use step_fields::level_of;
-use step_levels::{Bounds, level_range};
-use tables::Place;
+use step_levels::level_range;
+use tables::{Bounds, Place};
 use turn_tests::{ACCEPTED, check};
 use words::Term;
 
@@ -48,22 +48,7 @@ fn first_range(
 fn outer(c: Cursor) -> Place
     ensures { result.0 ≡ outermost (upper_of c.upper c.level) c.place.0 }
 {
-    let place = c.place;
-    let upper = c.upper;
-    if c.level == 0 {
-        return place;
-    }
-    upper[0]
-}
-
-// The places from `from` on to `to`, none where that is before it.
-fn distance(from: Place, to: Place) -> u32
-    ensures { result ≡ to.0 - from.0 }
-{
-    if to.0 < from.0 {
-        return 0;
-    }
-    to.0 - from.0
+    if c.level == 0 { c.place } else { c.upper[0] }
 }
 
 // How far `c` is.
@@ -82,15 +67,13 @@ fn far(rows: &[u32], pos: &[u32], osp: &[u32], plan: &[u32], c: Cursor) -> HowFa
     let end = range.end;
     let years = year_count(rows, plans::years_in(plan));
     let year = year_number(rows, plans::years_in(plan), Term(f.year).value());
-    let places = distance(first, end);
-    let passed = distance(first, place);
     HowFar::At {
-        years: years,
-        year: year,
+        years,
+        year,
         branches: plans::branch_count(plan),
-        branch: branch,
-        places: places,
-        passed: passed,
+        branch,
+        places: end.0.saturating_sub(first.0),
+        passed: place.0.saturating_sub(first.0),
     }
 }
 

@@ -1,5 +1,5 @@
 // Which of the years that a plan reads a year is, and how many there are.
-ghost use Rattle.std.specs.Prelude.{◌≡◌, cond, ◌&&◌, [], ◌/◌, ◌<◌, ◌≤◌, ltb, length};
+ghost use Rattle.std.specs.Prelude.{◌≡◌, ◌&&◌, [], ◌/◌, ◌<◌, ◌≤◌, ltb, length};
 ghost use Rattle.tables.specs.Tables.{tables_of, column_count, most_rows};
 ghost use Rattle.tables.specs.Years.{year_at};
 ghost use Rattle.reach.specs.Reach.{begins_year, or_one, years_before, year_count, year_number};
@@ -24,10 +24,7 @@ fn begins_year(rows: &[u32], row: usize) -> bool
     requires { row < length rows.now / column_count }
     ensures { result ≡ begins_year (tables_of rows.now [] []) row }
 {
-    if row == 0 {
-        return true;
-    }
-    year_at(rows, row) != year_at(rows, row - 1)
+    row == 0 || year_at(rows, row) != year_at(rows, row - 1)
 }
 
 // Whether `row` begins a year before `year`.
@@ -35,21 +32,7 @@ fn begins_before(rows: &[u32], row: usize, year: u32) -> bool
     requires { row < length rows.now / column_count }
     ensures { result ≡ begins_year (tables_of rows.now [] []) row && ltb (year_at (tables_of rows.now [] []) row) year }
 {
-    if begins_year(rows, row) {
-        return year_at(rows, row) < year;
-    }
-    false
-}
-
-// 1 where it does, else 0.
-fn begun_at(rows: &[u32], row: usize, year: u32) -> u32
-    requires { row < length rows.now / column_count }
-    ensures { result ≡ cond (begins_year (tables_of rows.now [] []) row && ltb (year_at (tables_of rows.now [] []) row) year) 1 0 }
-{
-    if begins_before(rows, row, year) {
-        return 1;
-    }
-    0
+    begins_year(rows, row) && year_at(rows, row) < year
 }
 
 // How many years of rows come before `year`.
@@ -59,10 +42,10 @@ fn years_before(rows: &[u32], year: u32) -> u32
 {
     let count = rows.len() / COLUMNS;
     let mut begun: u32 = 0;
-    let mut row: usize = 0;
-    while row < count {
-        begun += begun_at(rows, row, year);
-        row += 1;
+    for row in 0..count {
+        if begins_before(rows, row, year) {
+            begun += 1;
+        }
     }
     begun
 }
@@ -71,10 +54,7 @@ fn years_before(rows: &[u32], year: u32) -> u32
 fn or_one(n: u32) -> u32
     ensures { result ≡ or_one n }
 {
-    if n == 0 {
-        return 1;
-    }
-    n
+    n.max(1)
 }
 
 // How many years of `years` are read.
@@ -83,9 +63,8 @@ pub fn year_count(rows: &[u32], years: Years) -> u32
     ensures { result ≡ year_count (tables_of rows.now [] []) years }
 {
     match years {
-        Years::Latest => 1,
         Years::Every => or_one(years_before(rows, BEHIND_ALL)),
-        Years::Named(_) => 1,
+        Years::Latest | Years::Named(_) => 1,
     }
 }
 
@@ -95,8 +74,7 @@ pub fn year_number(rows: &[u32], years: Years, year: u32) -> u32
     ensures { result ≡ year_number (tables_of rows.now [] []) years year }
 {
     match years {
-        Years::Latest => 0,
         Years::Every => years_before(rows, year),
-        Years::Named(_) => 0,
+        Years::Latest | Years::Named(_) => 0,
     }
 }

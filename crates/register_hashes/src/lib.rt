@@ -24,7 +24,8 @@ const FOURTH_BYTE: u64 = 0x100_0000;
 // The values of the 60 bits below the top four.
 const RANKED: u64 = 0x1000_0000_0000_0000;
 
-// The product of `a` and `b` modulo 2^64, from the halves of both: the product of the high halves has no part in it.
+// The product of `a` and `b` modulo 2^64, from the halves of both: the product of the high halves has no part in it. That it is made so is a
+// rule of the project (docs/RULES.md, 13).
 pub fn wrapping_mul(a: u64, b: u64) -> u64
     ensures wraps { result ≡ (a * b) % 2 ^ 64 }
 {

@@ -14,17 +14,7 @@ fn count_at(list: &[u32], value: u32) -> u32
     requires { length list.now ≤ register_count }
     ensures { result ≡ count_at value list.now }
 {
-    let mut count: u32 = 0;
-    let mut i: usize = 0;
-    while i < list.len() {
-        if list[i] == value {
-            count += 1;
-            i += 1;
-        } else {
-            i += 1;
-        }
-    }
-    count
+    list.iter().filter(|register| **register == value).count() as u32
 }
 
 // How many registers of an empty list are `value`: all are 0.
@@ -42,7 +32,7 @@ fn counted(list: &[u32], value: u32) -> u32
     requires { length list.now ≤ register_count }
     ensures { result ≡ count_at value (registers_in list.now) }
 {
-    if list.len() == 0 {
+    if list.is_empty() {
         return counted_none(value);
     }
     count_at(list, value)
@@ -54,10 +44,7 @@ pub fn write_counts(list: &[u32], report: &mut [u32])
     requires report_words_in_bounds { report_words ≤ length report.old }
     ensures { report.new ≡ over (report_on list.now) report.old }
 {
-    let mut value: usize = 0;
-    while value < REPORT_WORDS {
-        let count = counted(list, value as u32);
-        report[value] = count;
-        value += 1;
+    for value in 0..REPORT_WORDS {
+        report[value] = counted(list, value as u32);
     }
 }

@@ -8,7 +8,6 @@ use lib.ListN.{length, take, drop, set, length-append, take-append-drop}
 use lib.Seq.{take-length, take-append_seam, take-suc-set, drop-append-add, drop-set-lt, drop-drop, length-take-le, paste}
 use Rattle.sequences.specs.Sequences.{over}
 use Rattle.sequences.specs.Buffers.{Overwritten}
-use Rattle.sequences.proofs.Buffers.{length_over}
 
 -- some words more behind those over the front of a buffer
 over_more : (ws x buffer : List ℕ) → length ws + length x ≤ length buffer
@@ -28,9 +27,6 @@ module _ (ws x before after next : List ℕ) (used : ℕ) (counted : used ≡ le
 
   pub grow_count : used + length x ≡ length (ws ++ x)
   grow_count = omega (arith, length-append ws x)
-
-  pub grow_length : length next ≡ length before
-  grow_length = ap length grow_whole ∙ length_over (ws ++ x) before (let c = grow_count in omega arith)
 
 -- one number more is written
 module _ (buffer : List ℕ) (n x : ℕ) (h : n < length buffer) where

@@ -30,3 +30,4 @@ pub mod MergingInPlace
 pub mod Halving
 pub mod Joining
 pub mod PutIn
+pub mod Recursions

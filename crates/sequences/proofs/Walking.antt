@@ -3,13 +3,11 @@ use Prim.Native.Nat.{ℕ, ◌+◌, ◌-◌, ◌≤◌, ◌<◌}
 use native.Mathlib.Omega.{arith}
 use native.Mathlib.Numerals.{add-one}
 use mathlib.Core.Path.{◌≡◌, refl, sym, ◌∙◌, ap}
-use mathlib.Core.Bool.{Bool, true, false, ◌&&◌, ◌||◌, not}
+use mathlib.Core.Bool.{Bool, true, false, ◌&&◌, not}
 use mathlib.Core.List.{List, [], ◌∷◌}
-use lib.Dec.{eqb}
 use lib.ListN.{length, get_or, take, drop, length-drop, drop_of_length-le}
 use lib.Seq.{take_all, drop-cons}
-use borrow.Author.Tests.{eq-eqb, ne_eqb}
-use Rattle.sequences.specs.Sequences.{all, member, distinct}
+use Rattle.sequences.specs.Sequences.{member, distinct}
 
 -- a part to the end of a slice, as it is lent
 pub rest_of : (xs : List ℕ) (i : ℕ) → take (length xs - i) (drop i xs) ≡ drop i xs
@@ -24,40 +22,6 @@ first_none [] h = refl
 first_none (x ∷ xs) h = absurd (omega arith)
 
 module _ (xs : List ℕ) (i : ℕ) where
-  -- ---- a test at each element
-  module _ (f : ℕ → Bool) where
-    pub all_end : length xs ≤ i → all f (drop i xs) ≡ true
-    unfolding all
-    all_end h = rw (drop_of_length-le xs h)
-
-    module _ (h : i < length xs) where
-      all_step : all f (drop i xs) ≡ (f (get_or xs i 0) && all f (drop (i + 1) xs))
-      unfolding all
-      all_step = rw (add-one, drop-cons xs i 0)
-
-      pub all_goes : f (get_or xs i 0) ≡ true → all f (drop i xs) ≡ all f (drop (i + 1) xs)
-      all_goes e = all_step ∙ rw e
-
-      pub all_stops : f (get_or xs i 0) ≡ false → all f (drop i xs) ≡ false
-      all_stops e = all_step ∙ rw e
-
-  -- ---- a word among others
-  module _ (w : ℕ) where
-    pub member_end : length xs ≤ i → member w (drop i xs) ≡ false
-    unfolding member
-    member_end h = rw (drop_of_length-le xs h)
-
-    module _ (h : i < length xs) where
-      member_step : member w (drop i xs) ≡ (eqb w (get_or xs i 0) || member w (drop (i + 1) xs))
-      unfolding member
-      member_step = rw (add-one, drop-cons xs i 0)
-
-      pub member_goes : (get_or xs i 0 ≡ w → ⊥) → member w (drop i xs) ≡ member w (drop (i + 1) xs)
-      member_goes n = member_step ∙ rw (ne_eqb w (get_or xs i 0) (λ e. n (sym e)))
-
-      pub member_stops : get_or xs i 0 ≡ w → member w (drop i xs) ≡ true
-      member_stops e = member_step ∙ rw (eq-eqb w (get_or xs i 0) (sym e))
-
   -- ---- no word twice
   pub distinct_end : length xs ≤ i → distinct (drop i xs) ≡ true
   unfolding distinct

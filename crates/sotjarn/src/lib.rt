@@ -23,14 +23,11 @@ ghost use Rattle.dictionary_lookups.specs.Lending.{string_input, string_call};
 ghost use Rattle.call_numbers.specs.Numbers.{written_numbers, turned_numbers, made_numbers, queued_numbers, service_numbers, tables_numbers};
 ghost use Rattle.call_numbers.specs.Numbers.{kind_of, numbered_numbers, found_numbers, bounds_numbers};
 
+use call_numbers::kind_of;
 pub use call_numbers::{
     ABSENT, BoundsNumbers, DONE, FULL, FoundNumbers, MadeNumbers, NAMES, NumberedNumbers, PRESENT,
     QueuedNumbers, REFUSED, SPENT, ServiceNumbers, TEXTS, TablesNumbers, TurnedNumbers,
     WrittenNumbers,
-};
-use call_numbers::{
-    bounds_numbers, found_numbers, kind_of, made_numbers, numbered_numbers, queued_numbers,
-    service_numbers, tables_numbers, turned_numbers, written_numbers,
 };
 use queues::Entry;
 
@@ -49,7 +46,7 @@ pub extern "C" fn sotjarn_open(
     ensures state { state.new
         ≡ (open_of (survey_of rows.now pos.now osp.now survey) plan.now state.old).buffers }
 {
-    written_numbers(turn_calls::open(rows, pos, osp, survey, plan, state))
+    WrittenNumbers::from(turn_calls::open(rows, pos, osp, survey, plan, state))
 }
 
 // Runs one turn of a query from its state, the first `given` words of `state`, or refuses.
@@ -75,7 +72,7 @@ pub extern "C" fn sotjarn_turn(
         ≡ (turn_of (turn_input rows.now pos.now osp.now survey plan.now state.old given quantum
         threshold.now output.old)).buffers.output }
 {
-    turned_numbers(turn_calls::turn(
+    TurnedNumbers::from(turn_calls::turn(
         rows, pos, osp, survey, plan, state, given, quantum, threshold, output,
     ))
 }
@@ -91,7 +88,7 @@ pub extern "C" fn sotjarn_merge(
     ensures answer { result ≡ written_numbers (merge_of (merge_input plan.now kept.old given list.now)).answer }
     ensures kept { kept.new ≡ (merge_of (merge_input plan.now kept.old given list.now)).buffers }
 {
-    written_numbers(merge_calls::merge(plan, kept, given, list))
+    WrittenNumbers::from(merge_calls::merge(plan, kept, given, list))
 }
 
 // Writes to `report` how many registers of the kept list, the first `given` words of `kept`, have each value, or refuses.
@@ -100,7 +97,7 @@ pub extern "C" fn sotjarn_report(kept: &[u32], given: usize, report: &mut [u32])
     ensures answer { result ≡ written_numbers (report_of (report_input kept.now given report.old)).answer }
     ensures report { report.new ≡ (report_of (report_input kept.now given report.old)).buffers }
 {
-    written_numbers(register_reports::report(kept, given, report))
+    WrittenNumbers::from(register_reports::report(kept, given, report))
 }
 
 // The fewest words that a turn's output may have for `plan`, which test 7 asks for, or the number of the test that refuses the plan.
@@ -108,7 +105,7 @@ pub extern "C" fn sotjarn_report(kept: &[u32], given: usize, report: &mut [u32])
 pub extern "C" fn sotjarn_least_output(plan: &[u32]) -> WrittenNumbers
     ensures { result ≡ written_numbers (plan_output plan.now) }
 {
-    written_numbers(list_limits::plan_output(plan))
+    WrittenNumbers::from(list_limits::plan_output(plan))
 }
 
 // Makes tables from `upload`, and a report of the rows that it drops, or refuses.
@@ -131,7 +128,7 @@ pub extern "C" fn sotjarn_make(
     ensures report { report.new ≡ (make_of (make_input upload.now rows.old pos.old osp.old
         report.old)).buffers.report }
 {
-    made_numbers(upload_calls::make(upload, rows, pos, osp, report))
+    MadeNumbers::from(upload_calls::make(upload, rows, pos, osp, report))
 }
 
 // A query of `owner` joins the queue: the line with steps, the list set aside without; or it is refused.
@@ -160,7 +157,7 @@ pub extern "C" fn sotjarn_join(
         (lent_as line.old given aside.old kept)
         (record { owner = owner; allowance = allowance; plan = plan.now; state = state.now })).buffers.aside)) }
 {
-    queued_numbers(queue_joins::join(
+    QueuedNumbers::from(queue_joins::join(
         rows, pos, osp, survey, line, given, aside, kept, owner, allowance, plan, state,
     ))
 }
@@ -193,7 +190,7 @@ pub extern "C" fn sotjarn_serve(
         (lent_as line.old given aside.old kept)
         (record { quantum = quantum; threshold = threshold.now; output = output.old })).buffers.output))) }
 {
-    service_numbers(queue_serves::serve(
+    ServiceNumbers::from(queue_serves::serve(
         rows, pos, osp, survey, line, given, aside, kept, quantum, threshold, output,
     ))
 }
@@ -212,7 +209,7 @@ pub extern "C" fn sotjarn_top_up(
         × ((line.new ≡ (top_up_of (lent_as line.old given aside.old kept) owner amount).buffers.line)
         × (aside.new ≡ (top_up_of (lent_as line.old given aside.old kept) owner amount).buffers.aside)) }
 {
-    queued_numbers(queue_joins::top_up(line, given, aside, kept, owner, amount))
+    QueuedNumbers::from(queue_joins::top_up(line, given, aside, kept, owner, amount))
 }
 
 // Writes the tables of the rows that an adviser's `grant` makes visible, or refuses.
@@ -236,7 +233,7 @@ pub extern "C" fn sotjarn_view(
     ensures osp { view_osp.new ≡ (view_call_of (view_input rows.now pos.now osp.now
         grant.now membership view_rows.old view_pos.old view_osp.old)).buffers.osp }
 {
-    tables_numbers(view_calls::view(
+    TablesNumbers::from(view_calls::view(
         rows, pos, osp, grant, membership, view_rows, view_pos, view_osp,
     ))
 }
@@ -259,7 +256,7 @@ pub extern "C" fn sotjarn_grow(
     ensures osp { osp.new
         ≡ (grow_of (grow_input seed stems year rows.old pos.old osp.old)).buffers.osp }
 {
-    tables_numbers(wood_calls::grow(seed, stems, year, rows, pos, osp))
+    TablesNumbers::from(wood_calls::grow(seed, stems, year, rows, pos, osp))
 }
 
 // Numbers strings of a kind, 0 for names and any other number for texts, in any order and as often as they come: writes the dictionary of them to `out`
@@ -285,7 +282,7 @@ pub extern "C" fn sotjarn_number(
     ensures places { places.new ≡ (result_of_call number_call (number_input (kind_of kind) bytes.now ends.now
         (number_buffers out.old cuts.old numbers.old places.old))).buffers.places }
 {
-    numbered_numbers(dictionary_numbers::number(
+    NumberedNumbers::from(dictionary_numbers::number(
         kind_of(kind),
         bytes,
         ends,
@@ -302,7 +299,7 @@ pub extern "C" fn sotjarn_find(kind: u32, bytes: &[u8], ends: &[u32], sought: &[
     ensures { result ≡ found_numbers (result_of_call find_call (find_input (kind_of kind) bytes.now ends.now
         sought.now)).answer }
 {
-    found_numbers(dictionary_lookups::find(kind_of(kind), bytes, ends, sought))
+    FoundNumbers::from(dictionary_lookups::find(kind_of(kind), bytes, ends, sought))
 }
 
 // Where the string with the number `number` starts in the bytes of a dictionary, and where it ends; or refuses.
@@ -316,5 +313,5 @@ pub extern "C" fn sotjarn_string(
     ensures { result
         ≡ bounds_numbers (result_of_call string_call (string_input (kind_of kind) bytes.now ends.now number)).answer }
 {
-    bounds_numbers(dictionary_lookups::string(kind_of(kind), bytes, ends, number))
+    BoundsNumbers::from(dictionary_lookups::string(kind_of(kind), bytes, ends, number))
 }

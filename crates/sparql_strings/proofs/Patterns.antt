@@ -13,7 +13,8 @@ use Rattle.sequences.proofs.Booleans.{and_left, and_right, Decided, yes, no, dec
 use Rattle.sequences.proofs.Counting.{all_at_lem}
 use Rattle.sparql.specs.Terms.{Vocabulary, RdfTermOver, TripleOver, GraphOver, MappingOver, variables, lookup, is_bound}
 use Rattle.sparql.specs.Expressions.{PatternTermOver, variable, constant, value_under}
-use Rattle.sparql.specs.Algebra.{TriplePatternOver, is_variable_named, mentions, occurs, triple_of, instance_under, in_graph, same_truth, domain_is, is_solution}
+use Rattle.sparql.specs.Algebra.{TriplePatternOver, is_variable_named, mentions, occurs, triple_of, instance_under, in_graph, same_truth, domain_is}
+use Rattle.sparql.specs.Algebra.{is_solution}
 use Rattle.sparql_strings.specs.Carrying.{Carrier, Keeps, carry_value, carry_mapping, carry_triple}
 use Rattle.sparql_strings.specs.Carrying.{carry_pattern_term, carry_pattern, CarriedGraph}
 use Rattle.sparql_strings.proofs.Terms.{carry_lookup, carry_bound}

@@ -17,14 +17,9 @@ use words::{NUMBERS, StateWord};
 fn all_places(state: &[u32]) -> bool
     ensures { result ≡ all is_place state.now }
 {
-    let mut i: usize = 0;
-    while i < state.len() {
-        if StateWord(state[i]).kind() != StateWord::PLACE {
-            return false;
-        }
-        i += 1;
-    }
-    true
+    state
+        .iter()
+        .all(|word| StateWord(*word).kind() == StateWord::PLACE)
 }
 
 // Whether a branch with the terms `terms` has a level at the depth `depth`, from 1.

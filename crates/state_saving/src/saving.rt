@@ -18,11 +18,8 @@ fn save_behind(c: Cursor, state: &mut [u32]) -> usize
     let upper = c.upper;
     let last = c.place;
     state[0] = StateWord::position(c.branch, level as u32 + 1).0;
-    let mut i: usize = 0;
-    while i < level {
-        let place = upper[i];
-        i += 1;
-        state[i] = StateWord::place(place.0).0;
+    for i in 0..level {
+        state[i + 1] = StateWord::place(upper[i].0).0;
     }
     state[level + 1] = StateWord::place(last.0).0;
     level + 2

@@ -1,38 +1,60 @@
 // A cursor's places against the rows of a year, which begin with its word: test 10, level by level from the outermost in.
 #![tactic(auto)]
 
-ghost use Rattle.std.specs.Prelude.{◌≡◌, true, ◌<◌, length};
+ghost use Rattle.std.specs.Prelude.{◌≡◌, ◌&&◌, true, ◌<◌, length, is_some, IfSome};
 ghost use Rattle.tables.specs.Tables.{tables_of, section_of};
-ghost use Rattle.tables.specs.Ranges.{range_end};
+ghost use Rattle.tables.specs.Ranges.{range_end, in_range};
 ghost use Rattle.tables.specs.Right.{Right};
 ghost use Rattle.plans.specs.Branches.{most_patterns};
-ghost use Rattle.steps.specs.Levels.{bindings, level_prefix, Inside};
+ghost use Rattle.steps.specs.Levels.{bindings, level_prefix, passes, Inside};
+ghost use Rattle.step_levels.specs.Showing.{bound_after};
 ghost use Rattle.steps.specs.Positions.{upper_right, state_right};
 ghost use Rattle.step_cursors.specs.Held.{upper_of, position_of, EndsAbove};
 ghost use Rattle.state_saving.specs.Loading.{up_to_end};
 
 use step_cursors::Cursor;
 use step_fields::level_of;
-use step_levels::{Tested, level_passes, level_range};
+use step_levels::{level_passes, level_range};
 use tables::Place;
 use words::Term;
 
-// Upper places walked: whether they are right, and if so the ends of their levels' ranges.
-#[derive(Clone, Copy)]
-struct Above {
-    right: bool,
-    ends: [Place; 8],
-}
-
-// All places of a cursor walked: whether they are right, and if so the ends of their levels' ranges, the last level's apart.
+// All places of a cursor walked: the ends of their levels' ranges, the last level's apart.
 #[derive(Clone, Copy)]
 pub struct Walk {
-    pub right: bool,
     pub end: Place,
     pub ends: [Place; 8],
 }
 
-// Whether each upper place of `c` is in its range at a row that passes. Then `bound` holds what they bind, and the ends are found.
+// The end of the range of `level`, if `place` is in it at a row that passes. Its fields are then bound.
+fn level_end(
+    rows: &[u32],
+    pos: &[u32],
+    osp: &[u32],
+    year: u32,
+    terms: &[u32],
+    level: usize,
+    place: Place,
+    bound: &mut [u32; 16],
+) -> Option<Place>
+    requires right { Right (tables_of rows.now pos.now osp.now) }
+    requires inside { Inside terms.now level }
+    ensures right_value { is_some result ≡ (in_range (tables_of rows.now pos.now osp.now)
+        (level_prefix year terms.now level bound.old) place.0
+        && passes (section_of rows.now pos.now osp.now year)
+        terms.now level place.0 bound.old) }
+    ensures bound_after { bound.new ≡ bound_after (section_of rows.now pos.now osp.now year)
+        terms.now level place.0 bound.old }
+    ensures ends { IfSome result (λ end. end.0 ≡ range_end (tables_of rows.now pos.now osp.now)
+        (level_prefix year terms.now level bound.old)) }
+{
+    let tested = level_passes(rows, pos, osp, year, terms, level, place, bound);
+    if tested.right {
+        return Some(tested.end);
+    }
+    None
+}
+
+// The ends of the upper levels' ranges, if each upper place of `c` is in its range at a row that passes. Then `bound` holds what they bind.
 fn upper_right(
     rows: &[u32],
     pos: &[u32],
@@ -41,43 +63,28 @@ fn upper_right(
     terms: &[u32],
     c: Cursor,
     bound: &mut [u32; 16],
-) -> Above
+) -> Option<[Place; 8]>
     requires right { Right (tables_of rows.now pos.now osp.now) }
     requires inside { Inside terms.now c.level × (c.level < most_patterns) }
-    ensures right_value { result.right ≡ upper_right (section_of rows.now pos.now osp.now year)
+    ensures right_value { is_some result ≡ upper_right (section_of rows.now pos.now osp.now year)
         terms.now (upper_of c.upper c.level) }
-    ensures bound_after { result.right ≡ true → bound.new
+    ensures bound_after { is_some result ≡ true → bound.new
         ≡ bindings (section_of rows.now pos.now osp.now year)
         terms.now (upper_of c.upper c.level) }
-    ensures ends { result.right ≡ true → (length result.ends ≡ most_patterns)
+    ensures ends { IfSome result (λ ends. (length ends ≡ most_patterns)
         × EndsAbove (section_of rows.now pos.now osp.now year)
-        terms.now c.upper result.ends c.level }
+        terms.now c.upper ends c.level) }
 {
     let upper = c.upper;
-    let last = c.level;
     *bound = [Term::UNBOUND; 16];
     let mut ends = [Place(0); 8];
-    let mut level: usize = 0;
-    while level < last {
-        let place = upper[level];
-        let tested = level_passes(rows, pos, osp, year, terms, level, place, bound);
-        if !tested.right {
-            return Above {
-                right: false,
-                ends: ends,
-            };
-        }
-        let end = tested.end;
-        ends[level] = end;
-        level += 1;
+    for level in 0..c.level {
+        ends[level] = level_end(rows, pos, osp, year, terms, level, upper[level], bound)?;
     }
-    Above {
-        right: true,
-        ends: ends,
-    }
+    Some(ends)
 }
 
-// Whether `place`, the last of a cursor, is from its level's first place up to and including the end of the range; and that end.
+// The end of the range of a cursor's last level, if its place, `place`, is from the first one up to and including that end.
 fn last_right(
     rows: &[u32],
     pos: &[u32],
@@ -87,31 +94,26 @@ fn last_right(
     level: usize,
     place: Place,
     bound: &[u32; 16],
-) -> Tested
+) -> Option<Place>
     requires right { Right (tables_of rows.now pos.now osp.now) }
     requires inside { Inside terms.now level }
-    ensures right_value { result.right ≡ up_to_end (tables_of rows.now pos.now osp.now)
+    ensures right_value { is_some result ≡ up_to_end (tables_of rows.now pos.now osp.now)
         (level_prefix year terms.now level bound.now) place.0 }
-    ensures ends { result.end.0 ≡ range_end (tables_of rows.now pos.now osp.now)
-        (level_prefix year terms.now level bound.now) }
+    ensures ends { IfSome result (λ end. end.0 ≡ range_end (tables_of rows.now pos.now osp.now)
+        (level_prefix year terms.now level bound.now)) }
 {
     let range = level_range(rows, pos, osp, level_of(year, terms, level, bound), place);
-    let first = range.first;
-    let end = range.end;
-    if place.0 < first.0 {
-        return Tested {
-            right: false,
-            end: end,
-        };
+    if place.0 < range.first.0 {
+        return None;
     }
-    Tested {
-        right: place.0 <= end.0,
-        end: end,
+    if place.0 <= range.end.0 {
+        return Some(range.end);
     }
+    None
 }
 
-// Whether the places of `c` are those of a state that the run passes through. (10) Then `bound` holds what the upper ones bind, and the ends of all
-// levels are found.
+// The ends of all levels' ranges, if the places of `c` are those of a state that the run passes through. (10) Then `bound` holds what the upper ones
+// bind.
 pub fn places_right(
     rows: &[u32],
     pos: &[u32],
@@ -120,34 +122,20 @@ pub fn places_right(
     terms: &[u32],
     c: Cursor,
     bound: &mut [u32; 16],
-) -> Walk
+) -> Option<Walk>
     requires right { Right (tables_of rows.now pos.now osp.now) }
     requires inside { Inside terms.now c.level × (c.level < most_patterns) }
-    ensures right_value { result.right ≡ state_right (section_of rows.now pos.now osp.now year)
+    ensures right_value { is_some result ≡ state_right (section_of rows.now pos.now osp.now year)
         terms.now (position_of c) }
-    ensures bound_after { result.right ≡ true → bound.new
+    ensures bound_after { is_some result ≡ true → bound.new
         ≡ bindings (section_of rows.now pos.now osp.now year)
         terms.now (upper_of c.upper c.level) }
-    ensures ends { result.right ≡ true → (result.end.0 ≡ range_end (tables_of rows.now pos.now osp.now)
-        (level_prefix year terms.now c.level bound.new)) × (length result.ends ≡ most_patterns)
+    ensures ends { IfSome result (λ walk. (walk.end.0 ≡ range_end (tables_of rows.now pos.now osp.now)
+        (level_prefix year terms.now c.level bound.new)) × (length walk.ends ≡ most_patterns)
         × EndsAbove (section_of rows.now pos.now osp.now year)
-        terms.now c.upper result.ends c.level }
+        terms.now c.upper walk.ends c.level) }
 {
-    let above = upper_right(rows, pos, osp, year, terms, c, bound);
-    let ends = above.ends;
-    let place = c.place;
-    if above.right {
-        let last = last_right(rows, pos, osp, year, terms, c.level, place, bound);
-        let end = last.end;
-        return Walk {
-            right: last.right,
-            end: end,
-            ends: ends,
-        };
-    }
-    Walk {
-        right: false,
-        end: place,
-        ends: ends,
-    }
+    let ends = upper_right(rows, pos, osp, year, terms, c, bound)?;
+    let end = last_right(rows, pos, osp, year, terms, c.level, c.place, bound)?;
+    Some(Walk { end, ends })
 }

@@ -9,7 +9,8 @@ use lib.Dec.{ltb, leb, eqb}
 use lib.ListN.{length, take, get_or, length-append}
 use lib.Seq.{get_or_at, take-suc, take_all}
 use borrow.Author.Tests.{ltb-true, leb-true, eqb-true, lt-ltb, le-leb, eq-eqb}
-use Rattle.words.specs.Words.{kind, low, low_numbers, depths, survey_kind, year_kind, position_kind, place_kind, survey_word, year_word, position_word, place_word}
+use Rattle.words.specs.Words.{kind, low, low_numbers, depths, survey_kind, year_kind, position_kind, place_kind, survey_word, year_word, position_word}
+use Rattle.words.specs.Words.{place_word}
 use Rattle.words.specs.Words.{branch_of, depth_of}
 use Rattle.sequences.specs.Sequences.{all}
 use Rattle.sequences.proofs.Booleans.{absurd_true, and_left, and_right, and_both}

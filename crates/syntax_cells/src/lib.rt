@@ -3,11 +3,11 @@
 // the cells of all symbols, pushed together: the symbol that a cell is of, and 128 times the cell's number. 127 is of none.
 #![tactic(auto)]
 
-ghost use Rattle.std.specs.Prelude.{◌≡◌, ◌<◌, ◌≤◌, ◌+◌, ◌*◌, ◌/◌, ◌%◌, length};
+ghost use Rattle.std.specs.Prelude.{◌≡◌, ◌<◌};
 ghost use Rattle.syntax.specs.Cells.{misplaced};
 ghost use Rattle.syntax.specs.Grammar.{cell_of};
 ghost use Rattle.syntax_cells.specs.TableWords.{grammar_words};
-ghost use Rattle.syntax_cells.specs.Finding.{cell_by};
+ghost use Rattle.syntax_cells.specs.Finding.{action_of, cell_by, PlacesFew};
 
 pub const GRAMMAR: [u32; 508] = [
     190, 196, 340, 296, 282, 4435, 284, 332, 207, 179, 195, 334, 224, 205, 196, 216, 286, 4260,
@@ -44,43 +44,61 @@ pub const GRAMMAR: [u32; 508] = [
     127, 127, 127, 127, 127, 127,
 ];
 
-// The number of the cell of a token out of place.
-fn misplaced_cell(kind: u32) -> u32
-    ensures { (result ≡ misplaced kind * 64) × (result ≤ 320) }
-{
-    if kind == 18 {
-        return 320;
-    }
-    if kind == 25 {
-        return 320;
-    }
-    if kind == 27 {
-        return 320;
-    }
-    if kind == 29 {
-        return 320;
-    }
-    if kind == 20 {
-        return 64;
-    }
-    if kind == 21 {
-        return 128;
-    }
-    192
+// Symbols of the table that are put in place of one that takes a token, and whether the token is written.
+#[derive(Clone, Copy)]
+pub struct Placing {
+    pub writes: bool,
+    pub start: usize,
+    pub size: usize,
 }
 
-// What a symbol does at a kind of token, as a number.
-pub fn cell(symbol: u32, kind: u32, table: &[u32]) -> u32
+// What a symbol does at a token: it refuses it by a fault, leaves it to the next symbol, or takes it.
+#[derive(Clone, Copy)]
+pub enum CellAction {
+    Refuse(u32),
+    Pass,
+    Shift(Placing),
+}
+
+// What the number of a cell says.
+fn action_of(number: u32) -> CellAction
+    ensures { result ≡ action_of number }
+{
+    match number % 4 {
+        0 => CellAction::Refuse(number / 64),
+        1 => CellAction::Pass,
+        taken => CellAction::Shift(Placing {
+            writes: taken == 3,
+            start: (number / 64) as usize,
+            size: (number / 4 % 16) as usize,
+        }),
+    }
+}
+
+// The fault of a token out of place.
+fn misplaced(kind: u32) -> u32
+    ensures { result ≡ misplaced kind }
+{
+    match kind {
+        18 | 25 | 27 | 29 => 5,
+        20 => 1,
+        21 => 2,
+        _ => 3,
+    }
+}
+
+// What a symbol does at a kind of token.
+pub fn cell(symbol: u32, kind: u32, table: &[u32]) -> CellAction
     requires { (symbol < 64) × (kind < 128) × (table.now ≡ grammar_words) }
-    ensures { (cell_by result ≡ cell_of symbol kind) × (result / 64 + result / 4 % 16 ≤ length grammar_words) × (result / 4 % 16 ≤ 8) }
+    ensures { (cell_by result ≡ cell_of symbol kind) × PlacesFew result }
 {
     let row = table[symbol as usize];
     let word = table[(row % 4096 + kind) as usize];
     if word % 128 == symbol {
-        return word / 128;
+        action_of(word / 128)
+    } else if row >= 4096 {
+        CellAction::Pass
+    } else {
+        CellAction::Refuse(misplaced(kind))
     }
-    if row >= 4096 {
-        return 1;
-    }
-    misplaced_cell(kind)
 }

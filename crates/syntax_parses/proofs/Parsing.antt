@@ -1,16 +1,10 @@
 -- Tokens in turn.
-use Prim.Native.Nat.{ℕ, ◌+◌, ◌-◌, ◌≤◌, ◌<◌}
-use native.Mathlib.Omega.{arith}
+use Prim.Native.Nat.{ℕ, ◌+◌, ◌≤◌, ◌<◌}
 use mathlib.Core.Path.{◌≡◌, sym, ◌∙◌, ap}
-use mathlib.Core.List.{List, [], ◌∷◌}
-use lib.ListN.{length, get_or, drop, set, drop_of_length-le}
+use mathlib.Core.List.{List, ◌∷◌}
+use lib.ListN.{length, get_or, drop, drop_of_length-le}
 use Rattle.syntax.specs.Machine.{on, off, fed_to, read, fault, word_kind, parsed}
-use Rattle.syntax_parses.proofs.Stacks.{put_before, first_waits}
-
-pub parse_first : (stack : List ℕ) → 1 ≤ length stack → drop (length stack - 1) (set stack (length stack - 1) 0) ≡ 0 ∷ []
-parse_first stack h =
-    put_before stack (length stack - 1) 0 (omega arith)
-    ∙ ap (λ l. 0 ∷ l) (drop_of_length-le stack {i = length stack - 1 + 1} (omega arith))
+use Rattle.syntax_parses.proofs.Stacks.{first_waits}
 
 module _ (tokens : List ℕ) (i : ℕ) where
   module _ (h : i < length tokens) (st out : List ℕ) where

@@ -7,36 +7,31 @@ ghost use Rattle.syntax.specs.Machine.{fed_to, parsed};
 ghost use Rattle.syntax_cells.specs.TableWords.{grammar_words};
 ghost use Rattle.syntax_parses.specs.Answers.{after_by, FedWithin, parsed_by};
 
-use syntax_cells::{GRAMMAR, cell};
+use syntax_cells::{CellAction, GRAMMAR, Placing, cell};
 
-// After a token: how far the symbols reach down and how many words are written; or a fault.
+// After a token: from which place on symbols wait, and how many words are written.
 #[derive(Clone, Copy)]
-pub enum Fed {
-    On(usize, usize),
-    Off(u32),
+pub struct Fed {
+    pub top: usize,
+    pub wrote: usize,
 }
 
-// How many words were written; or a fault, and the token where it is seen.
+// A fault, and the token where it is seen.
 #[derive(Clone, Copy)]
-pub enum ParseAnswer {
-    Read(usize),
-    Fault(u32, u32),
+pub struct SyntaxFault {
+    pub fault: u32,
+    pub token: u32,
 }
 
 // Some symbols of the table, put before those that wait from `top` on.
-fn push(stack: &mut [u32], top: usize, start: usize, size: usize, table: &[u32]) -> usize
-    requires { (size ≤ top) × (top ≤ length stack.old) × (start + size ≤ length table.now) }
-    ensures { (result + size ≡ top) × (length stack.new ≡ length stack.old)
-        × (drop result stack.new ≡ take size (drop start table.now) ++ drop top stack.old) }
+fn push(stack: &mut [u32], top: usize, placing: Placing, table: &[u32]) -> usize
+    requires { (placing.size ≤ top) × (top ≤ length stack.old) × (placing.start + placing.size ≤ length table.now) }
+    ensures { (result + placing.size ≡ top) × (length stack.new ≡ length stack.old)
+        × (drop result stack.new ≡ take placing.size (drop placing.start table.now) ++ drop top stack.old) }
 {
-    let mut left = size;
-    let mut at = top;
-    while 0 < left {
-        left -= 1;
-        at -= 1;
-        stack[at] = table[start + left];
-    }
-    at
+    let low = top - placing.size;
+    stack[low..top].copy_from_slice(&table[placing.start..placing.start + placing.size]);
+    low
 }
 
 // A token goes to the symbols that wait for it.
@@ -47,7 +42,7 @@ fn feed(
     out: &mut [u32],
     wrote: usize,
     table: &[u32],
-) -> Fed
+) -> Result<Fed, u32>
     requires { (8 ≤ top) × (top ≤ length stack.old) × (wrote + length stack.old + 8 ≤ length out.old + top)
         × (table.now ≡ grammar_words) }
     ensures { (length stack.new ≡ length stack.old) × (length out.new ≡ length out.old)
@@ -55,70 +50,71 @@ fn feed(
         × (after_by result stack.new out.new
         ≡ fed_to (token % 128) token (drop top stack.old) (take wrote out.old)) }
 {
-    let mut at = top;
     let mut m = wrote;
-    while at < stack.len() {
+    for at in top..stack.len() {
         let s = stack[at];
-        at += 1;
         if s >= 64 {
             out[m] = s;
             m += 1;
-        } else {
-            let c = cell(s, token % 128, table);
-            if c % 4 == 0 {
-                return Fed::Off(c / 64);
-            }
-            if c % 4 == 3 {
+            continue;
+        }
+        match cell(s, token % 128, table) {
+            CellAction::Refuse(fault) => return Err(fault),
+            CellAction::Pass => {}
+            CellAction::Shift(placing) => {
+                let low = push(stack, at + 1, placing, table);
+                if !placing.writes {
+                    return Ok(Fed { top: low, wrote: m });
+                }
                 out[m] = token;
-                let low = push(stack, at, (c / 64) as usize, (c / 4 % 16) as usize, table);
-                return Fed::On(low, m + 1);
-            }
-            if c % 4 == 2 {
-                let low = push(stack, at, (c / 64) as usize, (c / 4 % 16) as usize, table);
-                return Fed::On(low, m);
+                return Ok(Fed {
+                    top: low,
+                    wrote: m + 1,
+                });
             }
         }
     }
-    Fed::Off(3)
+    Err(3)
 }
 
-// Tokens are read from the left, from the symbol of a query on.
-pub fn parse(tokens: &[u32], stack: &mut [u32], out: &mut [u32], table: &[u32]) -> ParseAnswer
+// Tokens are read from the left, from the symbol of a query on: how many words were written, or a fault.
+pub fn parse(
+    tokens: &[u32],
+    stack: &mut [u32],
+    out: &mut [u32],
+    table: &[u32],
+) -> Result<usize, SyntaxFault>
     requires { (8 * length tokens.now + 8 ≤ length stack.old) × (8 * length tokens.now + 8 ≤ length out.old)
         × (table.now ≡ grammar_words) }
     ensures { (length out.new ≡ length out.old)
         × (parsed_by result out.new ≡ parsed tokens.now (query_symbol ∷ []) []) }
 {
-    let mut top = stack.len() - 1;
-    stack[top] = 0;
-    let mut m = 0;
-    let mut i = 0;
-    while i < tokens.len() {
-        let t = tokens[i];
-        let fed = feed(t, stack, top, out, m, table);
-        match fed {
-            Fed::Off(n) => {
-                return ParseAnswer::Fault(n, t);
-            }
-            Fed::On(a, b) => {
-                top = a;
-                m = b;
-            }
+    let mut fed = Fed {
+        top: stack.len() - 1,
+        wrote: 0,
+    };
+    stack[fed.top] = 0;
+    for t in tokens {
+        match feed(*t, stack, fed.top, out, fed.wrote, table) {
+            Ok(next) => fed = next,
+            Err(fault) => return Err(SyntaxFault { fault, token: *t }),
         }
-        i += 1;
     }
-    if top < stack.len() {
-        return ParseAnswer::Fault(3, 0);
+    if fed.top < stack.len() {
+        return Err(SyntaxFault { fault: 3, token: 0 });
     }
-    ParseAnswer::Read(m)
+    Ok(fed.wrote)
 }
 
 // The same, with the grammar's table made here, once.
-pub fn parse_tokens(tokens: &[u32], stack: &mut [u32], out: &mut [u32]) -> ParseAnswer
+pub fn parse_tokens(
+    tokens: &[u32],
+    stack: &mut [u32],
+    out: &mut [u32],
+) -> Result<usize, SyntaxFault>
     requires { (8 * length tokens.now + 8 ≤ length stack.old) × (8 * length tokens.now + 8 ≤ length out.old) }
     ensures { (length out.new ≡ length out.old)
         × (parsed_by result out.new ≡ parsed tokens.now (query_symbol ∷ []) []) }
 {
-    let table = GRAMMAR;
-    parse(tokens, stack, out, &table)
+    parse(tokens, stack, out, &GRAMMAR)
 }

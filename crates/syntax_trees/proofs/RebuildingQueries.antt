@@ -14,7 +14,8 @@ use Rattle.syntax.specs.Trees.{Leaf, Constraint, GroupPattern, empty, GroupOrUni
 use Rattle.syntax.specs.Trees.{counted, counted_distinct, measured, Column, plain, aggregated, Columns, everything, listed}
 use Rattle.syntax.specs.Trees.{Source, latest, of_year, every_year, Grouping, ungrouped, grouped, SortKey, plain_key, directed, Query}
 use Rattle.syntax.specs.Shown.{parts_words}
-use Rattle.syntax.specs.ShownQueries.{one_by_one, if_there, column_words, columns_words, from_year_words, graph_words, group_name_words, grouping_words, key_words}
+use Rattle.syntax.specs.ShownQueries.{one_by_one, if_there, column_words, columns_words, from_year_words, graph_words, group_name_words, grouping_words}
+use Rattle.syntax.specs.ShownQueries.{key_words}
 use Rattle.syntax.specs.ShownQueries.{ending_words, query_words, query_shown}
 use Rattle.syntax.specs.Outlines.{Outline, with_column, columns_from, grouping_from, query_by}
 use Rattle.syntax.specs.Building.{Pending, nothing_yet, marks_distinct, marks_group, node_of_kind, tree_node, by_fit, if_fits, taken, built}

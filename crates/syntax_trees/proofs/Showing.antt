@@ -5,7 +5,8 @@ use lib.Dec.{ltb}
 use mathlib.Core.Path.{◌≡◌, refl, sym, ◌∙◌, ap}
 use mathlib.Core.List.{List, [], ◌∷◌, ◌++◌, append_assoc, append-nil}
 use Rattle.syntax.specs.Kinds.{operands, comparison_signs, in_word, opens_sign, closes_sign, comma_sign, not_sign, and_sign, or_sign}
-use Rattle.syntax.specs.Kinds.{member_symbol, more_and_symbol, more_or_symbol, comparison_symbol, operand_symbol, members_symbol, more_members_symbol, closes_symbol}
+use Rattle.syntax.specs.Kinds.{member_symbol, more_and_symbol, more_or_symbol, comparison_symbol, operand_symbol, members_symbol, more_members_symbol}
+use Rattle.syntax.specs.Kinds.{closes_symbol}
 use Rattle.syntax.specs.Kinds.{compare_node, one_of_node, one_more_node, never_node, not_node, and_node, or_node}
 use Rattle.syntax.specs.Cells.{pass}
 use Rattle.syntax.specs.Grammar.{cell_of}

@@ -4,7 +4,8 @@ use mathlib.Core.Path.{◌≡◌, refl, sym, ◌∙◌, ap}
 use mathlib.Core.List.{List, [], ◌∷◌, ◌++◌, append_assoc, append-nil}
 use Rattle.tokens.specs.Classes.{is_one_of}
 use Rattle.syntax.specs.Kinds.{typed_operands, objects, verbs, filter_word, union_word, brace_sign, unbrace_sign, opens_sign, closes_sign, dot_sign}
-use Rattle.syntax.specs.Kinds.{parts_symbol, unbrace_symbol, after_triples_symbol, dot_symbol, more_union_symbol, verb_symbol, object_symbol, more_objects_symbol}
+use Rattle.syntax.specs.Kinds.{parts_symbol, unbrace_symbol, after_triples_symbol, dot_symbol, more_union_symbol, verb_symbol, object_symbol}
+use Rattle.syntax.specs.Kinds.{more_objects_symbol}
 use Rattle.syntax.specs.Kinds.{more_verbs_symbol, bracket_symbol, member_symbol, more_and_symbol, more_or_symbol, closes_symbol}
 use Rattle.syntax.specs.Kinds.{open_node, triple_node, filter_node, union_node, join_node}
 use Rattle.syntax.specs.Cells.{pass}

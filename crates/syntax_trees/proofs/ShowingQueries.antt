@@ -6,8 +6,10 @@ use mathlib.Core.Option.{Option, none, some}
 use mathlib.Core.List.{List, [], ◌∷◌, ◌++◌, append_assoc}
 use lib.Dec.{T, ltb}
 use Rattle.tokens.specs.Classes.{is_one_of}
-use Rattle.syntax.specs.Kinds.{variable_kinds, objects, typed_operands, variable_token, name_token, whole_token, typed_whole_token, text_token, typed_text_token}
-use Rattle.syntax.specs.Kinds.{distinct_word, from_word, graph_word, filter_word, year_token, brace_sign, unbrace_sign, opens_sign, closes_sign, star_sign, dot_sign}
+use Rattle.syntax.specs.Kinds.{variable_kinds, objects, typed_operands, variable_token, name_token, whole_token, typed_whole_token, text_token}
+use Rattle.syntax.specs.Kinds.{typed_text_token}
+use Rattle.syntax.specs.Kinds.{distinct_word, from_word, graph_word, filter_word, year_token, brace_sign, unbrace_sign, opens_sign, closes_sign, star_sign}
+use Rattle.syntax.specs.Kinds.{dot_sign}
 use Rattle.syntax.specs.Kinds.{query_symbol, head_symbol, columns_symbol, more_columns_symbol, aggregate_symbol, dataset_symbol, year_symbol, from_where_symbol}
 use Rattle.syntax.specs.Kinds.{whole_symbol, parts_symbol, unbrace_symbol, outer_brace_symbol, brace_symbol, dot_symbol, group_by_symbol}
 use Rattle.syntax.specs.Kinds.{order_by_symbol, limits_symbol, end_symbol, column_node, from_node, open_node, graph_node}

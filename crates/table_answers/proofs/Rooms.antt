@@ -1,30 +1,17 @@
 -- The room for tables, length by length and in counts of rows.
-use Prim.Native.Nat.{ℕ, ◌*◌, ◌≤◌, ◌<◌}
+use Prim.Native.Nat.{ℕ, ◌*◌}
 use mathlib.Core.Path.{◌≡◌, sym, ◌∙◌}
 use mathlib.Core.Logic.{◌↔◌}
-use mathlib.Core.Bool.{true, false}
+use mathlib.Core.Bool.{true}
 use lib.Dec.{leb}
 use lib.ListN.{length}
-use borrow.Author.Tests.{le-leb, lt-leb, leb-true}
+use borrow.Author.Tests.{le-leb, leb-true}
 use Rattle.sequences.proofs.Booleans.{and_left, and_right}
 use Rattle.tables.specs.Tables.{Tables, column_count}
 use Rattle.table_answers.specs.Writing.{TableBuffers, tables_room}
 use Rattle.table_answers.specs.Counts.{tables_room_for, TablesCount, RowsFit, TablesFit}
 
 module _ (n rows pos osp : ℕ) where
-  pub no_rows_fact : rows < n * column_count → tables_room_for n rows pos osp ≡ false
-  unfolding tables_room_for
-  no_rows_fact h = rw (lt-leb (n * column_count) rows h)
-
-  module _ (r : n * column_count ≤ rows) where
-    pub no_pos : pos < n → tables_room_for n rows pos osp ≡ false
-    unfolding tables_room_for
-    no_pos h = rw (le-leb (n * column_count) rows r, lt-leb n pos h)
-
-    pub by_osp : n ≤ pos → tables_room_for n rows pos osp ≡ leb n osp
-    unfolding tables_room_for
-    by_osp p = rw (le-leb (n * column_count) rows r, le-leb n pos p)
-
   -- what there is room for
   pub room_parts : tables_room_for n rows pos osp ≡ true → RowsFit n rows pos osp
   unfolding tables_room_for

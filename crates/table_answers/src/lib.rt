@@ -20,11 +20,5 @@ pub fn has_room(count: usize, rows: usize, pos: usize, osp: usize) -> bool
     requires { count ≤ most_rows }
     ensures { result ≡ tables_room_for count rows pos osp }
 {
-    if rows < count * COLUMNS {
-        return false;
-    }
-    if pos < count {
-        return false;
-    }
-    count <= osp
+    count * COLUMNS <= rows && count <= pos && count <= osp
 }

@@ -7,7 +7,7 @@ ghost use Rattle.tables.specs.Tables.{tables_of, column_count, row_count};
 ghost use Rattle.tables.specs.Right.{Sized};
 ghost use Rattle.table_walk_keys.specs.Walk.{year_read, keys_of, reading_at};
 
-use table_walk_keys::{KEYS, Reading, first_of, long, own_keys, pair_at, second_of};
+use table_walk_keys::{KEYS, first_of, long, own_keys, pair_at, second_of};
 use tables::{COLUMNS, OBJECT, Order, PREDICATE, Place, RowNumber, YEAR, field, number_at};
 
 // The year of `row`, where it is compared: where all are `alike` it is not read.
@@ -30,7 +30,7 @@ fn pos_keys(rows: &[u32], row: RowNumber, alike: bool) -> [u64; KEYS]
     [front, back]
 }
 
-// And in OSP: the year, as a long word that is never the greatest, then the object and the row's number.
+// And in OSP, no twin, since it reads other columns and fewer words: the year, as a long word that is never the greatest, then the object and the row's number.
 fn osp_keys(rows: &[u32], row: RowNumber, alike: bool) -> [u64; KEYS]
     requires { row.0 * column_count + column_count ≤ length rows.now }
     ensures { result ≡ keys_of alike Osp rows.now row.0 }
@@ -52,7 +52,7 @@ fn keys(rows: &[u32], order: Order, row: RowNumber, alike: bool) -> [u64; KEYS]
     }
 }
 
-// What `order` has at `place`; where all years are `alike`, without them.
+// What the walk compares of the row that `order` has at `place`, where it names one; where all years are `alike`, without them.
 pub fn read(
     rows: &[u32],
     pos: &[u32],
@@ -60,21 +60,15 @@ pub fn read(
     order: Order,
     place: Place,
     alike: bool,
-) -> Reading
+) -> Option<[u64; KEYS]>
     requires sized { Sized (tables_of rows.now pos.now osp.now) }
     requires place_bound { place.0 < row_count (tables_of rows.now pos.now osp.now) }
     ensures { result ≡ reading_at alike (tables_of rows.now pos.now osp.now) order place.0 }
 {
     let row = number_at(rows, pos, osp, order, place);
     if words::wide(row.0) < pos.len() {
-        Reading {
-            named: true,
-            keys: keys(rows, order, row, alike),
-        }
+        Some(keys(rows, order, row, alike))
     } else {
-        Reading {
-            named: false,
-            keys: [0u64; KEYS],
-        }
+        None
     }
 }

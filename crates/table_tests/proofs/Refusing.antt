@@ -23,16 +23,6 @@ use Rattle.table_walk_keys.proofs.Keys.{all_agree, keys_say, order_rows}
 use Rattle.table_walk_keys.proofs.Walking.{upto_none, upto_named, orders_none, orders_fault}
 use Rattle.table_tests.specs.Refusals.{rows_refusal, refusal_after, refusal_with}
 
-pub no_refusal : (n : ℕ) → (n ≡ 0 → ⊥) → (n ≡ 1 → ⊥) → (n ≡ 2 → ⊥) → 0 ≡ refusal_after n
-no_refusal zero a b c = absurd (a refl)
-no_refusal (suc zero) a b c = absurd (b refl)
-no_refusal (suc (suc zero)) a b c = absurd (c refl)
-no_refusal (suc (suc (suc n))) a b c = refl
-
-pub refused_by_lem : (n orders : ℕ) → (n ≡ 0 → ⊥) → n ≡ refusal_with n orders
-refused_by_lem zero orders h = absurd (h refl)
-refused_by_lem (suc n) orders h = refl
-
 -- the tests of the rows' order and of both lists, and the same by order
 by_order : (s n m p o : Bool) → number_of (cond s (cond (n && (m && (p && o))) none (some 4)) (some 3))
     ≡ refusal_after (cond s (cond (n && p) (cond (m && o) 3 2) 1) 0)

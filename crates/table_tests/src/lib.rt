@@ -11,8 +11,8 @@ ghost use Rattle.table_tests.specs.Ends.{bounds_fine, ends_fine, LastNamed, Pass
 
 use table_walks::walk;
 use tables::{
-    COLUMNS, MOST_ROWS, OBJECT, Order, PREDICATE, Place, SUBJECT, YEAR, both, field, number_at,
-    own_row, row_right, year_right,
+    COLUMNS, MOST_ROWS, OBJECT, Order, PREDICATE, Place, SUBJECT, YEAR, field, number_at, own_row,
+    row_right, year_right,
 };
 use words::{MOST_YEAR, Term, VALUES};
 
@@ -27,6 +27,7 @@ const WRONG_ROWS: u32 = 3;
 
 const WRONG_LISTS: u32 = 4;
 
+// What the calls answer where no test fails: so it is no Option here.
 const ACCEPTED: u32 = 0;
 
 // How many orders there are.
@@ -36,19 +37,10 @@ const ALL_ORDERS: u32 = 3;
 fn bounds_right(year: u32, subject: u32, predicate: u32, object: u32) -> bool
     ensures { result ≡ bounds_fine year subject predicate object }
 {
-    if year < Term::NUMBER * VALUES + 1 {
-        return false;
-    }
-    if year > Term::NUMBER * VALUES + MOST_YEAR {
-        return false;
-    }
-    if subject >= VALUES {
-        return false;
-    }
-    if predicate >= VALUES {
-        return false;
-    }
-    object < Term::VARIABLE * VALUES
+    (Term::NUMBER * VALUES + 1..=Term::NUMBER * VALUES + MOST_YEAR).contains(&year)
+        && subject < VALUES
+        && predicate < VALUES
+        && object < Term::VARIABLE * VALUES
 }
 
 // Whether the lengths of lent tables fit each other and are not too great.
@@ -56,16 +48,7 @@ fn lengths_right(rows: &[u32], pos: &[u32], osp: &[u32]) -> bool
     ensures { result ≡ lengths_right (tables_of rows.now pos.now osp.now) }
 {
     let count = rows.len() / COLUMNS;
-    if rows.len() % COLUMNS != 0 {
-        return false;
-    }
-    if pos.len() != count {
-        return false;
-    }
-    if osp.len() != count {
-        return false;
-    }
-    count <= MOST_ROWS
+    rows.len() % COLUMNS == 0 && pos.len() == count && osp.len() == count && count <= MOST_ROWS
 }
 
 // The number of the test of kinds and years that whole rows fail, 0 where they pass: the kinds of all rows come before any year. It is
@@ -74,13 +57,12 @@ fn rows_refusal(rows: &[u32]) -> u32
     requires { length rows.now % column_count ≡ 0 }
     ensures { result ≡ rows_refusal (tables_of rows.now [] []) }
 {
-    let mut at: usize = 0;
     let mut kinds = true;
     let mut years = true;
-    while at < rows.len() {
-        kinds = both(kinds, row_right(rows, at));
-        years = both(years, year_right(rows[at + YEAR]));
-        at += COLUMNS;
+    for row in 0..rows.len() / COLUMNS {
+        let at = row * COLUMNS;
+        kinds &= row_right(rows, at);
+        years &= year_right(rows[at + YEAR]);
     }
     if !kinds {
         return WRONG_KINDS;
@@ -129,13 +111,7 @@ fn passes(rows: &[u32], pos: &[u32], osp: &[u32], alike: bool, orders: u32) -> b
     requires last_named { orders ≡ order_count → LastNamed (tables_of rows.now pos.now osp.now) }
     ensures { result ≡ true → Passing alike orders (tables_of rows.now pos.now osp.now) }
 {
-    if !alike {
-        return false;
-    }
-    if orders != ALL_ORDERS {
-        return false;
-    }
-    ends_right(rows, pos, osp)
+    alike && orders == ALL_ORDERS && ends_right(rows, pos, osp)
 }
 
 // The number of the test that fails first where `orders` orders are right: kinds and years are looked at by themselves, and come before.

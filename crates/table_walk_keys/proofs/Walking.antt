@@ -1,26 +1,19 @@
 -- Laws of the walk over the orders: what each place adds, where a fault ends it, and which test that leaves to fail.
 use Prim.Native.Nat.{ℕ, zero, suc, ◌+◌, ◌-◌, ◌≤◌, ◌<◌}
 use native.Mathlib.Omega.{arith}
-use native.Mathlib.Decide.{dec_lt}
 use native.Mathlib.Numerals.{add-one}
-use mathlib.Core.Path.{◌≡◌, refl, sym, ◌∙◌, ap, subst}
+use mathlib.Core.Path.{◌≡◌, refl, ◌∙◌}
 use mathlib.Core.Bool.{Bool, true, false, ◌&&◌, and-false}
+use mathlib.Core.List.{List}
 use lib.Dec.{ltb}
 use borrow.Author.Tests.{lt-ltb, le-ltb, ltb-true, ltb-false}
+use Rattle.std.specs.Prelude.{Some, None}
 use Rattle.sequences.specs.Sequences.{all_below, lex_before}
 use Rattle.sequences.proofs.Booleans.{and_left, and_right, and_both}
 use Rattle.sequences.proofs.Counting.{all_at_lem, fails_below}
 use Rattle.tables.specs.declared.Order.{Order}
-use Rattle.tables.specs.declared.Order.TheVariants.{Osp}
 use Rattle.tables.specs.Tables.{Tables, row_count, row_at}
-use Rattle.table_walk_keys.specs.declared.Reading.{Reading}
 use Rattle.table_walk_keys.specs.Walk.{order_at, order_count, keys_at, reading_at, right_upto, order_right, right_orders}
-
--- ---- numbers of orders
-pub third_order : (turn : ℕ) → (turn ≡ 0 → ⊥) → (turn ≡ 1 → ⊥) → Osp ≡ order_at turn
-third_order zero n m = absurd (n refl)
-third_order (suc zero) n m = absurd (m refl)
-third_order (suc (suc k)) n m = refl
 
 module _ (alike : Bool) (t : Tables) (o : Order) where
   abbrev names : ℕ → Bool
@@ -30,19 +23,23 @@ module _ (alike : Bool) (t : Tables) (o : Order) where
   climbs place = lex_before (keys_at alike o t place) (keys_at alike o t (suc place))
 
   -- ---- a place that was read
-  module _ (place : ℕ) (r : Reading) (e : r ≡ reading_at alike t o place) where
-    read_cases : (b : Bool) → names place ≡ b → r.named ≡ b
-    read_cases true p = ap (λ x. x.named) e ∙ rw p
-    read_cases false p = ap (λ x. x.named) e ∙ rw p
+  module _ (place : ℕ) where
+    read_row_keys : (b : Bool) → names place ≡ b → (keys : List ℕ) → Some keys ≡ reading_at alike t o place → (b ≡ true) × (keys ≡ keys_at alike o t place)
+    read_row_keys true p keys e = (refl, (let f : Some keys ≡ Some (keys_at alike o t place) = e ∙ rw p in cc))
+    read_row_keys false p keys e = (let f : Some keys ≡ None = e ∙ rw p in cc)
 
-    pub read_row : r.named ≡ true → row_at o t place < row_count t
-    read_row h = ltb-true _ _ (sym (read_cases (names place) refl) ∙ h)
+    pub read_row : (keys : List ℕ) → Some keys ≡ reading_at alike t o place → row_at o t place < row_count t
+    read_row keys e = ltb-true _ _ (read_row_keys (names place) refl keys e).0
 
-    pub read_keys : r.named ≡ true → r.keys ≡ keys_at alike o t place
-    read_keys h = ap (λ x. x.keys) e ∙ rw (sym (read_cases (names place) refl) ∙ h)
+    pub read_keys : (keys : List ℕ) → Some keys ≡ reading_at alike t o place → keys ≡ keys_at alike o t place
+    read_keys keys e = (read_row_keys (names place) refl keys e).1
 
-    pub read_none : r.named ≡ false → row_count t ≤ row_at o t place
-    read_none h = ltb-false _ _ (sym (read_cases (names place) refl) ∙ h)
+    pub read_none : None ≡ reading_at alike t o place → row_count t ≤ row_at o t place
+    read_none e = ltb-false _ _ (go (names place) refl)
+      where
+        go : (b : Bool) → names place ≡ b → names place ≡ false
+        go true p = (let f : None ≡ Some (keys_at alike o t place) = e ∙ rw p in cc)
+        go false p = p
 
   -- ---- what a place adds
   pub upto_none : right_upto alike t o 0 ≡ true
@@ -98,17 +95,6 @@ module _ (alike : Bool) (t : Tables) where
 
   pub orders_none : RightBefore 0
   orders_none = record { known = omega arith; right = λ k h. absurd (omega arith) }
-
-  pub orders_next : (turn : ℕ) → RightBefore turn → turn < order_count → order_right alike t (order_at turn) ≡ true → RightBefore (turn + 1)
-  orders_next turn b h e =
-      record {
-        known = omega arith;
-        right = λ k l.
-            elim (dec_lt k turn) [
-              | yes m ↦ b.right k m
-              | no m ↦ subst (λ n. order_right alike t (order_at n) ≡ true) (let x : turn ≡ k = omega arith in x) e
-            ];
-      }
 
   -- the first order that is not right; none
   pub orders_fault : (turn : ℕ) → RightBefore turn → turn < order_count → order_right alike t (order_at turn) ≡ false → right_orders alike t ≡ turn

@@ -1,11 +1,10 @@
 -- What the walk over the three orders finds, in the parts that its functions answer. Assumes nothing: these are definitions.
-use Rattle.std.specs.Prelude.{ℕ, zero, suc, ◌+◌, ◌-◌, ◌*◌, ◌/◌, ◌<◌, ◌≡◌, Bool, true, false, cond, ◌&&◌, List, [], ◌∷◌, ltb, length, get_or, replicate}
+use Rattle.std.specs.Prelude.{ℕ, zero, suc, ◌+◌, ◌-◌, ◌*◌, ◌/◌, ◌<◌, ◌≡◌, Bool, cond, ◌&&◌, List, [], ◌∷◌, ltb, length, get_or, Option, Some, None}
 use Rattle.sequences.specs.Sequences.{all_below, lex_before}
 use Rattle.tables.specs.declared.Order.{Order}
 use Rattle.tables.specs.declared.Order.TheVariants.{Spo, Pos, Osp}
 use Rattle.tables.specs.Tables.{Tables, column_count, row_count, row_at, field_of}
 use Rattle.tables.specs.Tables.{year_column, subject_column, predicate_column, object_column}
-use Rattle.table_walk_keys.specs.declared.Reading.{Reading}
 
 -- the orders in the sequence of the walk
 abbrev pub order_at : ℕ → Order
@@ -45,12 +44,9 @@ keys_of alike Osp rows row = long_of 0 (year_read alike rows row) ∷ long_of (f
 abbrev pub keys_at : Bool → Order → Tables → ℕ → List ℕ
 keys_at alike o t place = keys_of alike o t.rows (row_at o t place)
 
--- a place of an order: whether it names a row, and then that row's keys
-abbrev pub reading_at : Bool → Tables → Order → ℕ → Reading
-reading_at alike t o place =
-    cond (ltb (row_at o t place) (row_count t))
-    (record { named = true; keys = keys_at alike o t place })
-    (record { named = false; keys = replicate key_count 0 })
+-- a place of an order as the walk reads it: the keys of the row that it names, none where it names no row
+abbrev pub reading_at : Bool → Tables → Order → ℕ → Option (List ℕ)
+reading_at alike t o place = cond (ltb (row_at o t place) (row_count t)) (Some (keys_at alike o t place)) None
 
 -- the first n places of an order name rows, and their keys ascend strictly
 unfoldable pub right_upto : Bool → Tables → Order → ℕ → Bool

@@ -14,13 +14,6 @@ pub const KEYS: usize = 2;
 // How many words there are: a long word has two of them.
 const HALF: u64 = 4294967296;
 
-// A place of an order as the walk reads it: whether it names a row, and then what is compared of that row.
-#[derive(Clone, Copy)]
-pub struct Reading {
-    pub named: bool,
-    pub keys: [u64; KEYS],
-}
-
 // `first` and `second` as a long word: it is compared as the first is, and where that is the same as the second.
 pub fn long(first: u32, second: u32) -> u64
     ensures { result ≡ long_of first second }

@@ -8,14 +8,11 @@ ghost use Rattle.table_walk_keys.specs.Walk.{order_at, right_orders};
 
 use std::num::wrapping_add_u64;
 use table_readings::read;
-use table_walk_keys::key_at;
+use table_walk_keys::{KEYS, key_at};
 use tables::{COLUMNS, Order, Place};
 
 // How many orders there are.
 const ORDERS: u32 = 3;
-
-// The last of the long words that the walk compares.
-const LAST_KEY: usize = 1;
 
 // The order that the walk takes in its turn number `turn`.
 fn order_at(turn: u32) -> Order
@@ -28,20 +25,13 @@ fn order_at(turn: u32) -> Order
     }
 }
 
-// 1 if `yes`, else 0.
-fn one_if(yes: bool) -> u64
-    ensures { result ≡ (if yes then 1 else 0) }
-{
-    if yes { 1 } else { 0 }
-}
-
 // Whether a row comes before another from a column on: by their keys there, `earlier` and `later`, or where these are the same by the columns behind it,
 // as `after` says. One sum and one comparison, and no branch; a sum that is too great is less than `later`, and nothing is greater than that.
 fn before_from(earlier: u64, later: u64, after: bool) -> bool
     ensures { result ≡ (if after then nat_le earlier later else nat_lt earlier later) }
 {
-    let sum = wrapping_add_u64(later, one_if(after));
-    one_if(earlier < sum) + one_if(sum < later) > 0
+    let sum = wrapping_add_u64(later, u64::from(after));
+    u64::from(earlier < sum) + u64::from(sum < later) > 0
 }
 
 // Walks the orders, the rows' own first: each row against the one before it, key by key from the last to the first; where all years are `alike`,
@@ -59,37 +49,26 @@ pub fn walk(rows: &[u32], pos: &[u32], osp: &[u32], alike: bool) -> u32
     let own = &rows[..end];
     let by_predicate = &pos[..count];
     let by_object = &osp[..count];
-    let mut turn: u32 = 0;
-    'orders: while turn < ORDERS {
+    for turn in 0..ORDERS {
         let order = order_at(turn);
-        let first = read(own, by_predicate, by_object, order, Place(0), alike);
-        if !first.named {
-            break 'orders;
-        }
-        let mut last = first.keys;
-        let mut place: u32 = 1;
-        'places: while place < short {
-            let found = read(own, by_predicate, by_object, order, Place(place), alike);
-            if !found.named {
-                break 'orders;
-            }
-            let next = found.keys;
-            let mut column = LAST_KEY;
+        let mut last = match read(own, by_predicate, by_object, order, Place(0), alike) {
+            Some(keys) => keys,
+            None => return turn,
+        };
+        for place in 1..short {
+            let next = match read(own, by_predicate, by_object, order, Place(place), alike) {
+                Some(keys) => keys,
+                None => return turn,
+            };
             let mut before = false;
-            'columns: loop {
+            for column in (0..KEYS).rev() {
                 before = before_from(key_at(last, column), key_at(next, column), before);
-                if column == 0 {
-                    if !before {
-                        break 'orders;
-                    }
-                    break 'columns;
-                }
-                column -= 1;
+            }
+            if !before {
+                return turn;
             }
             last = next;
-            place += 1;
         }
-        turn += 1;
     }
-    turn
+    ORDERS
 }

@@ -1,9 +1,7 @@
 -- Places in an order of right tables are sorted, and each row stands at exactly one place of each order.
-use Prim.Native.Nat.{ℕ, ◌+◌, ◌*◌, ◌≤◌, ◌<◌}
-use native.Mathlib.Omega.{arith}
+use Prim.Native.Nat.{ℕ, ◌<◌}
 use mathlib.Core.Path.{◌≡◌, ap}
 use mathlib.Core.Bool.{Bool, true}
-use lib.ListN.{length}
 use Rattle.sequences.specs.Sequences.{lex_before, count_below}
 use Rattle.sequences.proofs.Pigeonhole.{Injection, Hit, all_hit}
 use Rattle.sequences.proofs.Permuting.{count_permuted}
@@ -15,10 +13,6 @@ use Rattle.tables.proofs.Sorted.{Sorted}
 use Rattle.tables.proofs.Sorted as sorted
 
 module _ (t : Tables) (w : Right t) (o : Order) where
-  -- the words of a place's row are there
-  pub in_rows_lem : (place : ℕ) → place < row_count t → row_at o t place * column_count + column_count ≤ length t.rows
-  in_rows_lem place h = let n = w.named o place h in omega arith
-
   -- its fields, one a column, come before those of the next place
   pub order_sorted : Sorted column_count (row_count t) (fields_at o t)
   order_sorted = record { width = λ place h. fields_length o t.rows (row_at o t place); up = w.up o }

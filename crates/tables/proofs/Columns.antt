@@ -1,7 +1,7 @@
 -- A row's fields in the sequence of an order: how many they are, and which column each comes from.
 use Prim.Native.Nat.{ℕ, zero, suc, ◌<◌}
 use native.Mathlib.Omega.{arith}
-use mathlib.Core.Path.{◌≡◌, refl, ◌∙◌, ap}
+use mathlib.Core.Path.{◌≡◌, refl, ◌∙◌}
 use mathlib.Core.List.{List, [], ◌∷◌, map}
 use lib.ListN.{length, get_or, length-map, get_or-map}
 use Rattle.tables.specs.declared.Order.{Order}
@@ -30,8 +30,3 @@ field_at o rows row k h =
     let l = fields_length o rows row in
     default (map (field_of rows row) (columns_of o)) 0 (field_of rows row 0) k (omega arith)
     ∙ get_or-map (field_of rows row) (columns_of o) k 0
-
--- one of a row's words that is none of the first three is the last
-pub last_part : (words : List ℕ) (at : ℕ) → at < column_count → (at ≡ 0 → ⊥) → (at ≡ 1 → ⊥) → (at ≡ 2 → ⊥)
-    → get_or words 3 0 ≡ get_or words at 0
-last_part words at h n m l = ap (λ k. get_or words k 0) (let e : 3 ≡ at = omega arith in e)

@@ -8,13 +8,13 @@ use mathlib.Core.List.{List}
 use lib.Dec.{leb, ltb}
 use lib.ListN.{length, take}
 use borrow.Author.Tests.{le-leb, lt-leb, lt-ltb, le-ltb, leb-true, ltb-true}
+use Rattle.std.specs.declared.cmp.Ordering.{Ordering}
+use Rattle.std.specs.declared.cmp.Ordering.TheVariants.{Less, Equal, Greater}
 use Rattle.sequences.specs.Sequences.{lex_before}
 use Rattle.sequences.proofs.Booleans.{absurd_true, and_left, and_right}
 use Rattle.sequences.proofs.Orders.{lex_asym, lex_trans}
 use Rattle.sequences.proofs.Counting.{count_le, count_mono}
 use Rattle.sequences.proofs.Downward.{passes_below, fails_from}
-use Rattle.tables.specs.declared.Side.{Side}
-use Rattle.tables.specs.declared.Side.TheVariants.{Before, Within, After}
 use Rattle.tables.specs.Ranges.{start_among, end_among, between}
 use Rattle.tables.specs.Sides.{side_of, is_within, bound_as, before_bound}
 use Rattle.tables.proofs.Sides.{OnSide, before, within, after, on_side, neither_within, within_leading, leading_within}
@@ -22,28 +22,28 @@ use Rattle.tables.proofs.Sorted.{Sorted, ascend}
 
 -- ---- where a place lies, against a start and an end
 module _ (start end : ℕ) where
-  abbrev pub LiesOn : Side → ℕ → Type 0
-  LiesOn Before place = place < start
-  LiesOn Within place = (start ≤ place) × (place < end)
-  LiesOn After place = end ≤ place
+  abbrev pub LiesOn : Ordering → ℕ → Type 0
+  LiesOn Less place = place < start
+  LiesOn Equal place = (start ≤ place) × (place < end)
+  LiesOn Greater place = end ≤ place
 
-  pub lies_in : (s : Side) (place : ℕ) → LiesOn s place → between start end place ≡ is_within s
-  lies_in Before place h = rw (lt-leb start place h)
-  lies_in Within place h = rw (le-leb start place h.0, lt-ltb place end h.1)
-  lies_in After place h = rw (le-ltb place end h) (and-false (leb start place))
+  pub lies_in : (s : Ordering) (place : ℕ) → LiesOn s place → between start end place ≡ is_within s
+  lies_in Less place h = rw (lt-leb start place h)
+  lies_in Equal place h = rw (le-leb start place h.0, lt-ltb place end h.1)
+  lies_in Greater place h = rw (le-ltb place end h) (and-false (leb start place))
 
-  pub in_lies : (place : ℕ) → between start end place ≡ true → LiesOn Within place
+  pub in_lies : (place : ℕ) → between start end place ≡ true → LiesOn Equal place
   in_lies place e = (leb-true _ _ (and_left (leb start place) _ e), ltb-true _ _ (and_right (leb start place) _ e))
 
   -- whether it lies before a bound
-  pub lies_before : (s : Side) (place : ℕ) → LiesOn s place → start ≤ end → (last : Bool)
+  pub lies_before : (s : Ordering) (place : ℕ) → LiesOn s place → start ≤ end → (last : Bool)
       → before_bound s last ≡ ltb place (bound_as start end last)
-  lies_before Before place h l true = sym (lt-ltb place end (omega arith))
-  lies_before Before place h l false = sym (lt-ltb place start h)
-  lies_before Within place h l true = sym (lt-ltb place end h.1)
-  lies_before Within place h l false = sym (le-ltb place start h.0)
-  lies_before After place h l true = sym (le-ltb place end h)
-  lies_before After place h l false = sym (le-ltb place start (omega arith))
+  lies_before Less place h l true = sym (lt-ltb place end (omega arith))
+  lies_before Less place h l false = sym (lt-ltb place start h)
+  lies_before Equal place h l true = sym (lt-ltb place end h.1)
+  lies_before Equal place h l false = sym (le-ltb place start h.0)
+  lies_before Greater place h l true = sym (le-ltb place end h)
+  lies_before Greater place h l false = sym (le-ltb place start (omega arith))
 
 -- ---- among any places
 module _ (count : ℕ) (fields : ℕ → List ℕ) (fixed : List ℕ) where
@@ -93,41 +93,41 @@ module _ (columns count : ℕ) (fields : ℕ → List ℕ) (sorted : Sorted colu
     end_upto e = fails_from (λ i. not (lex_before fixed (fields i))) count not_late_down place here (ap not e)
 
     -- a place lies on the side on which its fields stand
-    pub side_on : (s : Side) → side_of (fields place) fixed ≡ s → LiesOn start end s place
+    pub side_on : (s : Ordering) → side_of (fields place) fixed ≡ s → LiesOn start end s place
     side_on s e = go s (on_side (fields place) fixed s e)
       where
-        go : (s : Side) → OnSide (fields place) fixed s → LiesOn start end s place
-        go Before (before p) = start_past p
-        go Within (within p q) = (start_upto p, end_past q)
-        go After (after p q) = end_upto q
+        go : (s : Ordering) → OnSide (fields place) fixed s → LiesOn start end s place
+        go Less (before p) = start_past p
+        go Equal (within p q) = (start_upto p, end_past q)
+        go Greater (after p q) = end_upto q
 
-    pub side_between : (s : Side) → side_of (fields place) fixed ≡ s → between start end place ≡ is_within s
+    pub side_between : (s : Ordering) → side_of (fields place) fixed ≡ s → between start end place ≡ is_within s
     side_between s e = lies_in start end s place (side_on s e)
 
     -- those whose leading fields are the fixed ones
     pub leading_between : take (length fixed) (fields place) ≡ fixed → between start end place ≡ true
     leading_between e =
         let n = leading_within (fields place) fixed e in
-        side_between Within (neither_within (fields place) fixed n.0 n.1)
+        side_between Equal (neither_within (fields place) fixed n.0 n.1)
 
   -- ---- the places of a range are those within
-  pub between_within : (place : ℕ) → between start end place ≡ true → (place < count) × (side_of (fields place) fixed ≡ Within)
+  pub between_within : (place : ℕ) → between start end place ≡ true → (place < count) × (side_of (fields place) fixed ≡ Equal)
   between_within place e =
       let l = in_lies start end place e in
       let k = end_in_count count fields fixed in
       let h : place < count = omega arith in
       (h, go h (side_of (fields place) fixed) refl)
     where
-      go : place < count → (s : Side) → side_of (fields place) fixed ≡ s → s ≡ Within
-      go h Before p = absurd_true e (side_between place h Before p)
-      go h Within p = refl
-      go h After p = absurd_true e (side_between place h After p)
+      go : place < count → (s : Ordering) → side_of (fields place) fixed ≡ s → s ≡ Equal
+      go h Less p = absurd_true e (side_between place h Less p)
+      go h Equal p = refl
+      go h Greater p = absurd_true e (side_between place h Greater p)
 
   pub between_leading : (place : ℕ) → length fixed ≤ columns → between start end place ≡ true
       → take (length fixed) (fields place) ≡ fixed
   between_leading place l e =
       let w = between_within place e in
-      go (let n = sorted.width place w.0 in omega arith) (on_side (fields place) fixed Within w.1)
+      go (let n = sorted.width place w.0 in omega arith) (on_side (fields place) fixed Equal w.1)
     where
-      go : length fixed ≤ length (fields place) → OnSide (fields place) fixed Within → take (length fixed) (fields place) ≡ fixed
+      go : length fixed ≤ length (fields place) → OnSide (fields place) fixed Equal → take (length fixed) (fields place) ≡ fixed
       go k (within p q) = within_leading (fields place) fixed k p q

@@ -7,13 +7,13 @@ use mathlib.Core.List.{List, [], ◌∷◌}
 use lib.Dec.{leb}
 use lib.ListN.{drop}
 use borrow.Author.Tests.{lt-ltb, ltb-true, leb-true, eqb-true}
+use Rattle.std.specs.declared.cmp.Ordering.TheVariants.{Less, Equal, Greater}
 use Rattle.words.specs.Words.{term_kind, number_kind, number, most_year}
 use Rattle.sequences.specs.Sequences.{lex_before}
 use Rattle.sequences.proofs.Booleans.{absurd_true, and_right}
 use Rattle.sequences.proofs.Orders.{Three, less, same, more, three, lex_less, lex_same, lex_more}
 use Rattle.tables.specs.declared.Order.{Order}
 use Rattle.tables.specs.declared.Order.TheVariants.{Spo, Pos, Osp}
-use Rattle.tables.specs.declared.Side.TheVariants.{Before, Within, After}
 use Rattle.tables.specs.Tables.{Tables, row_count, year_column, field_of, row_at, fields_of, fields_at}
 use Rattle.tables.specs.Right.{Right}
 use Rattle.tables.specs.Ranges.{range_start, range_end}
@@ -31,19 +31,19 @@ year_first Osp rows row = refl
 
 -- some fields, on the side of their first against one word
 module _ (a word : ℕ) (rest : List ℕ) where
-  one_before : a < word → side_of (a ∷ rest) (word ∷ []) ≡ Before
+  one_before : a < word → side_of (a ∷ rest) (word ∷ []) ≡ Less
   unfolding side_of
   one_before h = rw (lex_less rest [] h)
 
-  one_within : a ≡ word → side_of (a ∷ rest) (word ∷ []) ≡ Within
+  one_within : a ≡ word → side_of (a ∷ rest) (word ∷ []) ≡ Equal
   unfolding side_of lex_before
   one_within h = rw (lex_same rest [] h, lex_same [] rest (sym h)) (go rest)
     where
-      go : (xs : List ℕ) → side_of xs [] ≡ Within
+      go : (xs : List ℕ) → side_of xs [] ≡ Equal
       go [] = refl
       go (x ∷ xs) = refl
 
-  one_after : word < a → side_of (a ∷ rest) (word ∷ []) ≡ After
+  one_after : word < a → side_of (a ∷ rest) (word ∷ []) ≡ Greater
   unfolding side_of
   one_after h = rw (lex_more rest [] h, lex_less [] rest h)
 
@@ -80,16 +80,16 @@ module _ (t : Tables) (w : Right t) where
     module _ (word q : ℕ) (l : q < row_count t) where
       pub year_less : field_of t.rows (row_at o t q) year_column < word → q < range_start t (year_prefix o word)
       year_less h =
-          side_lies t w (year_prefix o word) q l Before (rw (year_first o t.rows (row_at o t q)) (one_before (at q) word (drop 1 (fields_at o t q)) h))
+          side_lies t w (year_prefix o word) q l Less (rw (year_first o t.rows (row_at o t q)) (one_before (at q) word (drop 1 (fields_at o t q)) h))
 
       pub year_same : field_of t.rows (row_at o t q) year_column ≡ word
           → (range_start t (year_prefix o word) ≤ q) × (q < range_end t (year_prefix o word))
       year_same h =
-          side_lies t w (year_prefix o word) q l Within (rw (year_first o t.rows (row_at o t q)) (one_within (at q) word (drop 1 (fields_at o t q)) h))
+          side_lies t w (year_prefix o word) q l Equal (rw (year_first o t.rows (row_at o t q)) (one_within (at q) word (drop 1 (fields_at o t q)) h))
 
       pub year_more : word < field_of t.rows (row_at o t q) year_column → range_end t (year_prefix o word) ≤ q
       year_more h =
-          side_lies t w (year_prefix o word) q l After (rw (year_first o t.rows (row_at o t q)) (one_after (at q) word (drop 1 (fields_at o t q)) h))
+          side_lies t w (year_prefix o word) q l Greater (rw (year_first o t.rows (row_at o t q)) (one_after (at q) word (drop 1 (fields_at o t q)) h))
 
       pub in_year_lem : range_start t (year_prefix o word) ≤ q → q < range_end t (year_prefix o word)
           → field_of t.rows (row_at o t q) year_column ≡ word

@@ -49,13 +49,7 @@ const OFFSET: u32 = 38;
 fn is_count(last: u32, s: &[u32]) -> bool
     ensures { result ≡ (is_one_of (limit_word ∷ offset_word ∷ []) last && first_is is_digit s.now) }
 {
-    if last == LIMIT {
-        return first_in(s, 0x30, 0x39);
-    }
-    if last == OFFSET {
-        return first_in(s, 0x30, 0x39);
-    }
-    false
+    matches!(last, LIMIT | OFFSET) && first_in(s, 0x30, 0x39)
 }
 
 // What a whole number is.
@@ -63,12 +57,12 @@ pub fn number_kind(last: u32, s: &[u32]) -> u32
     ensures { result ≡ number_terminal last s.now }
 {
     if is_count(last, s) {
-        return COUNT;
+        COUNT
+    } else if is_shortest(s) {
+        WHOLE
+    } else {
+        ODD
     }
-    if is_shortest(s) {
-        return WHOLE;
-    }
-    ODD
 }
 
 // What a name is, which stands for `s`; `scheme` is year: itself.
@@ -76,13 +70,11 @@ pub fn year_or(last: u32, s: &[u32], scheme: &[u32]) -> u32
     requires { scheme.now ≡ year_scheme }
     ensures { result ≡ year_or last s.now }
 {
-    if last != FROM {
-        return NAME;
+    if last == FROM && is_year(s, scheme) {
+        YEAR
+    } else {
+        NAME
     }
-    if is_year(s, scheme) {
-        return YEAR;
-    }
-    NAME
 }
 
 // What an IRI is, by what stands in its brackets.
@@ -91,12 +83,12 @@ pub fn iri_kind(last: u32, s: &[u32], scheme: &[u32]) -> u32
     ensures { result ≡ iri_terminal last s.now }
 {
     if !has_scheme(s) {
-        return RELATIVE;
+        RELATIVE
+    } else if last == PREFIX_NAME {
+        PREFIX_IRI
+    } else {
+        year_or(last, s, scheme)
     }
-    if last == PREFIX_NAME {
-        return PREFIX_IRI;
-    }
-    year_or(last, s, scheme)
 }
 
 // What a variable is, where `graph` is the name of GRAPH's.
@@ -104,9 +96,10 @@ pub fn variable_kind(graph: &[u32], s: &[u32]) -> u32
     ensures { result ≡ variable_terminal graph.now s.now }
 {
     if same_string(rest(s, 1), graph) {
-        return YEAR_VARIABLE;
+        YEAR_VARIABLE
+    } else {
+        VARIABLE
     }
-    VARIABLE
 }
 
 // What a text of xsd:integer is, by what stands in its quotes.
@@ -114,12 +107,12 @@ fn typed_number(s: &[u32]) -> u32
     ensures { result ≡ typed_number s.now }
 {
     if !is_whole(s) {
-        return TYPED_OTHER;
+        TYPED_OTHER
+    } else if is_shortest(s) {
+        TYPED_WHOLE
+    } else {
+        TYPED_ODD
     }
-    if is_shortest(s) {
-        return TYPED_WHOLE;
-    }
-    TYPED_ODD
 }
 
 // What a text is with a datatype behind it; `string` and `integer` are the two that are read.
@@ -128,10 +121,10 @@ pub fn typed_kind(s: &[u32], datatype: &[u32], string: &[u32], integer: &[u32]) 
     ensures { result ≡ typed_terminal s.now (iri datatype.now) }
 {
     if same_string(datatype, string) {
-        return TYPED_TEXT;
+        TYPED_TEXT
+    } else if same_string(datatype, integer) {
+        typed_number(quoted(s))
+    } else {
+        TYPED_OTHER
     }
-    if !same_string(datatype, integer) {
-        return TYPED_OTHER;
-    }
-    typed_number(quoted(s))
 }

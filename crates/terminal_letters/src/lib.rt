@@ -19,81 +19,44 @@ pub enum Letters {
 }
 
 // The first `n` characters, or all.
-pub fn front<'a>(s: &'a [u32], n: usize) -> &'a [u32]
+pub fn front(s: &[u32], n: usize) -> &[u32]
     ensures { result.now ≡ take n s.now }
 {
-    if s.len() <= n {
-        return s;
-    }
-    &s[..n]
+    &s[..n.min(s.len())]
 }
 
 // The characters behind the first `n`, or none.
-pub fn rest<'a>(s: &'a [u32], n: usize) -> &'a [u32]
+pub fn rest(s: &[u32], n: usize) -> &[u32]
     ensures { result.now ≡ drop n s.now }
 {
-    if s.len() <= n {
-        return &s[s.len()..];
-    }
-    &s[n..]
+    &s[n.min(s.len())..]
 }
 
 // Whether the first character is `a`.
 pub fn starts_with(s: &[u32], a: u32) -> bool
     ensures { result ≡ starts_with a s.now }
 {
-    if s.len() == 0 {
-        return false;
-    }
-    s[0] == a
+    matches!(s.first(), Some(c) if *c == a)
 }
 
 // Whether there is a first character, and it is one from `least` to `greatest`.
 pub fn first_in(s: &[u32], least: u32, greatest: u32) -> bool
     ensures { result ≡ first_is (is_in (span least greatest)) s.now }
 {
-    if s.len() == 0 {
-        return false;
-    }
-    if s[0] < least {
-        return false;
-    }
-    s[0] <= greatest
+    matches!(s.first(), Some(c) if (least..=greatest).contains(c))
 }
 
 // Whether two strings are the same.
 pub fn same_string(a: &[u32], b: &[u32]) -> bool
     ensures { result ≡ same_string a.now b.now }
 {
-    if a.len() != b.len() {
-        return false;
-    }
-    let mut i: usize = 0;
-    while i < a.len() {
-        if a[i] != b[i] {
-            return false;
-        }
-        i += 1;
-    }
-    true
+    a == b
 }
 
 fn is_scheme_character(c: u32) -> bool
     ensures { result ≡ is_scheme_character c }
 {
-    if is_ascii_letter(c) {
-        return true;
-    }
-    if is_digit(c) {
-        return true;
-    }
-    if c == 0x2B {
-        return true;
-    }
-    if c == 0x2E {
-        return true;
-    }
-    c == 0x2D
+    is_ascii_letter(c) || is_digit(c) || matches!(c, 0x2B | 0x2E | 0x2D)
 }
 
 fn is_letter_of(letters: Letters, c: u32) -> bool
@@ -110,12 +73,5 @@ fn is_letter_of(letters: Letters, c: u32) -> bool
 pub fn run_size(s: &[u32], letters: Letters) -> usize
     ensures { (result ≡ run_length (is_letter_of letters) s.now) × (result ≤ length s.now) }
 {
-    let mut i: usize = 0;
-    while i < s.len() {
-        if !is_letter_of(letters, s[i]) {
-            return i;
-        }
-        i += 1;
-    }
-    i
+    s.iter().take_while(|c| is_letter_of(letters, **c)).count()
 }

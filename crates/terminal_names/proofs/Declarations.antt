@@ -1,21 +1,16 @@
 -- The last declaration of a prefix, one declaration further.
 use Prim.Native.Nat.{ℕ, zero, suc, ◌+◌, ◌-◌, ◌<◌}
 use native.Mathlib.Omega.{arith}
-use borrow.Author.Tests.{ne_eqb}
 use mathlib.Core.Path.{◌≡◌, refl, sym, ◌∙◌, ap}
 use mathlib.Core.Bool.{cond}
 use mathlib.Core.List.{List}
 use lib.ListN.{drop}
 use lib.Seq.{drop-drop}
 use Rattle.dictionaries.specs.Strings.{same_string}
-use Rattle.tokens.specs.Runs.{run_length}
-use Rattle.terminals.specs.Names.{is_no_colon, prefix_size, within, name_prefix, Declared, iri, last_declared}
-use Rattle.terminal_names.specs.Declaring.{letters_of, declared_at, declared_first}
+use Rattle.terminals.specs.Names.{within, name_prefix, Declared, iri, last_declared}
+use Rattle.terminal_names.specs.Declaring.{letters_of, declared_first}
 
 module _ (points ws : List ℕ) (at : ℕ) where
-  pub at_six : iri (within (letters_of points (drop (at + 6) ws))) ≡ declared_at points ws (at + 6)
-  at_six = rw (ne_eqb (at + 6) 0 (λ e. omega arith)) refl
-
   next : (p : List ℕ) (n : ℕ) (f : Declared)
       → last_declared (declared_first points (suc n) (drop at ws)) p f
       ≡ last_declared (declared_first points n (drop (at + 9) ws)) p
@@ -36,7 +31,3 @@ module _ (points ws : List ℕ) (at : ℕ) where
   pub declared_end : (p : List ℕ) (left : ℕ) (f : Declared) → left ≡ 0 → last_declared (declared_first points left (drop at ws)) p f ≡ f
   unfolding last_declared declared_first
   declared_end p left f e = rw e refl
-
-pub prefix_run : (cs : List ℕ) → run_length is_no_colon cs ≡ prefix_size cs
-unfolding prefix_size
-prefix_run cs = refl

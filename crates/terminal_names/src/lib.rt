@@ -1,5 +1,5 @@
 // Names in code: a token's characters, the prefix of a name, and the last declaration of a prefix.
-#![tactic(auto)]
+#![tactic(auto, unfolding(terminals::specs::Names::prefix_size))]
 
 ghost use Rattle.std.specs.Prelude.{◌≡◌, cond, ◌+◌, ◌*◌, ◌≤◌, length, drop};
 ghost use Rattle.dictionaries.specs.Strings.{same_string};
@@ -19,40 +19,42 @@ pub fn spelling<'a>(points: &'a [u32], tokens: &[u32], at: usize) -> &'a [u32]
 }
 
 // The prefix of a name.
-pub fn prefix_of<'a>(s: &'a [u32]) -> &'a [u32]
+pub fn prefix_of(s: &[u32]) -> &[u32]
     ensures { result.now ≡ name_prefix s.now }
 {
     front(s, run_size(s, Letters::NoColon))
 }
 
 // Where the IRI's words stand if the declaration at `at` is of `prefix`, else `found`.
-fn newer(points: &[u32], tokens: &[u32], at: usize, prefix: &[u32], found: usize) -> usize
+fn newer(
+    points: &[u32],
+    tokens: &[u32],
+    at: usize,
+    prefix: &[u32],
+    found: Option<usize>,
+) -> Option<usize>
     requires { at + 9 ≤ length tokens.now }
     ensures { declared_at points.now tokens.now result
         ≡ cond (same_string prefix.now (name_prefix (letters_of points.now (drop (at + 3) tokens.now))))
         (iri (within (letters_of points.now (drop (at + 6) tokens.now))))
         (declared_at points.now tokens.now found) }
 {
-    let s = spelling(points, tokens, at + 3);
-    if same_string(prefix, prefix_of(s)) {
-        return at + 6;
+    if same_string(prefix, prefix_of(spelling(points, tokens, at + 3))) {
+        Some(at + 6)
+    } else {
+        found
     }
-    found
 }
 
-// Where the words of the IRI stand that `prefix` stands for, by the last of the first `count` declarations; 0 where there is none.
-pub fn declared_at(points: &[u32], tokens: &[u32], count: usize, prefix: &[u32]) -> usize
+// Where the words of the IRI stand that `prefix` stands for, by the last of the first `count` declarations, if one is of it.
+pub fn declared_at(points: &[u32], tokens: &[u32], count: usize, prefix: &[u32]) -> Option<usize>
     requires { count * 9 ≤ length tokens.now }
     ensures { declared_at points.now tokens.now result
         ≡ last_declared (declared_first points.now count tokens.now) prefix.now nothing }
 {
-    let mut found: usize = 0;
-    let mut at: usize = 0;
-    let mut left = count;
-    while 0 < left {
-        found = newer(points, tokens, at, prefix, found);
-        at += 9;
-        left -= 1;
+    let mut found = None;
+    for i in 0..count {
+        found = newer(points, tokens, 9 * i, prefix, found);
     }
     found
 }

@@ -5,14 +5,14 @@ use mathlib.Core.Path.{◌≡◌, refl, sym, ◌∙◌, ap}
 use mathlib.Core.Bool.{Bool, true, false}
 use mathlib.Core.List.{List, [], ◌∷◌, map}
 use lib.Dec.{eqb, leb}
+use lib.Pointwise.{pointwise}
 use lib.ListN.{length, get_or, length-map}
 use Rattle.sequences.specs.Sequences.{all, neighbours}
 use Rattle.sequences.proofs.Each.{Each}
 use Rattle.sequences.proofs.Booleans.{Decided, yes, no, decided, and_left, and_right}
-use borrow.Author.Tests.{leb-true, eq-eqb, ne_eqb}
+use borrow.Author.Tests.{leb-true}
 use Rattle.sequences.proofs.Ascending.{neighbours_ascending}
-use Rattle.dictionaries.specs.declared.Lookup.{Lookup}
-use Rattle.dictionaries.specs.declared.Lookup.TheVariants.{At, Absent}
+use Rattle.std.specs.Prelude.{Result, Ok, Err}
 use Rattle.dictionaries.specs.Utf8.{formed_from}
 use Rattle.dictionaries.specs.Strings.{string_before, same_string}
 use Rattle.dictionaries.specs.Dictionaries.{RightDictionary, strings_of, strings_from, ends_right}
@@ -21,7 +21,7 @@ use Rattle.dictionaries.proofs.Strings.{before_ordered, same_equal}
 use Rattle.dictionaries.proofs.Searching.{among_none}
 use Rattle.dictionaries.proofs.Ranking.{found}
 use Rattle.terminals.specs.Computing.{computing}
-use Rattle.terminals.specs.Spellings.{capital, spelled_words, kind_at, spelled_kind, keyword_kind}
+use Rattle.terminals.specs.Spellings.{capital, spelled_words, kind_at, spelled_kind}
 use Rattle.terminal_words.specs.SpellingTables.{spelled_letters, spelled_ends, spelled_numbers}
 
 -- ---- the tables, by computation
@@ -38,19 +38,19 @@ unfolding computing neighbours
 words_ascend = refl
 
 -- ---- what is found
-module _ (letters ends kinds s : List ℕ) (pl : letters ≡ spelled_letters) (pe : ends ≡ spelled_ends) (pk : kinds ≡ spelled_numbers) (l : Lookup)
+module _ (letters ends kinds s : List ℕ) (pl : letters ≡ spelled_letters) (pe : ends ≡ spelled_ends) (pk : kinds ≡ spelled_numbers) (l : Result ℕ ℕ)
     (e : l ≡ lookup_in (strings_of letters ends) s) where
   looked_up : l ≡ lookup_in spelled_words s
   looked_up = e ∙ rw (pl, pe) (ap (λ ss. lookup_in ss s) same_words_lem)
 
-  pub at_within : (n : ℕ) → l ≡ At n → n < length kinds
+  pub at_within : (n : ℕ) → l ≡ Ok n → n < length kinds
   at_within n f =
       rw pk ((found s spelled_words (neighbours_ascending before_ordered spelled_words words_ascend) n).0 (sym looked_up ∙ f)).within
 
-  pub at_kind : (n : ℕ) → l ≡ At n → get_or kinds n 0 ≡ kind_at (lookup_in spelled_words s)
+  pub at_kind : (n : ℕ) → l ≡ Ok n → get_or kinds n 0 ≡ kind_at (lookup_in spelled_words s)
   at_kind n f = rw pk (sym (ap kind_at (sym looked_up ∙ f)))
 
-  pub absent_kind : (n : ℕ) → l ≡ Absent n → 19 ≡ kind_at (lookup_in spelled_words s)
+  pub absent_kind : (n : ℕ) → l ≡ Err n → 19 ≡ kind_at (lookup_in spelled_words s)
   absent_kind n f = sym (ap kind_at (sym looked_up ∙ f))
 
 pub kind_of_capitals : (cs : List ℕ) → kind_at (lookup_in spelled_words (map capital cs)) ≡ spelled_kind cs
@@ -86,20 +86,8 @@ long_other cs h =
     rw (among_none s spelled_words (longer s spelled_words l all_short)) refl
 
 -- ---- a, and every other word
-pub word_a : (cs : List ℕ) → length cs ≡ 1 → get_or cs 0 0 ≡ 0x61 → 23 ≡ keyword_kind cs
+pub same_as_one : (cs : List ℕ) (a : ℕ) → pointwise eqb cs (a ∷ []) ≡ same_string cs (a ∷ [])
 unfolding same_string
-word_a [] h e = absurd (omega arith)
-word_a (x ∷ []) h e = rw (eq-eqb x 0x61 e) refl
-word_a (x ∷ y ∷ cs) h e = absurd (omega arith)
-
-pub word_long : (cs : List ℕ) → (length cs ≡ 1 → ⊥) → spelled_kind cs ≡ keyword_kind cs
-unfolding same_string
-word_long [] h = refl
-word_long (x ∷ []) h = absurd (h refl)
-word_long (x ∷ y ∷ cs) h = elim (decided (eqb x 0x61)) [ yes k ↦ rw k refl | no k ↦ rw k refl ]
-
-pub word_other : (cs : List ℕ) → length cs ≡ 1 → (get_or cs 0 0 ≡ 0x61 → ⊥) → spelled_kind cs ≡ keyword_kind cs
-unfolding same_string
-word_other [] h e = absurd (omega arith)
-word_other (x ∷ []) h e = rw (ne_eqb x 0x61 e) refl
-word_other (x ∷ y ∷ cs) h e = absurd (omega arith)
+same_as_one [] a = refl
+same_as_one (x ∷ []) a = refl
+same_as_one (x ∷ y ∷ cs) a = refl

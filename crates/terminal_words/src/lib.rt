@@ -1,12 +1,11 @@
 // What words and signs are, by their spelling in any case: a search in a lent dictionary of SPARQL's.
-#![tactic(auto)]
+#![tactic(auto, using(crate::proofs::Spelled::same_as_one))]
 
 ghost use Rattle.std.specs.Prelude.{◌≡◌, map, ◌≤◌, length, take};
 ghost use Rattle.terminals.specs.Spellings.{capital, kind_at, spelled_words, spelled_kind, keyword_kind};
 ghost use Rattle.dictionaries.specs.Lookups.{lookup_in};
 ghost use Rattle.terminal_words.specs.SpellingTables.{spelled_letters, spelled_ends, spelled_numbers};
 
-use dictionaries::Lookup;
 use dictionary_searches::find;
 
 const LONGEST: usize = 21;
@@ -19,16 +18,11 @@ const A: u32 = 23;
 fn capital(c: u32) -> u8
     ensures { result ≡ capital c }
 {
-    if c >= 128 {
-        return 0;
+    match c {
+        0x61..=0x7A => (c - 32) as u8,
+        0..=0x7F => c as u8,
+        _ => 0,
     }
-    if c < 0x61 {
-        return c as u8;
-    }
-    if c > 0x7A {
-        return c as u8;
-    }
-    (c - 32) as u8
 }
 
 // Writes `s` in capitals to `out`.
@@ -37,10 +31,8 @@ fn write_capitals(s: &[u32], out: &mut [u8])
     ensures { (length out.new ≡ length out.old)
         × (take (length s.now) out.new ≡ map capital s.now) }
 {
-    let mut i: usize = 0;
-    while i < s.len() {
-        out[i] = capital(s[i]);
-        i += 1;
+    for (i, c) in s.iter().enumerate() {
+        out[i] = capital(*c);
     }
 }
 
@@ -49,10 +41,9 @@ fn capitals_kind(capitals: &[u8], letters: &[u8], ends: &[u32], kinds: &[u32]) -
     requires { (letters.now ≡ spelled_letters) × (ends.now ≡ spelled_ends) × (kinds.now ≡ spelled_numbers) }
     ensures { result ≡ kind_at (lookup_in spelled_words capitals.now) }
 {
-    let lookup = find(letters, ends, capitals);
-    match lookup {
-        Lookup::At(n) => kinds[n],
-        Lookup::Absent(_) => OTHER_WORD,
+    match find(letters, ends, capitals) {
+        Ok(n) => kinds[n],
+        Err(_) => OTHER_WORD,
     }
 }
 
@@ -73,10 +64,7 @@ pub fn word_kind(s: &[u32], letters: &[u8], ends: &[u32], kinds: &[u32], room: &
     requires { (letters.now ≡ spelled_letters) × (ends.now ≡ spelled_ends) × (kinds.now ≡ spelled_numbers) × (21 ≤ length room.old) }
     ensures { (result ≡ keyword_kind s.now) × (length room.new ≡ length room.old) }
 {
-    if s.len() != 1 {
-        return spelled_kind(s, letters, ends, kinds, room);
-    }
-    if s[0] == 0x61 {
+    if s == [0x61].as_slice() {
         return A;
     }
     spelled_kind(s, letters, ends, kinds, room)

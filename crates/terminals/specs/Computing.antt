@@ -9,6 +9,7 @@ use Rattle.terminals.specs.Names.{has_scheme, prefix_size, unescaped, declaratio
 use Rattle.terminals.specs.Terminals.{is_whole_number, is_shortest, quoted, terminal_kind, terminals_from, pieces}
 
 unfoldable pub computing : Unit {0}
-unfolding tokens.computing keep string_before same_string string_rank is_among lookup_in spelled_kind has_scheme prefix_size unescaped declarations_of last_declared
+unfolding tokens.computing keep string_before same_string string_rank is_among lookup_in spelled_kind has_scheme prefix_size unescaped declarations_of
+    last_declared
     is_year_name is_whole_number is_shortest quoted terminal_kind terminals_from pieces
 computing = tt

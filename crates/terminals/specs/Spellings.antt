@@ -1,7 +1,6 @@
 -- The words and signs of SPARQL 1.1's grammar, its updates included, and APPROX_COUNT_DISTINCT: what each is here. Assumes nothing: these are definitions.
 use Rattle.std.specs.Prelude.{ℕ, ◌-◌, cond, List, [], ◌∷◌, map, ltb, get_or}
-use Rattle.dictionaries.specs.declared.Lookup.{Lookup}
-use Rattle.dictionaries.specs.declared.Lookup.TheVariants.{At, Absent}
+use Rattle.std.specs.Prelude.{Result, Ok, Err}
 use Rattle.dictionaries.specs.Utf8.{span, is_in}
 use Rattle.dictionaries.specs.Strings.{same_string}
 use Rattle.dictionaries.specs.Lookups.{lookup_in}
@@ -315,9 +314,9 @@ spelled_kinds = map (λ e. e.means) spellings
 abbrev pub capital : ℕ → ℕ
 capital c = cond (ltb c 128) (cond (is_in (span 0x61 0x7A) c) (c - 32) c) 0
 
-abbrev pub kind_at : Lookup → ℕ
-kind_at (At n) = get_or spelled_kinds n 0
-kind_at (Absent n) = other_word_token
+abbrev pub kind_at : Result ℕ ℕ → ℕ
+kind_at (Ok n) = get_or spelled_kinds n 0
+kind_at (Err n) = other_word_token
 
 -- what a word or sign is, in any case
 unfoldable pub spelled_kind : List ℕ → ℕ

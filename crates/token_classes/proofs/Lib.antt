@@ -1,2 +1,1 @@
 pub mod SpansRead
-mod SetsRead

@@ -1,5 +1,5 @@
 // The classes of characters that tokens are made of, in code. Those above ASCII go by a list of spans that the caller lends, made once for a text.
-#![tactic(auto)]
+#![tactic(auto, unfolding(characters::specs::Escapes::hex_digit, tokens::specs::Classes::is_name_base))]
 
 ghost use Rattle.std.specs.Prelude.{◌≡◌, [], ◌∷◌};
 ghost use Rattle.dictionaries.specs.Utf8.{span, is_in};
@@ -11,24 +11,16 @@ ghost use Rattle.token_classes.specs.SpanWords.{spans_of};
 pub fn in_span(c: u32, least: u32, greatest: u32) -> bool
     ensures { result ≡ is_in (span least greatest) c }
 {
-    if c < least {
-        return false;
-    }
-    c <= greatest
+    (least..=greatest).contains(&c)
 }
 
 // Whether one of `spans` has the character `c`; each is two words, its least and its greatest.
 pub fn in_spans(spans: &[u32], c: u32) -> bool
     ensures { result ≡ in_spans (spans_of spans.now) c }
 {
-    let mut at: usize = 0;
-    while spans.len() - at >= 2 {
-        if in_span(c, spans[at], spans[at + 1]) {
-            return true;
-        }
-        at += 2;
-    }
-    false
+    spans
+        .chunks_exact(2)
+        .any(|span| in_span(c, span[0], span[1]))
 }
 
 // Whether `c` is a letter that a name may begin with, by the spans of `names`.
@@ -42,89 +34,46 @@ pub fn is_name_base(names: &[u32], c: u32) -> bool
 pub fn is_digit(c: u32) -> bool
     ensures { result ≡ is_digit c }
 {
-    in_span(c, 0x30, 0x39)
+    matches!(c, 0x30..=0x39)
 }
 
 pub fn is_ascii_letter(c: u32) -> bool
     ensures { result ≡ is_ascii_letter c }
 {
-    if in_span(c, 0x41, 0x5A) {
-        return true;
-    }
-    if in_span(c, 0x61, 0x7A) {
-        return true;
-    }
-    false
+    matches!(c, 0x41..=0x5A | 0x61..=0x7A)
 }
 
 // Whether a word may go on with `c`.
 pub fn is_word_character(c: u32) -> bool
     ensures { result ≡ is_word_character c }
 {
-    if is_ascii_letter(c) {
-        return true;
-    }
-    if is_digit(c) {
-        return true;
-    }
-    c == 0x5F
+    is_ascii_letter(c) || is_digit(c) || c == 0x5F
 }
 
 pub fn is_line_end(c: u32) -> bool
     ensures { result ≡ is_line_end c }
 {
-    if c == 0x0A {
-        return true;
-    }
-    if c == 0x0D {
-        return true;
-    }
-    false
+    matches!(c, 0x0A | 0x0D)
 }
 
 pub fn is_blank(c: u32) -> bool
     ensures { result ≡ is_blank c }
 {
-    if c == 0x20 {
-        return true;
-    }
-    if c == 0x09 {
-        return true;
-    }
-    if c == 0x0D {
-        return true;
-    }
-    if c == 0x0A {
-        return true;
-    }
-    false
+    matches!(c, 0x20 | 0x09 | 0x0D | 0x0A)
 }
 
 // Whether `c` is one of the ASCII characters of `set`.
 fn one_of(set: &[u8], c: u32) -> bool
     ensures { result ≡ is_one_of set.now c }
 {
-    let mut at: usize = 0;
-    while at < set.len() {
-        if c == set[at] as u32 {
-            return true;
-        }
-        at += 1;
-    }
-    false
+    set.iter().any(|a| c == u32::from(*a))
 }
 
 // Whether `c` may stand in an IRI.
 pub fn is_iri_character(c: u32) -> bool
     ensures { result ≡ is_iri_character c }
 {
-    if c <= 0x20 {
-        return false;
-    }
-    if c >= 0x110000 {
-        return false;
-    }
-    !one_of(b"<>\"{}|^`\\", c)
+    (0x21..0x110000).contains(&c) && !one_of(b"<>\"{}|^`\\", c)
 }
 
 // Whether `c` may stand behind a backslash in a text.
@@ -151,24 +100,12 @@ pub fn is_sign(c: u32) -> bool
 pub fn is_hex_digit(c: u32) -> bool
     ensures { result ≡ is_hex_digit c }
 {
-    if in_span(c, 0x30, 0x39) {
-        return true;
-    }
-    if in_span(c, 0x41, 0x46) {
-        return true;
-    }
-    in_span(c, 0x61, 0x66)
+    matches!(c, 0x30..=0x39 | 0x41..=0x46 | 0x61..=0x66)
 }
 
 // Whether `c` is one of two characters.
 pub fn either(c: u32, a: u32, b: u32) -> bool
     ensures { result ≡ is_one_of (a ∷ b ∷ []) c }
 {
-    if c == a {
-        return true;
-    }
-    if c == b {
-        return true;
-    }
-    false
+    c == a || c == b
 }

@@ -1,44 +1,31 @@
 -- Tokens from a place on, by the characters that stand there.
-use Prim.Native.Nat.{◌+◌, ◌-◌, ◌<◌, ◌≤◌, ℕ}
+use Prim.Native.Nat.{◌+◌, ◌-◌, ◌≤◌, ℕ}
 use native.Mathlib.Omega.{arith}
 use native.Mathlib.Nat.{zero-add}
 use mathlib.Core.Path.{◌∙◌, ◌≡◌, ap, refl, sym}
-use mathlib.Core.Bool.{◌&&◌, ◌||◌, cond, false, true, true≢false}
-use mathlib.Core.List.{List, [], ◌∷◌}
+use mathlib.Core.Bool.{◌&&◌, cond, false}
+use mathlib.Core.List.{List}
 use lib.Dec.{eqb}
 use lib.ListN.{get_or, drop}
 use lib.Seq.{drop-drop}
-use borrow.Author.Tests.{eqb-true}
-use Rattle.sequences.proofs.Booleans.{yes, no, decided}
 use Rattle.characters.specs.Sequences.{no_point}
 use Rattle.tokens.specs.declared.TokenKind.TheVariants as kind
-use Rattle.tokens.specs.Classes.{is_one_of, is_ascii_letter, is_iri_character, is_name_base, begins_variable}
+use Rattle.tokens.specs.Classes.{is_ascii_letter, is_iri_character, is_name_base, begins_variable}
 use Rattle.tokens.specs.Runs.{run_length, first_is, starts_with, dotted_end, name_item}
 use Rattle.tokens.specs.Numerals.{token}
 use Rattle.tokens.specs.Texts.{wrong_at}
-use Rattle.tokens.specs.Tokens.{angle_by, angle_of, prefixed_of, word_of, named_by, named_of, blank_of, tag_end, tag_by, tag_of}
+use Rattle.tokens.specs.Tokens.{angle_by, angle_of, prefixed_of, word_token, named_by, named_of, blank_of, tag_end, tag_by, tag_of}
 use Rattle.tokens.proofs.RunBounds.{dotted_shift, tag_shift}
 use Rattle.token_runs.specs.RunClasses.{past_end}
-use Rattle.token_runs.proofs.Advancing.{second_at, starts_at}
-
--- one of two small characters is small
-pub either_small : (a b c n : ℕ) → a < n → b < n → is_one_of (a ∷ b ∷ []) c ≡ true → c < n
-either_small a b c n p q e =
-    elim (decided (eqb c a)) [
-      | yes k ↦ omega (arith, eqb-true c a k)
-      | no k ↦
-          elim (decided (eqb c b)) [
-            | yes m ↦ omega (arith, eqb-true c b m)
-            | no m ↦
-                let z : eqb c a || (eqb c b || false) ≡ false = rw (k, m) refl in
-                absurd (true≢false (sym e ∙ z))
-          ]
-    ]
+use Rattle.token_runs.proofs.Advancing.{first_at, second_at, starts_at}
 
 -- what stands behind the last character begins no variable
 pub variable_past : begins_variable past_end ≡ false
 unfolding is_name_base
 variable_past = refl
+
+pub first_variable : (points : List ℕ) (at : ℕ) → first_is begins_variable (drop at points) ≡ begins_variable (get_or points at past_end)
+first_variable points at = first_at points at begins_variable variable_past
 
 -- ---- where a run ends, counted from two places
 pub dotted_place : (cs : List ℕ) (a b : ℕ) → dotted_end name_item 0 cs b b + a ≡ dotted_end name_item 0 cs a a + b
@@ -77,16 +64,16 @@ module _ (points : List ℕ) (from : ℕ) where
   -- ---- names
   pub named_read : (c end : ℕ) → from ≤ end → end ≡ dotted_end name_item 0 (drop from points) from from
       → named_of c (drop from points)
-      ≡ cond (eqb (get_or points end past_end) 0x3A) (prefixed_of (end - from + 1) (drop (end + 1) points)) (word_of c (drop from points))
+      ≡ cond (eqb (get_or points end past_end) 0x3A) (prefixed_of (end - from + 1) (drop (end + 1) points)) (word_token c (drop from points))
   named_read c end h e =
       let cs = drop from points in
       let d : dotted_end name_item 0 cs 0 0 ≡ end - from = omega (arith, e, h, dotted_place cs from 0) in
       let y : from + (end - from) ≡ end = omega (arith, h) in
       let z : from + (end - from + 1) ≡ end + 1 = omega (arith, h) in
       ap (λ m. named_by m c cs) d
-      ∙ ap (λ b. cond b (prefixed_of (end - from + 1) (drop (end - from + 1) cs)) (word_of c cs))
+      ∙ ap (λ b. cond b (prefixed_of (end - from + 1) (drop (end - from + 1) cs)) (word_token c cs))
       (ap (starts_with 0x3A) (drop-drop (end - from) from points ∙ ap (λ m. drop m points) y) ∙ starts_at points end 0x3A refl)
-      ∙ ap (λ l. cond (eqb (get_or points end past_end) 0x3A) (prefixed_of (end - from + 1) l) (word_of c cs))
+      ∙ ap (λ l. cond (eqb (get_or points end past_end) 0x3A) (prefixed_of (end - from + 1) l) (word_token c cs))
       (drop-drop (end - from + 1) from points ∙ ap (λ m. drop m points) z)
 
   pub blank_read : blank_of (drop from points)

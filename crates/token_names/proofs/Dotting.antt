@@ -3,19 +3,21 @@ use Prim.Native.Nat.{ℕ, zero, suc, ◌+◌, ◌-◌, ◌≤◌, ◌<◌}
 use native.Mathlib.Omega.{arith}
 use native.Mathlib.Nat.{add-zero}
 use mathlib.Core.Path.{◌≡◌, refl, sym, ◌∙◌, ap}
-use mathlib.Core.Bool.{Bool, true, false, cond, ◌||◌}
+use mathlib.Core.Bool.{Bool, true, false, cond}
 use mathlib.Core.List.{List, [], ◌∷◌}
 use lib.Dec.{eqb}
 use lib.ListN.{length, get_or, drop, drop_of_length-le, length-drop}
 use lib.Seq.{drop-drop}
+use Rattle.std.specs.Prelude.{Some, None}
 use Rattle.characters.specs.Escapes.{hex_digit}
-use Rattle.tokens.specs.Classes.{is_digit, is_name_letter, begins_variable, is_name_character, is_hex_digit, is_name_escape}
+use Rattle.sequences.proofs.Booleans.{absurd_true}
+use Rattle.tokens.specs.Classes.{is_hex_digit, is_name_escape}
 use Rattle.tokens.specs.Runs.{first_is, dotted_end, plx_item, local_first, local_item, local_length}
-use Rattle.tokens.specs.Tokens.{goes_on_tag, tag_end}
+use Rattle.tokens.specs.Tokens.{is_tag_character, goes_on_tag, tag_end}
 use Rattle.token_runs.specs.RunClasses.{past_end}
 use Rattle.token_runs.proofs.Advancing.{points_next, first_at, second_at}
 use Rattle.tokens.proofs.RunBounds.{name_item_fits, local_first_fits, local_item_fits, dotted_shift}
-use Rattle.token_names.specs.Items.{item_of, plx_by}
+use Rattle.token_names.specs.Items.{counted, item_of, plx_by}
 
 -- ---- what stands behind the last character is no digit
 hex_past : is_hex_digit past_end ≡ false
@@ -29,28 +31,14 @@ plx_read points at c =
     let cs = drop (at + 1) points in
     let z : at + 1 + 1 ≡ at + 2 = omega arith in
     let next = get_or points (at + 1) past_end in
-    ap (λ b. plx_by (eqb c 0x25) b (first_is is_hex_digit (drop 1 cs)) (eqb c 0x5C) (first_is is_name_escape cs)) (first_at points (at + 1) is_hex_digit hex_past)
+    ap (λ b. plx_by (eqb c 0x25) b (first_is is_hex_digit (drop 1 cs)) (eqb c 0x5C) (first_is is_name_escape cs))
+    (first_at points (at + 1) is_hex_digit hex_past)
     ∙ ap (λ b. plx_by (eqb c 0x25) (is_hex_digit next) b (eqb c 0x5C) (first_is is_name_escape cs))
     (second_at points (at + 1) is_hex_digit hex_past ∙ ap (λ n. is_hex_digit (get_or points n past_end)) z)
     ∙ ap (λ b. plx_by (eqb c 0x25) (is_hex_digit next) (is_hex_digit (get_or points (at + 2) past_end)) (eqb c 0x5C) b)
     (first_at points (at + 1) is_name_escape refl)
 
 -- ---- items
-or_regroup : (a b d : Bool) → a || (b || d) ≡ (a || b) || d
-or_regroup true b d = refl
-or_regroup false b d = refl
-
--- the first item of a local name, by whether a variable may begin so, and whether it is a colon
-pub first_by : (c : ℕ) (cs : List ℕ) (begins colon : Bool) → begins_variable c ≡ begins → eqb c 0x3A ≡ colon
-    → local_first c cs ≡ cond (begins || colon) 1 (plx_item c cs)
-first_by c cs begins colon p q =
-    ap (λ t. cond t 1 (plx_item c cs))
-    (or_regroup (is_name_letter c) (is_digit c) (eqb c 0x3A) ∙ ap (λ t. t || eqb c 0x3A) p ∙ ap (λ t. begins || t) q)
-
-pub item_name : (local : Bool) (c : ℕ) (cs : List ℕ) → is_name_character c ≡ true → item_of local c cs ≡ 1
-item_name true c cs e = rw e refl
-item_name false c cs e = rw e refl
-
 item_fits : (local : Bool) (c : ℕ) (cs : List ℕ) → item_of local c cs ≤ suc (length cs)
 item_fits true c cs = local_item_fits c cs
 item_fits false c cs = name_item_fits c cs
@@ -66,6 +54,28 @@ module _ (points : List ℕ) (at s : ℕ) (h : at < length points) where
 pub item_within : (local : Bool) (points : List ℕ) (at s : ℕ) → at < length points → s ≡ item_of local (get_or points at 0) (drop (at + 1) points)
     → at + s ≤ length points
 item_within local points at s h e = within points at s h (rw e (item_fits local (get_or points at 0) (drop (at + 1) points)))
+
+-- what a number of characters says, where there are some and where there are none
+some_case : (b : Bool) (s n : ℕ) → Some s ≡ cond b None (Some n) → (s ≡ n) × (b ≡ false)
+some_case true s n e = (cc, cc)
+some_case false s n e = (cc, refl)
+
+above : (n : ℕ) → eqb n 0 ≡ false → 1 ≤ n
+above zero h = absurd_true refl h
+above (suc n) h = omega arith
+
+pub counted_some : (s n : ℕ) → Some s ≡ counted n → (s ≡ n) × (1 ≤ s) × (eqb s 0 ≡ false)
+counted_some s n e =
+    let p = some_case (eqb n 0) s n e in
+    let f : eqb s 0 ≡ false = ap (λ m. eqb m 0) p.0 ∙ p.1 in
+    (p.0, above s f, f)
+
+none_case : (b : Bool) (n : ℕ) → None ≡ cond b None (Some n) → b ≡ true
+none_case true n e = refl
+none_case false n e = cc
+
+pub counted_none : (n : ℕ) → None ≡ counted n → eqb n 0 ≡ true
+counted_none n e = none_case (eqb n 0) n e
 
 -- ---- items and dots
 module _ (size : ℕ → List ℕ → ℕ) where
@@ -108,17 +118,11 @@ module _ (size : ℕ → List ℕ → ℕ) where
 
 -- ---- local names
 module _ (points : List ℕ) (at : ℕ) where
-  pub local_none : length points ≤ at → local_length (drop at points) ≡ 0
-  local_none h = ap local_length (drop_of_length-le points {i = at} h)
-
   module _ (h : at < length points) (s : ℕ) (r : s ≡ local_first (get_or points at 0) (drop (at + 1) points)) where
     begun : local_length (drop at points) ≡ cond (eqb s 0) 0 (dotted_end local_item (s - 1) (drop (at + 1) points) 1 s)
     begun =
         ap local_length (points_next points at h)
         ∙ ap (λ n. cond (eqb n 0) 0 (dotted_end local_item (n - 1) (drop (at + 1) points) 1 n)) (sym r)
-
-    pub local_stop : eqb s 0 ≡ true → local_length (drop at points) ≡ 0
-    local_stop u = begun ∙ ap (λ b. cond b 0 (dotted_end local_item (s - 1) (drop (at + 1) points) 1 s)) u
 
     pub local_some : eqb s 0 ≡ false → 1 ≤ s
         → local_length (drop at points) + at ≡ dotted_end local_item 0 (drop (at + s) points) (at + s) (at + s)
@@ -136,6 +140,9 @@ module _ (points : List ℕ) (at : ℕ) where
         ∙ ap (λ m. dotted_end local_item 0 (drop (at + s) points) m m) z
 
 -- ---- language tags
+pub tags_at : (points : List ℕ) (at : ℕ) → first_is is_tag_character (drop (at + 1) points) ≡ is_tag_character (get_or points (at + 1) past_end)
+tags_at points at = first_at points (at + 1) is_tag_character refl
+
 module _ (points : List ℕ) (at n : ℕ) where
   pub tag_over : length points ≤ at → tag_end (drop at points) n ≡ n
   unfolding tag_end

@@ -24,14 +24,20 @@ module _ (points : List ℕ) (at : ℕ) (letter : Bool) (e : is_one_of (0x65 ∷
 
   pub exponent_none : letter ≡ false → exponent_length (drop at points) ≡ 0
   exponent_none f =
-      ap (λ b. exponent_of b (first_is is_plus_minus (drop 1 (drop at points))) (digits_length (drop 2 (drop at points))) (digits_length (drop 1 (drop at points))))
+      ap
+      (λ b.
+      exponent_of b (first_is is_plus_minus (drop 1 (drop at points))) (digits_length (drop 2 (drop at points)))
+      (digits_length (drop 1 (drop at points))))
       (letter_read ∙ f)
 
   pub exponent_some : (signed : Bool) → is_plus_minus (get_or points (at + 1) past_end) ≡ signed → letter ≡ true
       → exponent_length (drop at points)
       ≡ cond signed (exponent_by (digits_length (drop (at + 2) points)) 2) (exponent_by (digits_length (drop (at + 1) points)) 1)
   exponent_some signed s t =
-      ap (λ b. exponent_of b (first_is is_plus_minus (drop 1 (drop at points))) (digits_length (drop 2 (drop at points))) (digits_length (drop 1 (drop at points))))
+      ap
+      (λ b.
+      exponent_of b (first_is is_plus_minus (drop 1 (drop at points))) (digits_length (drop 2 (drop at points)))
+      (digits_length (drop 1 (drop at points))))
       (letter_read ∙ t)
       ∙ ap (λ b. exponent_of true b (digits_length (drop 2 (drop at points))) (digits_length (drop 1 (drop at points))))
       (second_at points at is_plus_minus refl ∙ s)

@@ -72,8 +72,7 @@ fn write_token(tokens: &mut [u32], n: usize, t: Token)
     requires { (n + 3 ≤ length tokens.old) × (t.start < 4294967296) × (t.size < 4294967296) }
     ensures { tokens.new ≡ set (set (set tokens.old n (kind_number t.kind)) (n + 1) t.start) (n + 2) t.size }
 {
-    let kind = t.kind;
-    tokens[n] = kind_number(kind);
+    tokens[n] = kind_number(t.kind);
     tokens[n + 1] = t.start as u32;
     tokens[n + 2] = t.size as u32;
 }
@@ -85,6 +84,7 @@ pub fn read_tokens(points: &[u32], names: &[u32], tokens: &mut [u32]) -> usize
 {
     let mut at = skip_blanks(points, 0);
     let mut n: usize = 0;
+    // no iterator: a token and the blanks behind it are of any length
     while at < points.len() {
         let t = read_token(points, names, at);
         write_token(tokens, n, t);

@@ -1,1 +1,1 @@
-mod FirstsRead
+mod TokensBegun

@@ -13,13 +13,6 @@ use token_classes::{
 };
 use token_letters::is_variable_character;
 
-// What a character makes of blanks and comments: whether a comment goes on behind it, or that it is not of them.
-#[derive(Clone, Copy)]
-pub enum BlankStep {
-    Goes(bool),
-    Stays,
-}
-
 // The classes that runs are of.
 #[derive(Clone, Copy)]
 pub enum RunClass {
@@ -30,22 +23,17 @@ pub enum RunClass {
     InVariable,
 }
 
-fn blank_step(comment: bool, c: u32) -> BlankStep
+// Whether a comment goes on behind the character `c` of blanks and comments; none where `c` is not of them.
+fn blank_step(comment: bool, c: u32) -> Option<bool>
     ensures { result ≡ blank_step comment c }
 {
-    if comment {
-        if c == 0x110000 {
-            return BlankStep::Stays;
-        }
-        return BlankStep::Goes(!is_line_end(c));
+    match c {
+        0x110000 if comment => None,
+        _ if comment => Some(!is_line_end(c)),
+        0x23 => Some(true),
+        _ if is_blank(c) => Some(false),
+        _ => None,
     }
-    if c == 0x23 {
-        return BlankStep::Goes(true);
-    }
-    if is_blank(c) {
-        return BlankStep::Goes(false);
-    }
-    BlankStep::Stays
 }
 
 // The first place from `from` on that is neither blank nor in a comment.
@@ -53,19 +41,14 @@ pub fn skip_blanks(points: &[u32], from: usize) -> usize
     requires { from ≤ length points.now }
     ensures { (result ≡ from + blanks_length false (drop from points.now)) × (result ≤ length points.now) }
 {
-    let mut at = from;
     let mut comment = false;
-    while at < points.len() {
-        let step = blank_step(comment, points[at]);
-        match step {
-            BlankStep::Goes(c) => {
-                comment = c;
-                at += 1;
-            }
-            BlankStep::Stays => return at,
+    for (i, c) in points[from..].iter().enumerate() {
+        match blank_step(comment, *c) {
+            Some(goes_on) => comment = goes_on,
+            None => return from + i,
         }
     }
-    at
+    points.len()
 }
 
 // Where the characters of a word end, from `from` on.
@@ -73,24 +56,15 @@ pub fn word_end(points: &[u32], from: usize) -> usize
     requires { from ≤ length points.now }
     ensures { (result ≡ from + run_length is_word_character (drop from points.now)) × (result ≤ length points.now) }
 {
-    let mut at = from;
-    while at < points.len() {
-        if !is_word_character(points[at]) {
-            return at;
-        }
-        at += 1;
-    }
-    at
+    let run = points[from..].iter().take_while(|c| is_word_character(**c));
+    from + run.count()
 }
 
 // The character at `at`, or behind the last one a number that is in no class.
 pub fn point_at(points: &[u32], at: usize) -> u32
     ensures { result ≡ get_or points.now at past_end }
 {
-    if at < points.len() {
-        return points[at];
-    }
-    0x110001
+    points.get(at).copied().unwrap_or(0x110001)
 }
 
 fn is_of_class(class: RunClass, names: &[u32], c: u32) -> bool
@@ -111,12 +85,8 @@ pub fn run_length(points: &[u32], names: &[u32], class: RunClass, from: usize) -
     requires { (from ≤ length points.now) × (spans_of names.now ≡ name_spans) }
     ensures { (result ≡ run_length (is_of_class class) (drop from points.now)) × (from + result ≤ length points.now) }
 {
-    let mut at = from;
-    while at < points.len() {
-        if !is_of_class(class, names, points[at]) {
-            return at - from;
-        }
-        at += 1;
-    }
-    at - from
+    let run = points[from..]
+        .iter()
+        .take_while(|c| is_of_class(class, names, **c));
+    run.count()
 }

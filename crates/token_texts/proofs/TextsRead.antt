@@ -3,56 +3,43 @@ use Prim.Native.Nat.{ℕ, zero, suc, ◌+◌, ◌-◌, ◌≤◌, ◌<◌}
 use native.Mathlib.Omega.{arith}
 use native.Mathlib.Nat.{add-zero}
 use mathlib.Core.Path.{◌≡◌, refl, sym, ◌∙◌, ap}
-use mathlib.Core.Bool.{Bool, true, false, ◌&&◌, ◌||◌, not, cond}
+use mathlib.Core.Bool.{Bool, ◌&&◌, ◌||◌, not, cond}
 use mathlib.Core.List.{List, [], ◌∷◌}
 use lib.Dec.{eqb}
 use lib.ListN.{length, get_or, drop, drop_of_length-le, length-drop}
 use lib.Seq.{drop-drop}
-use borrow.Author.Tests.{ne_eqb}
 use Rattle.sequences.proofs.Booleans.{yes, no, decided}
 use Rattle.characters.specs.Sequences.{no_point}
 use Rattle.characters.specs.Escapes.{backslash}
 use Rattle.tokens.specs.declared.TokenKind.TheVariants as kind
 use Rattle.tokens.specs.declared.Token.{Token}
 use Rattle.tokens.specs.Classes.{is_line_end, is_text_escape}
-use Rattle.tokens.specs.Runs.{first_is, starts_with}
+use Rattle.tokens.specs.Runs.{first_is}
 use Rattle.tokens.specs.Numerals.{token}
 use Rattle.tokens.specs.Texts.{two_more, text_from}
 use Rattle.tokens.proofs.RunBounds.{first_some}
 use Rattle.token_runs.specs.RunClasses.{past_end}
-use Rattle.token_runs.proofs.Advancing.{points_next, first_at, starts_at}
+use Rattle.token_runs.proofs.Advancing.{points_next, first_at}
 use Rattle.token_texts.specs.declared.TextEnding.{TextEnding}
 use Rattle.token_texts.specs.declared.TextEnding.TheVariants as ending
-use Rattle.token_texts.specs.declared.TextStep.{TextStep}
-use Rattle.token_texts.specs.declared.TextStep.TheVariants.{Goes, Ends}
+use Rattle.std.specs.Prelude.{Result, Ok, Err}
 use Rattle.token_texts.specs.TextSteps.{escape_step, text_step, text_end}
 
 -- ---- quotes
-pub two_read : (points : List ℕ) (q at : ℕ) → q < 0x110000
-    → two_more q (drop at points) ≡ eqb (get_or points at past_end) q && eqb (get_or points (at + 1) past_end) q
-two_read points q at h =
-    let past = ne_eqb past_end q (λ e. absurd (omega (arith, e))) in
-    ap (λ b. b && starts_with q (drop 1 (drop at points))) (starts_at points at q past)
-    ∙ ap (λ b. eqb (get_or points at past_end) q && b) (ap (starts_with q) (drop-drop 1 at points) ∙ starts_at points (at + 1) q past)
-
 -- what stands behind a backslash
 pub escape_read : (points : List ℕ) (at : ℕ) → escape_step (get_or points at past_end)
-    ≡ cond (first_is is_text_escape (drop at points)) (Goes 2) (Ends ending.WrongEscape)
-escape_read points at = ap (λ b. cond b (Goes 2) (Ends ending.WrongEscape)) (sym (first_at points at is_text_escape refl))
-
-pub and_none : (b : Bool) → b && false ≡ false
-and_none true = refl
-and_none false = refl
+    ≡ cond (first_is is_text_escape (drop at points)) (Ok 2) (Err ending.WrongEscape)
+escape_read points at = ap (λ b. cond b (Ok 2) (Err ending.WrongEscape)) (sym (first_at points at is_text_escape refl))
 
 -- ---- one step
-abbrev text_after : TextStep → Bool → ℕ → List ℕ → ℕ → Token
-text_after (Goes k) long q cs n = text_from long q (k - 1) cs (n + 1)
-text_after (Ends e) long q cs n = text_end e long n
+abbrev text_after : Result ℕ TextEnding → Bool → ℕ → List ℕ → ℕ → Token
+text_after (Ok k) long q cs n = text_from long q (k - 1) cs (n + 1)
+text_after (Err e) long q cs n = text_end e long n
 
 -- a step goes on by a character or more, and no further than there are
-abbrev StepFits : ℕ → TextStep → Type 0
-StepFits l (Goes k) = (1 ≤ k) × (k ≤ suc l)
-StepFits l (Ends e) = Unit {0}
+abbrev StepFits : ℕ → Result ℕ TextEnding → Type 0
+StepFits l (Ok k) = (1 ≤ k) × (k ≤ suc l)
+StepFits l (Err e) = Unit {0}
 
 module _ (long : Bool) (q c : ℕ) (cs : List ℕ) where
   step_fits : StepFits (length cs) (text_step long q c cs)
@@ -111,23 +98,23 @@ module _ (points : List ℕ) (long : Bool) (q at : ℕ) where
   unfolding text_from
   text_over n h = rw (drop_of_length-le points {i = at} h) refl
 
-  module _ (h : at < length points) (s : TextStep) (r : s ≡ text_step long q (get_or points at 0) (drop (at + 1) points)) where
+  module _ (h : at < length points) (s : Result ℕ TextEnding) (r : s ≡ text_step long q (get_or points at 0) (drop (at + 1) points)) where
     after : (n : ℕ) → text_from long q 0 (drop at points) n ≡ text_after s long q (drop (at + 1) points) n
     after n =
         ap (λ l. text_from long q 0 l n) (points_next points at h)
         ∙ text_first long q (get_or points at 0) (drop (at + 1) points) n
         ∙ ap (λ t. text_after t long q (drop (at + 1) points) n) (sym r)
 
-    pub text_ends_lem : (e : TextEnding) → s ≡ Ends e → (n : ℕ) → text_from long q 0 (drop at points) n ≡ text_end e long n
+    pub text_ends_lem : (e : TextEnding) → s ≡ Err e → (n : ℕ) → text_from long q 0 (drop at points) n ≡ text_end e long n
     text_ends_lem e f n = after n ∙ ap (λ t. text_after t long q (drop (at + 1) points) n) f
 
-    pub text_going : (k : ℕ) → s ≡ Goes k → (1 ≤ k) × (at + k ≤ length points)
+    pub text_going : (k : ℕ) → s ≡ Ok k → (1 ≤ k) × (at + k ≤ length points)
     text_going k f =
-        let i : StepFits (length (drop (at + 1) points)) (Goes k) =
+        let i : StepFits (length (drop (at + 1) points)) (Ok k) =
         rw (sym r ∙ f) at (step_fits long q (get_or points at 0) (drop (at + 1) points)) in
         omega (arith, i.0, i.1, length-drop (at + 1) points, h)
 
-    pub text_goes : (k : ℕ) → s ≡ Goes k → (n : ℕ) → text_from long q 0 (drop at points) n ≡ text_from long q 0 (drop (at + k) points) (n + k)
+    pub text_goes : (k : ℕ) → s ≡ Ok k → (n : ℕ) → text_from long q 0 (drop at points) n ≡ text_from long q 0 (drop (at + k) points) (n + k)
     text_goes k f n =
         let i = text_going k f in
         let x : k - 1 ≤ length (drop (at + 1) points) = omega (arith, i.0, i.1, length-drop (at + 1) points) in

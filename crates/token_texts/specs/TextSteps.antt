@@ -1,5 +1,5 @@
 -- A text character by character: what each makes of it. Assumes nothing: these are definitions.
-use Rattle.std.specs.Prelude.{ℕ, ◌+◌, Bool, cond, ◌&&◌, ◌||◌, not, List, eqb}
+use Rattle.std.specs.Prelude.{ℕ, ◌+◌, Bool, cond, ◌&&◌, ◌||◌, not, List, Result, Ok, Err, eqb}
 use Rattle.characters.specs.Sequences.{no_point}
 use Rattle.characters.specs.Escapes.{backslash}
 use Rattle.tokens.specs.declared.TokenKind.TheVariants as kind
@@ -10,19 +10,17 @@ use Rattle.tokens.specs.Numerals.{token}
 use Rattle.tokens.specs.Texts.{wrong_at, two_more}
 use Rattle.token_texts.specs.declared.TextEnding.{TextEnding}
 use Rattle.token_texts.specs.declared.TextEnding.TheVariants as ending
-use Rattle.token_texts.specs.declared.TextStep.{TextStep}
-use Rattle.token_texts.specs.declared.TextStep.TheVariants.{Goes, Ends}
 
 -- what stands behind a backslash makes of it
-abbrev pub escape_step : ℕ → TextStep
-escape_step c = cond (is_text_escape c) (Goes 2) (Ends ending.WrongEscape)
+abbrev pub escape_step : ℕ → Result ℕ TextEnding
+escape_step c = cond (is_text_escape c) (Ok 2) (Err ending.WrongEscape)
 
-unfoldable pub text_step : Bool → ℕ → ℕ → List ℕ → TextStep
+unfoldable pub text_step : Bool → ℕ → ℕ → List ℕ → Result ℕ TextEnding
 text_step long q c cs =
-    cond (eqb c q && (not long || two_more q cs)) (Ends ending.Closed)
-    (cond (eqb c no_point) (Ends ending.BadByte)
-    (cond (eqb c backslash) (cond (first_is is_text_escape cs) (Goes 2) (Ends ending.WrongEscape))
-    (cond (is_line_end c && not long) (Ends ending.Unended) (Goes 1))))
+    cond (eqb c q && (not long || two_more q cs)) (Err ending.Closed)
+    (cond (eqb c no_point) (Err ending.BadByte)
+    (cond (eqb c backslash) (cond (first_is is_text_escape cs) (Ok 2) (Err ending.WrongEscape))
+    (cond (is_line_end c && not long) (Err ending.Unended) (Ok 1))))
 
 -- the token of a text that ends so, of which n characters are read
 abbrev pub text_end : TextEnding → Bool → ℕ → Token

@@ -1,5 +1,5 @@
 // Texts in quotes, from a place on, in code.
-#![tactic(auto)]
+#![tactic(auto, using(crate::proofs::TextsRead::escape_read), unfolding(crate::specs::TextSteps::text_step))]
 
 ghost use Rattle.std.specs.Prelude.{◌≡◌, ◌&&◌, ◌||◌, not, ◌+◌, ◌-◌, ◌≤◌, ◌<◌, eqb, length, get_or, drop};
 ghost use Rattle.tokens.specs.Texts.{two_more, text_from, text_of};
@@ -7,7 +7,7 @@ ghost use Rattle.token_texts.specs.TextSteps.{escape_step, text_step, text_end};
 
 use token_classes::{is_line_end, is_text_escape};
 use token_runs::point_at;
-use tokens::{Token, TokenKind};
+use tokens::{Token, TokenKind, make_token};
 
 // What ends a text.
 #[derive(Clone, Copy)]
@@ -18,25 +18,12 @@ pub enum TextEnding {
     Unended,
 }
 
-// What a character makes of a text: how many characters it goes on, or how it ends.
-#[derive(Clone, Copy)]
-pub enum TextStep {
-    Goes(usize),
-    Ends(TextEnding),
-}
-
 // Whether a quote at `at` ends the text: by itself, or with two more in a long one.
 fn closes(points: &[u32], long: bool, q: u32, at: usize) -> bool
     requires { (at < length points.now) × (q < 1114112) }
     ensures { result ≡ (eqb (get_or points.now at 0) q && (not long || two_more q (drop (at + 1) points.now))) }
 {
-    if points[at] != q {
-        return false;
-    }
-    if !long {
-        return true;
-    }
-    two_more(points, q, at + 1)
+    points[at] == q && (!long || two_more(points, q, at + 1))
 }
 
 // Whether `q` stands at `at` and behind it.
@@ -44,43 +31,34 @@ fn two_more(points: &[u32], q: u32, at: usize) -> bool
     requires { (at ≤ length points.now) × (q < 1114112) }
     ensures { result ≡ two_more q (drop at points.now) }
 {
-    if point_at(points, at) != q {
-        return false;
-    }
-    point_at(points, at + 1) == q
+    point_at(points, at) == q && point_at(points, at + 1) == q
 }
 
 // What `next`, behind a backslash, makes of it: an escape, or a wrong one.
-fn escape_step(next: u32) -> TextStep
+fn escape_step(next: u32) -> Result<usize, TextEnding>
     ensures { result ≡ escape_step next }
 {
     if is_text_escape(next) {
-        return TextStep::Goes(2);
+        Ok(2)
+    } else {
+        Err(TextEnding::WrongEscape)
     }
-    TextStep::Ends(TextEnding::WrongEscape)
 }
 
-fn text_step(points: &[u32], long: bool, q: u32, at: usize) -> TextStep
+// How many characters the text goes on from `at`, or how it ends.
+fn text_step(points: &[u32], long: bool, q: u32, at: usize) -> Result<usize, TextEnding>
     requires { (at < length points.now) × (q < 1114112) }
     ensures { result ≡ text_step long q (get_or points.now at 0) (drop (at + 1) points.now) }
 {
-    let c = points[at];
     if closes(points, long, q, at) {
-        return TextStep::Ends(TextEnding::Closed);
+        return Err(TextEnding::Closed);
     }
-    if c == 0x110000 {
-        return TextStep::Ends(TextEnding::BadByte);
+    match points[at] {
+        0x110000 => Err(TextEnding::BadByte),
+        0x5C => escape_step(point_at(points, at + 1)),
+        c if is_line_end(c) && !long => Err(TextEnding::Unended),
+        _ => Ok(1),
     }
-    if c == 0x5C {
-        return escape_step(point_at(points, at + 1));
-    }
-    if long {
-        return TextStep::Goes(1);
-    }
-    if is_line_end(c) {
-        return TextStep::Ends(TextEnding::Unended);
-    }
-    TextStep::Goes(1)
 }
 
 // The token of a text that ends behind `n` characters, by what ends it.
@@ -89,20 +67,7 @@ fn text_end(ending: TextEnding, long: bool, n: usize) -> Token
     ensures { result ≡ text_end ending long n }
 {
     match ending {
-        TextEnding::Closed => {
-            if long {
-                return Token {
-                    kind: TokenKind::QuotedText,
-                    start: 0,
-                    size: n + 3,
-                };
-            }
-            Token {
-                kind: TokenKind::QuotedText,
-                start: 0,
-                size: n + 1,
-            }
-        }
+        TextEnding::Closed => make_token(TokenKind::QuotedText, if long { n + 3 } else { n + 1 }),
         TextEnding::BadByte => Token {
             kind: TokenKind::BadByte,
             start: n,
@@ -113,11 +78,7 @@ fn text_end(ending: TextEnding, long: bool, n: usize) -> Token
             start: n,
             size: 1,
         },
-        TextEnding::Unended => Token {
-            kind: TokenKind::Unended,
-            start: 0,
-            size: n,
-        },
+        TextEnding::Unended => make_token(TokenKind::Unended, n),
     }
 }
 
@@ -127,18 +88,14 @@ fn text_from(points: &[u32], long: bool, q: u32, first: usize, from: usize) -> T
     ensures { result ≡ text_from long q 0 (drop from points.now) (from - first) }
 {
     let mut at = from;
+    // no iterator: an escape is a step of two characters
     while at < points.len() {
-        let step = text_step(points, long, q, at);
-        match step {
-            TextStep::Goes(n) => at += n,
-            TextStep::Ends(ending) => return text_end(ending, long, at - first),
+        match text_step(points, long, q, at) {
+            Ok(n) => at += n,
+            Err(ending) => return text_end(ending, long, at - first),
         }
     }
-    Token {
-        kind: TokenKind::Unended,
-        start: 0,
-        size: at - first,
-    }
+    text_end(TextEnding::Unended, long, at - first)
 }
 
 // The text whose first quote, `q`, stands at `first`.

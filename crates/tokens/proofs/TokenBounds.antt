@@ -19,7 +19,7 @@ use Rattle.tokens.specs.Classes.{begins_variable, is_variable_character}
 use Rattle.tokens.specs.Runs.{run_length, first_is, starts_with, dotted_end, name_item}
 use Rattle.tokens.specs.Numerals.{token, is_plus_minus, digits_length, exponent_by, exponent_length, whole_or, pointed_or, number_or, signed_or}
 use Rattle.tokens.specs.Texts.{two_more, text_from, text_of}
-use Rattle.tokens.specs.Tokens.{variable_of, angle_of, prefixed_of, word_of, named_of, blank_of, tag_of, pair_or, sign_of, token_of}
+use Rattle.tokens.specs.Tokens.{variable_or_sign, angle_of, prefixed_of, word_token, named_of, blank_of, tag_of, pair_or, sign_of, token_of}
 use Rattle.tokens.proofs.RunBounds.{first_some, behind_some, run_fits_lem, name_item_fits, dotted_fits, local_fits, tag_fits}
 
 -- a token has so many characters at least, and ends within so many
@@ -158,9 +158,10 @@ text_fits q cs =
     ]
 
 -- ---- the others
-variable_fits : (c : ℕ) (cs : List ℕ) → TokenFits 1 (suc (length cs)) (variable_of c cs)
+variable_fits : (c : ℕ) (cs : List ℕ) → TokenFits 1 (suc (length cs)) (variable_or_sign c cs)
 variable_fits c cs =
-    let f : TokenFits 1 (suc (length cs)) (token kind.Variable (run_length is_variable_character cs + 1)) = omega (arith, run_fits_lem is_variable_character cs) in
+    let f : TokenFits 1 (suc (length cs)) (token kind.Variable (run_length is_variable_character cs + 1)) =
+    omega (arith, run_fits_lem is_variable_character cs) in
     either_fits (first_is begins_variable cs) f (either_fits (eqb c 0x3F) (single kind.Sign (length cs)) (single kind.NoToken (length cs)))
 
 angle_fits : (cs : List ℕ) → TokenFits 1 (suc (length cs)) (angle_of cs)
@@ -182,7 +183,7 @@ angle_fits cs =
 prefixed_fits : (n : ℕ) (cs : List ℕ) (most : ℕ) → n + 1 + length cs ≤ most → TokenFits 1 most (prefixed_of n cs)
 prefixed_fits n cs most h = omega (arith, local_fits cs)
 
-word_fits : (c : ℕ) (cs : List ℕ) → TokenFits 1 (suc (length cs)) (word_of c cs)
+word_fits : (c : ℕ) (cs : List ℕ) → TokenFits 1 (suc (length cs)) (word_token c cs)
 word_fits c cs =
     let f : TokenFits 1 (suc (length cs)) (token kind.Word (run_length is_word_character cs + 1)) = omega (arith, run_fits_lem is_word_character cs) in
     either_fits (is_ascii_letter c) f (single kind.NoToken (length cs))

@@ -1,17 +1,16 @@
 -- The classes of characters that the terminals of SPARQL 1.1's grammar are made of; numbers in brackets are its productions (19.8).
 -- A byte that is no UTF-8 is in none. Assumes nothing: these are definitions.
-use Rattle.std.specs.Prelude.{ℕ, Bool, false, ◌&&◌, ◌||◌, not, List, [], ◌∷◌, eqb, ltb}
+use Rattle.std.specs.Prelude.{ℕ, Bool, ◌&&◌, ◌||◌, not, List, [], ◌∷◌, eqb, ltb}
+use Rattle.std.specs.List.{list_any}
 use Rattle.dictionaries.specs.Utf8.{Span, span, is_in}
 use Rattle.characters.specs.Sequences.{no_point}
 use Rattle.characters.specs.Escapes.{hex_digit}
 
 abbrev pub in_spans : List Span → ℕ → Bool
-in_spans [] c = false
-in_spans (s ∷ ss) c = is_in s c || in_spans ss c
+in_spans ss c = list_any (λ s. is_in s c) ss
 
 abbrev pub is_one_of : List ℕ → ℕ → Bool
-is_one_of [] c = false
-is_one_of (a ∷ as') c = eqb c a || is_one_of as' c
+is_one_of cs c = list_any (λ a. eqb c a) cs
 
 abbrev pub is_digit : ℕ → Bool
 is_digit c = is_in (span 0x30 0x39) c

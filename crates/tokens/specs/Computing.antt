@@ -7,6 +7,6 @@ use Rattle.tokens.specs.Texts.{text_from, text_of}
 use Rattle.tokens.specs.Tokens.{token_of, tag_end, tokens_from}
 
 unfoldable pub computing : Unit {0}
-unfolding characters.computing is_name_base is_variable_character is_name_character run_length blanks_length dotted_end number_or signed_or text_from text_of token_of
-    tag_end tokens_from
+unfolding characters.computing is_name_base is_variable_character is_name_character run_length blanks_length dotted_end number_or signed_or text_from text_of
+    token_of tag_end tokens_from
 computing = tt

@@ -11,8 +11,8 @@ use Rattle.tokens.specs.Numerals.{token, is_plus_minus, number_or, signed_or}
 use Rattle.tokens.specs.Texts.{wrong_at, text_of}
 
 -- [143,144] ?x and $x; ? alone is a sign
-abbrev pub variable_of : ℕ → List ℕ → Token
-variable_of c cs =
+abbrev pub variable_or_sign : ℕ → List ℕ → Token
+variable_or_sign c cs =
     cond (first_is begins_variable cs) (token kind.Variable (run_length is_variable_character cs + 1))
     (cond (eqb c 0x3F) (token kind.Sign 1) (token kind.NoToken 1))
 
@@ -30,12 +30,12 @@ abbrev pub prefixed_of : ℕ → List ℕ → Token
 prefixed_of n cs = token kind.PrefixedName (n + 1 + local_length cs)
 
 -- a word, or nothing where the first character is no ASCII letter
-abbrev pub word_of : ℕ → List ℕ → Token
-word_of c cs = cond (is_ascii_letter c) (token kind.Word (run_length is_word_character cs + 1)) (token kind.NoToken 1)
+abbrev pub word_token : ℕ → List ℕ → Token
+word_token c cs = cond (is_ascii_letter c) (token kind.Word (run_length is_word_character cs + 1)) (token kind.NoToken 1)
 
 -- [168] PN_PREFIX with its colon, else a word
 abbrev pub named_by : ℕ → ℕ → List ℕ → Token
-named_by e c cs = cond (starts_with 0x3A (drop e cs)) (prefixed_of (e + 1) (drop (e + 1) cs)) (word_of c cs)
+named_by e c cs = cond (starts_with 0x3A (drop e cs)) (prefixed_of (e + 1) (drop (e + 1) cs)) (word_token c cs)
 
 abbrev pub named_of : ℕ → List ℕ → Token
 named_of c cs = named_by (dotted_end name_item 0 cs 0 0) c cs
@@ -80,7 +80,7 @@ token_of (c ∷ cs) =
     cond (eqb c no_point) (token kind.BadByte 1)
     (cond (eqb c backslash) (token kind.WrongEscape 1)
     (cond (is_one_of (0x22 ∷ 0x27 ∷ []) c) (text_of c cs)
-    (cond (is_one_of (0x3F ∷ 0x24 ∷ []) c) (variable_of c cs)
+    (cond (is_one_of (0x3F ∷ 0x24 ∷ []) c) (variable_or_sign c cs)
     (cond (eqb c 0x3C) (angle_of cs)
     (cond (is_digit c) (number_or (token kind.NoToken 1) (c ∷ cs))
     (cond (eqb c 0x2E) (number_or (token kind.Sign 1) (c ∷ cs))

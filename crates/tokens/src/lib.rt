@@ -2,6 +2,9 @@
 // definitions, and what a token is.
 #![tactic(auto)]
 
+ghost use Rattle.std.specs.Prelude.{◌≡◌};
+ghost use Rattle.tokens.specs.Numerals.{token};
+
 // What a token is. The last four are wrong ones, which the grammar takes nowhere.
 #[derive(Clone, Copy)]
 pub enum TokenKind {
@@ -29,4 +32,15 @@ pub struct Token {
     pub kind: TokenKind,
     pub start: usize,
     pub size: usize,
+}
+
+// A token of `size` characters that stands at the place from which it is counted.
+pub fn make_token(kind: TokenKind, size: usize) -> Token
+    ensures { result ≡ token kind size }
+{
+    Token {
+        kind,
+        start: 0,
+        size,
+    }
 }

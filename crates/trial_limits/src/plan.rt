@@ -31,10 +31,8 @@ pub fn with(d: Draft, word: u32) -> Draft {
 // `d` with `word` behind it, `times` times.
 fn repeated(d: Draft, word: u32, times: u32) -> Draft {
     let mut next = d;
-    let mut n: u32 = 0;
-    while n < times {
+    for _ in 0..times {
         next = with(next, word);
-        n += 1;
     }
     next
 }
@@ -66,10 +64,8 @@ fn pairs_before(leaf: u32, levels: u32) -> u32 {
 // A condition: `nots` nots over a whole tree with `levels` levels of pairs, and `leaves` leaves.
 fn with_condition(d: Draft, nots: u32, levels: u32, leaves: u32) -> Draft {
     let mut next = repeated(d, PlanWord::not().0, nots);
-    let mut leaf: u32 = 0;
-    while leaf < leaves {
+    for leaf in 0..leaves {
         next = with_comparison(repeated(next, PlanWord::and().0, pairs_before(leaf, levels)));
-        leaf += 1;
     }
     next
 }
@@ -77,10 +73,8 @@ fn with_condition(d: Draft, nots: u32, levels: u32, leaves: u32) -> Draft {
 // A branch of `patterns` patterns, and such a condition.
 fn with_branch(d: Draft, patterns: u32, nots: u32, levels: u32, leaves: u32) -> Draft {
     let mut next = with(d, PlanWord::branch(patterns).0);
-    let mut n: u32 = 0;
-    while n < patterns {
+    for _ in 0..patterns {
         next = with_pattern(next);
-        n += 1;
     }
     with_condition(next, nots, levels, leaves)
 }

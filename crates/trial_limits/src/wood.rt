@@ -51,15 +51,13 @@ fn turned(rows: &[u32], list: &[u32], quantum: u32) -> Turned {
 
 // Row number r is (i 2026, n r, n 0, i r), so that both lists count up.
 fn grow(rows: &mut [u32; ROW_WORDS], list: &mut [u32; ROWS]) {
-    let mut r: usize = 0;
-    while r < ROWS {
+    for r in 0..ROWS {
         let at = r * COLUMNS;
         rows[at + YEAR] = Term::number(2026).0;
         rows[at + SUBJECT] = Term::name(r as u32).0;
         rows[at + PREDICATE] = Term::name(0).0;
         rows[at + OBJECT] = Term::number(r as u32).0;
         list[r] = r as u32;
-        r += 1;
     }
 }
 

@@ -79,15 +79,11 @@ fn print_record(rt: &impl Print, groups: bool, record: &[u32]) {
 
 // The rows or groups of `list`, each on its line.
 fn print_list(rt: &impl Print, form: Form, list: &[u32]) {
-    let width = form.width;
-    if width == 0 {
+    if form.width == 0 {
         return;
     }
-    let mut at: usize = 0;
-    while width <= list.len() - at {
-        let end = at + width;
-        print_record(rt, form.groups, &list[at..end]);
-        at = end;
+    for record in list.chunks_exact(form.width) {
+        print_record(rt, form.groups, record);
     }
 }
 
@@ -103,8 +99,7 @@ fn print_kept(rt: &impl Print, form: Form, kept: &[u32], words: usize) {
 pub fn print_played(rt: &impl Print, played: Played, form: Form, kept: &[u32]) {
     match played {
         Played::Finished(words) => print_kept(rt, form, kept, words),
-        Played::Unfinished { saved: _, words: _ } => say(rt, b"unfinished\n"),
-        Played::Stopped(x) => print_refused(rt, x),
-        Played::Refused(x) => print_refused(rt, x),
+        Played::Unfinished { .. } => say(rt, b"unfinished\n"),
+        Played::Stopped(x) | Played::Refused(x) => print_refused(rt, x),
     }
 }

@@ -5,11 +5,11 @@
 mod lines;
 mod playing;
 
-ghost use Rattle.std.specs.Prelude.{◌≤◌, ◌<◌, length};
+ghost use Rattle.std.specs.Prelude.{◌≤◌, length};
 ghost use Rattle.print_reading.specs.Files.{Laid};
 
 use lines::print_refused;
-use print_reading::{FileParts, Layout, read_full};
+use print_reading::{FileParts, read_full};
 use std::io::{Input, Read};
 
 // The woods that are read, and the words of one with its plans, at most.
@@ -17,26 +17,13 @@ pub const MOST_WOODS: u32 = 1000;
 
 pub const MOST_WORDS: usize = 16384;
 
-fn byte(b: u8) -> usize
-    ensures { result < 256 }
-{
-    b as usize
-}
-
-// The number in two bytes, the low one first.
-fn pair(low: u8, high: u8) -> usize
-    ensures { result < 65536 }
-{
-    byte(low) + 256 * byte(high)
-}
-
-// The words that follow, from the word that stands before them; 0 where there is none.
-fn words_ahead<I: Read>(input: &mut I) -> usize {
+// The words that follow, from the word that stands before them; none at the input's end.
+fn words_ahead<I: Read>(input: &mut I) -> Option<usize> {
     let mut head = [0u8; 4];
     if read_full(input, &mut head) < 4 {
-        return 0;
+        return None;
     }
-    pair(head[0], head[1]) + 65536 * pair(head[2], head[3])
+    Some(words::wide(u32::from_le_bytes(head)))
 }
 
 // The wood in `file`, and its plans behind it: `parts` says where they begin.
@@ -57,10 +44,9 @@ fn play_wood(rt: &impl Print, file: &[u32], parts: FileParts)
 // A wood and its plans, from their bytes.
 fn play_bytes(rt: &impl Print, bytes: &[u8]) {
     let mut file = [0u32; 16384];
-    let layout = print_reading::read_file(bytes, &mut file);
-    match layout {
-        Layout::Parts(parts) => play_wood(rt, &file, parts),
-        Layout::Refused(x) => print_refused(rt, x),
+    match print_reading::read_file(bytes, &mut file) {
+        Ok(parts) => play_wood(rt, &file, parts),
+        Err(x) => print_refused(rt, x),
     }
 }
 
@@ -72,25 +58,21 @@ fn read_wood<I: Read>(rt: &impl Print, input: &mut I, bytes: &mut [u8]) {
 
 // The next wood and its plans; whether there was one.
 fn next_wood<I: Read>(rt: &impl Print, input: &mut I) -> bool {
-    let words = words_ahead(input);
-    if words == 0 {
-        return false;
+    match words_ahead(input) {
+        Some(words) if words > 0 && words <= MOST_WORDS => {
+            let mut bytes = [0u8; 65536];
+            read_wood(rt, input, &mut bytes[..words * 4]);
+            true
+        }
+        _ => false,
     }
-    if words > MOST_WORDS {
-        return false;
-    }
-    let mut bytes = [0u8; 65536];
-    read_wood(rt, input, &mut bytes[..words * 4]);
-    true
 }
 
 fn main(rt: HostRuntime) {
     let mut input = rt.reader();
-    let mut woods: u32 = 0;
-    while woods < MOST_WOODS {
+    for _ in 0..MOST_WOODS {
         if !next_wood(&rt, &mut input) {
             return;
         }
-        woods += 1;
     }
 }

@@ -61,13 +61,11 @@ fn play_cuts(
     number: u32,
     form: Form,
 ) {
-    let mut at: usize = 0;
-    while CUT_WORDS <= cuts.len() - at {
-        let quantum = cuts[at];
-        let room = cuts[at + 1];
+    for cut in cuts.chunks_exact(CUT_WORDS) {
+        let quantum = cut[0];
+        let room = cut[1];
         heading(rt, number, quantum, room);
         play_cut(rt, rows, pos, osp, plan, quantum, wide(room), form);
-        at += CUT_WORDS;
     }
 }
 
@@ -104,6 +102,7 @@ fn play_entry(rt: &impl Print, rows: &[u32], pos: &[u32], osp: &[u32], entry: &[
 // The plans of a wood: entries, each after the number of its words.
 pub fn play_plans(rt: &impl Print, rows: &[u32], pos: &[u32], osp: &[u32], plans: &[u32]) {
     let mut at: usize = 0;
+    // no chunks: each entry has its own length
     while at < plans.len() {
         let start = at + 1;
         let words = wide(plans[at]);

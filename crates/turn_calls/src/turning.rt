@@ -28,8 +28,8 @@ fn finish(survey: u32, ran: Ran, state: &mut [u32]) -> Turned
     let saved = save_left(survey, ending, next, state);
     Turned {
         steps: ran.steps,
-        ending: ending,
-        saved: saved,
+        ending,
+        saved,
         listed: ran.used,
     }
 }

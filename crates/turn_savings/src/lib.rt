@@ -19,9 +19,7 @@ pub fn save_left(survey: u32, ending: TurnEnding, next: Cursor, state: &mut [u32
         × (state.new ≡ over (saved_words survey (left_at ending next)) state.old) }
 {
     match ending {
-        TurnEnding::Done => 0,
-        TurnEnding::Spent => state_saving::save(survey, next, state),
-        TurnEnding::Full => state_saving::save(survey, next, state),
-        TurnEnding::Refused(_) => 0,
+        TurnEnding::Spent | TurnEnding::Full => state_saving::save(survey, next, state),
+        TurnEnding::Done | TurnEnding::Refused(_) => 0,
     }
 }

@@ -1,7 +1,7 @@
 -- The list of the rows of right kinds, sorted in the front of a buffer; and the fates that it shows.
 use Prim.Native.Nat.{ℕ, ◌≤◌}
 use native.Mathlib.Omega.{arith}
-use mathlib.Core.Path.{◌≡◌, sym, ◌∙◌, ap}
+use mathlib.Core.Path.{◌≡◌, ◌∙◌, ap}
 use mathlib.Core.Bool.{true}
 use mathlib.Core.List.{List, ◌++◌}
 use lib.ListN.{length, take, drop, get_or, length-append, length-drop}
@@ -37,9 +37,6 @@ module _ (up : List ℕ) where
 
       pub listed : NumbersListed r (s ++ drop r list) (right_numbers up)
       listed = record { fits = omega (arith, whole_length, l.fits); front = front_is }
-
-      pub front_length : r ≡ length (take r (s ++ drop r list))
-      front_length = sym (length-take-le r (s ++ drop r list) (omega (arith, whole_length, l.fits)))
 
       pub sorted_named : all (in_rows up) (take r (s ++ drop r list)) ≡ true
       sorted_named = rw (take_at s (drop r list) r sorted_length, q) (all_sort (number_before Spo up) (in_rows up) (take r list) front_named)

@@ -19,10 +19,7 @@ fn kinds_good(upload: &[u32], row: usize) -> bool
     ensures { result ≡ kinds_good upload.now row }
 {
     let at = row * COLUMNS;
-    if row_right(upload, at) {
-        return year_right(upload[at + YEAR]);
-    }
-    false
+    row_right(upload, at) && year_right(upload[at + YEAR])
 }
 
 // Marks each row in `fates` as kept or of a wrong kind, and lists the numbers of those of right kinds in `list`; answers how many these are.
@@ -33,16 +30,13 @@ fn mark_kinds(upload: &[u32], list: &mut [u32], fates: &mut [u8]) -> usize
 {
     let count = upload.len() / COLUMNS;
     let mut right: usize = 0;
-    let mut row: usize = 0;
-    while row < count {
+    for row in 0..count {
         if kinds_good(upload, row) {
             fates[row] = KEPT;
             list[right] = row as u32;
             right += 1;
-            row += 1;
         } else {
             fates[row] = WRONG;
-            row += 1;
         }
     }
     right
@@ -54,19 +48,15 @@ fn mark_repeats(upload: &[u32], list: &[u32], fates: &mut [u8])
     requires upload_in_bounds { upload_count upload.now ≤ length fates.old }
     ensures { fates.new ≡ marked upload.now list.now fates.old (length list.now) }
 {
-    let mut place: usize = 1;
-    while place < list.len() {
+    for place in 1..list.len() {
         let row = list[place];
-        if comes_before(
+        if !comes_before(
             upload,
             Order::Spo,
             RowNumber(list[place - 1]),
             RowNumber(row),
         ) {
-            place += 1;
-        } else {
             fates[words::wide(row)] = REPEAT;
-            place += 1;
         }
     }
 }

@@ -1,32 +1,25 @@
 -- The room for tables and a report, length by length.
-use Prim.Native.Nat.{ℕ, ◌*◌, ◌≤◌, ◌<◌}
-use mathlib.Core.Path.{◌≡◌}
-use mathlib.Core.Bool.{true, false}
+use Prim.Native.Nat.{ℕ, ◌*◌, ◌≤◌}
+use mathlib.Core.Path.{◌≡◌, refl}
+use mathlib.Core.Bool.{Bool, true, false, ◌&&◌}
 use lib.Dec.{leb}
-use borrow.Author.Tests.{le-leb, lt-leb, leb-true}
+use borrow.Author.Tests.{leb-true}
 use Rattle.sequences.proofs.Booleans.{and_left, and_right}
 use Rattle.tables.specs.Tables.{column_count}
+use Rattle.table_answers.specs.Counts.{tables_room_for}
 use Rattle.uploads.specs.Uploads.{entry_words}
 use Rattle.upload_rooms.specs.Rooms.{make_room_for}
 
-module _ (kept dropped rows pos osp report : ℕ) where
-  pub no_rows_fact : rows < kept * column_count → make_room_for kept dropped rows pos osp report ≡ false
-  unfolding make_room_for
-  no_rows_fact h = rw (lt-leb (kept * column_count) rows h)
-
-  module _ (r : kept * column_count ≤ rows) where
-    pub no_pos : pos < kept → make_room_for kept dropped rows pos osp report ≡ false
-    unfolding make_room_for
-    no_pos h = rw (le-leb (kept * column_count) rows r, lt-leb kept pos h)
-
-    module _ (p : kept ≤ pos) where
-      pub no_osp : osp < kept → make_room_for kept dropped rows pos osp report ≡ false
-      unfolding make_room_for
-      no_osp h = rw (le-leb (kept * column_count) rows r, le-leb kept pos p, lt-leb kept osp h)
-
-      pub by_report : kept ≤ osp → make_room_for kept dropped rows pos osp report ≡ leb (dropped * entry_words) report
-      unfolding make_room_for
-      by_report o = rw (le-leb (kept * column_count) rows r, le-leb kept pos p, le-leb kept osp o)
+-- it is that for the tables, and that for the report
+pub tables_and_report : (kept dropped rows pos osp report : ℕ)
+    → (tables_room_for kept rows pos osp && leb (dropped * entry_words) report) ≡ make_room_for kept dropped rows pos osp report
+unfolding tables_room_for make_room_for
+tables_and_report kept dropped rows pos osp report = go (leb (kept * column_count) rows) (leb kept pos) (leb kept osp)
+  where
+    go : (a b c : Bool) → ((a && (b && c)) && leb (dropped * entry_words) report) ≡ (a && (b && (c && leb (dropped * entry_words) report)))
+    go true true c = refl
+    go true false c = refl
+    go false b c = refl
 
 -- what there is room for
 pub record MakeRoomParts (kept dropped rows pos osp report : ℕ) : Type 0 where

@@ -5,7 +5,6 @@ ghost use Rattle.std.specs.Prelude.{◌≡◌, ◌≤◌};
 ghost use Rattle.tables.specs.Tables.{most_rows};
 ghost use Rattle.upload_rooms.specs.Rooms.{make_room_for};
 
-use tables::COLUMNS;
 use uploads::ENTRY_WORDS;
 
 // Whether buffers of these lengths have room for `kept` rows, for both lists and for the report on `dropped` rows.
@@ -20,14 +19,5 @@ pub fn has_room(
     requires { (kept ≤ most_rows) × (dropped ≤ most_rows) }
     ensures { result ≡ make_room_for kept dropped rows pos osp report }
 {
-    if rows < kept * COLUMNS {
-        return false;
-    }
-    if pos < kept {
-        return false;
-    }
-    if osp < kept {
-        return false;
-    }
-    dropped * ENTRY_WORDS <= report
+    table_answers::has_room(kept, rows, pos, osp) && dropped * ENTRY_WORDS <= report
 }

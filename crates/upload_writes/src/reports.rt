@@ -12,17 +12,7 @@ pub fn count_kept(fates: &[u8], count: usize) -> usize
     requires { (count ≤ length fates.now) × (count ≤ most_rows) }
     ensures { result ≡ length (keep (is_kept_in fates.now) (numbers count)) }
 {
-    let mut kept: usize = 0;
-    let mut row: usize = 0;
-    while row < count {
-        if fates[row] == KEPT {
-            kept += 1;
-            row += 1;
-        } else {
-            row += 1;
-        }
-    }
-    kept
+    fates[..count].iter().filter(|fate| **fate == KEPT).count()
 }
 
 // Writes to `report` the place and the fate of each of the first `count` rows that is dropped; answers its words.
@@ -33,16 +23,11 @@ pub fn write_report(fates: &[u8], count: usize, report: &mut [u32]) -> usize
     ensures report_after { report.new ≡ over (dropped_words fates.now count) report.old }
 {
     let mut used: usize = 0;
-    let mut row: usize = 0;
-    while row < count {
+    for row in 0..count {
         let fate = fates[row];
-        if fate == KEPT {
-            row += 1;
-        } else {
-            let entry = [row as u32, fate as u32];
-            copy_in(report, used, &entry);
+        if fate != KEPT {
+            copy_in(report, used, &[row as u32, u32::from(fate)]);
             used += ENTRY_WORDS;
-            row += 1;
         }
     }
     used

@@ -18,17 +18,11 @@ pub fn write_rows(upload: &[u32], list: &[u32], fates: &[u8], rows: &mut [u32]) 
     ensures rows_after { rows.new ≡ over (kept_words upload.now fates.now list.now) rows.old }
 {
     let mut used: usize = 0;
-    let mut place: usize = 0;
-    while place < list.len() {
-        let row = list[place];
-        let fate = fates[words::wide(row)];
-        if fate == KEPT {
-            let words = fields(upload, Order::Spo, RowNumber(row));
+    for row in list {
+        if fates[words::wide(*row)] == KEPT {
+            let words = fields(upload, Order::Spo, RowNumber(*row));
             copy_in(rows, used, &words);
             used += COLUMNS;
-            place += 1;
-        } else {
-            place += 1;
         }
     }
     used

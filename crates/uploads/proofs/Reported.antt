@@ -28,7 +28,8 @@ module _ (up : List ℕ) where
   entries = let e = report_length up in omega arith
 
   -- the words of an entry
-  entry_at : (e c : ℕ) → e < dropped_count up → c < entry_words → get_or (dropped_report up) (e * entry_words + c) 0 ≡ get_or (entry_of up (get_or rows e 0)) c 0
+  entry_at : (e c : ℕ) → e < dropped_count up → c < entry_words →
+      get_or (dropped_report up) (e * entry_words + c) 0 ≡ get_or (entry_of up (get_or rows e 0)) c 0
   unfolding dropped_report
   entry_at e c h k =
       flatten_at entry_words (map (entry_of up) rows) (report_wide up) e c (omega (arith, length_entries)) k

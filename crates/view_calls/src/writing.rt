@@ -40,7 +40,7 @@ fn put_row(view: &mut [u32], at: usize, words: &[u32])
 }
 
 // Writes the rows that are not marked as hidden, `seen` of them. A hidden row is written too where the next one belongs, and then written
-// over: so no branch of the loop depends on what is hidden.
+// over: so no branch of the loop depends on what is hidden. No range: it ends when all that are seen are written.
 pub fn write_rows(rows: &[u32], marks: &[u32], seen: usize, view: &mut [u32])
     requires column_count_len_bound { (length rows.now / column_count ≤ most_rows) × (length rows.now / column_count ≤ length marks.now) }
     requires seen_value { (seen ≡ passed_before (shown_by marks.now) (length rows.now / column_count)) × (seen * column_count ≤ length view.old) }

@@ -8,7 +8,8 @@ ghost use Rattle.view_grants.specs.Places.{first_from};
 
 use words::Term;
 
-// Where a word was looked for in a grant: the first place whose word is not less, and whether it is that word.
+// Where a word was looked for in a grant: the first place whose word is not less, and whether it is that word. No Result as binary_search has it: both
+// users go on from the place whether the word is there or not.
 #[derive(Clone, Copy)]
 pub struct Sought {
     pub at: usize,
@@ -19,14 +20,12 @@ pub struct Sought {
 fn ascends(grant: &[u32]) -> bool
     ensures { result ≡ neighbours ltb grant.now }
 {
-    let mut at: usize = 1;
-    while at < grant.len() {
+    for at in 1..grant.len() {
         let earlier = grant[at - 1];
         let later = grant[at];
         if later <= earlier {
             return false;
         }
-        at += 1;
     }
     true
 }
@@ -36,22 +35,17 @@ fn last_named(grant: &[u32]) -> bool
     requires { neighbours ltb grant.now ≡ true }
     ensures { result ≡ all is_name grant.now }
 {
-    let count = grant.len();
-    if count == 0 {
-        return true;
+    match grant.last() {
+        Some(last) => Term(*last).kind() == Term::NAME,
+        None => true,
     }
-    let last = grant[count - 1];
-    Term(last).kind() == Term::NAME
 }
 
 // Whether `grant` is right: names alone, strictly ascending.
 pub fn grant_right(grant: &[u32]) -> bool
     ensures { result ≡ grant_right grant.now }
 {
-    if !ascends(grant) {
-        return false;
-    }
-    last_named(grant)
+    ascends(grant) && last_named(grant)
 }
 
 // Looks for `word` in `grant`, from `from` on, a place that is not past the first word that is not less.
@@ -60,19 +54,17 @@ pub fn seek(grant: &[u32], from: usize, word: u32) -> Sought
     requires from_bound { from ≤ first_from grant.now word }
     ensures { (result.at ≡ first_from grant.now word) × (result.found ≡ member word grant.now) }
 {
-    let mut at: usize = from;
-    while at < grant.len() {
+    for at in from..grant.len() {
         let next = grant[at];
         if word <= next {
             return Sought {
-                at: at,
+                at,
                 found: next == word,
             };
         }
-        at += 1;
     }
     Sought {
-        at: at,
+        at: grant.len(),
         found: false,
     }
 }

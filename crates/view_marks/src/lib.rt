@@ -19,7 +19,7 @@ use view_members::ADMITS;
 // The mark of a hidden row: no row has this number.
 pub const HIDDEN: u32 = MOST_ROWS as u32;
 
-// Whether a row is visible, and how far the grant was walked for it.
+// Whether a row is visible, and how far the grant was walked for it: no Option, since it was walked for a hidden row too.
 #[derive(Clone, Copy)]
 pub struct Seeing {
     pub seen: bool,
@@ -56,13 +56,11 @@ fn subject_seen(rows: &[u32], flags: &[u8], row: u32, granted: bool) -> bool
     let subject = field(rows, RowNumber(row), SUBJECT);
     let count = (rows.len() / COLUMNS) as u32;
     let mut seen = granted;
-    let mut next: u32 = row;
-    while next < count {
+    for next in row..count {
         if !is_of(rows, next, year, subject) {
             return seen;
         }
         seen = either(seen, flags[words::wide(next)]);
-        next += 1;
     }
     seen
 }
@@ -137,19 +135,17 @@ pub fn mark(rows: &[u32], grant: &[u32], flags: &[u8], marks: &mut [u32]) -> usi
         marks.old }
 {
     let count = (rows.len() / COLUMNS) as u32;
-    let mut row: u32 = 0;
     let mut number: u32 = 0;
     let mut before = Seeing {
         seen: false,
         from: 0,
     };
-    while row < count {
+    for row in 0..count {
         let this = next_seen(rows, grant, flags, row, before);
         let seen = this.seen;
         marks[words::wide(row)] = mark_by(seen, number);
         number = one_more(seen, number);
         before = this;
-        row += 1;
     }
     words::wide(number)
 }

@@ -8,13 +8,13 @@ use lib.Dec.{ltb, leb}
 use lib.ListN.{length, get_or, set}
 use lib.Seq.{get_or-set_same, get_or-set_other}
 use borrow.Author.Tests.{lt-ltb, le-ltb, le-leb, lt-leb, ltb-true, ltb-false}
+use Rattle.std.specs.declared.cmp.Ordering.{Ordering}
+use Rattle.std.specs.declared.cmp.Ordering.TheVariants.{Less, Equal, Greater}
 use Rattle.sequences.specs.Sequences.{lex_before, member}
 use Rattle.sequences.proofs.Booleans.{absurd_true}
 use Rattle.sequences.proofs.Orders.{Three, less, same, more, three, lex_less, lex_same, lex_more}
 use Rattle.tables.specs.declared.Order.TheVariants.{Pos}
 use Rattle.tables.specs.declared.Prefix.{Prefix}
-use Rattle.tables.specs.declared.Side.{Side}
-use Rattle.tables.specs.declared.Side.TheVariants.{Before, Within, After}
 use Rattle.tables.specs.Tables.{Tables, row_count, field_of, fields_of, row_at}
 use Rattle.tables.specs.Tables.{year_column, subject_column, predicate_column, object_column}
 use Rattle.tables.specs.Right.{Right}
@@ -33,23 +33,23 @@ members_of year membership = record { order = Pos; count = 2; words = year ∷ m
 
 -- ---- fields against a year and a predicate
 module _ (y p year membership : ℕ) (rest : List ℕ) where
-  abbrev side : Side
+  abbrev side : Ordering
   side = side_of (y ∷ p ∷ rest) (year ∷ membership ∷ [])
 
-  earlier_before : y < year → side ≡ Before
+  earlier_before : y < year → side ≡ Less
   unfolding side_of
   earlier_before h = rw (lex_less (p ∷ rest) (membership ∷ []) h)
 
-  later_after : year < y → side ≡ After
+  later_after : year < y → side ≡ Greater
   unfolding side_of
   later_after h = rw (lex_more (p ∷ rest) (membership ∷ []) h, lex_less (membership ∷ []) (p ∷ rest) h)
 
   module _ (e : y ≡ year) where
-    less_before : p < membership → side ≡ Before
+    less_before : p < membership → side ≡ Less
     unfolding side_of
     less_before h = rw (lex_same (p ∷ rest) (membership ∷ []) e, lex_less rest [] h)
 
-    same_within : p ≡ membership → side ≡ Within
+    same_within : p ≡ membership → side ≡ Equal
     unfolding side_of lex_before
     same_within h =
         rw (
@@ -60,11 +60,11 @@ module _ (y p year membership : ℕ) (rest : List ℕ) where
         )
         (go rest)
       where
-        go : (xs : List ℕ) → side_of xs [] ≡ Within
+        go : (xs : List ℕ) → side_of xs [] ≡ Equal
         go [] = refl
         go (x ∷ xs) = refl
 
-    more_after : membership < p → side ≡ After
+    more_after : membership < p → side ≡ Greater
     unfolding side_of
     more_after h =
         rw (
@@ -107,14 +107,14 @@ module _ (t : Tables) (w : Right t) (grant : List ℕ) (year membership : ℕ) w
 
   -- ---- a place on a side
   module _ (q : ℕ) (l : q < row_count t) where
-    abbrev side_at : Side
+    abbrev side_at : Ordering
     side_at = side_of (year_of q ∷ predicate q ∷ rest q) (year ∷ membership ∷ [])
 
-    starts : (s : Side) → side_at ≡ s → ltb q start ≡ before_bound s false
+    starts : (s : Ordering) → side_at ≡ s → ltb q start ≡ before_bound s false
     unfolding fields_of
     starts s e = sym (side_bound t w (members_of year membership) q l s e false)
 
-    ends : (s : Side) → side_at ≡ s → ltb q end ≡ before_bound s true
+    ends : (s : Ordering) → side_at ≡ s → ltb q end ≡ before_bound s true
     unfolding fields_of
     ends s e = sym (side_bound t w (members_of year membership) q l s e true)
 
@@ -132,19 +132,19 @@ module _ (t : Tables) (w : Right t) (grant : List ℕ) (year membership : ℕ) w
         go : Three (year_of q) year → Three (predicate q) membership → Lies
         go (less h) k =
             let e = earlier_before (year_of q) (predicate q) year membership (rest q) h in
-            earlier h (starts Before e) (ends Before e)
+            earlier h (starts Less e) (ends Less e)
         go (same h) (less k) =
             let e = less_before (year_of q) (predicate q) year membership (rest q) h k in
-            under h (λ d. omega arith) (starts Before e) (ends Before e)
+            under h (λ d. omega arith) (starts Less e) (ends Less e)
         go (same h) (same k) =
             let e = same_within (year_of q) (predicate q) year membership (rest q) h k in
-            inside h k (starts Within e) (ends Within e)
+            inside h k (starts Equal e) (ends Equal e)
         go (same h) (more k) =
             let e = more_after (year_of q) (predicate q) year membership (rest q) h k in
-            above h (λ d. omega arith) (starts After e) (ends After e)
+            above h (λ d. omega arith) (starts Greater e) (ends Greater e)
         go (more h) k =
             let e = later_after (year_of q) (predicate q) year membership (rest q) h in
-            later h (starts After e) (ends After e)
+            later h (starts Greater e) (ends Greater e)
 
     -- the places of the range have the year and the predicate
     pub in_both_lem : range_start t (members_of year membership) ≤ q → q < range_end t (members_of year membership)

@@ -47,14 +47,12 @@ fn flag_year(
     let start = halved(rows, pos, osp, members);
     let end = end_from(rows, pos, osp, members, start);
     let last = end.0;
-    let mut place = start.0;
     let mut from: usize = 0;
-    while place < last {
+    for place in start.0..last {
         let row = row_at(rows, pos, osp, Order::Pos, Place(place));
         let sought = seek(grant, from, field(rows, row, OBJECT));
         flags[words::wide(row.0)] = flag_by(sought.found);
         from = sought.at;
-        place += 1;
     }
 }
 
@@ -74,6 +72,7 @@ pub fn flag_members(
 {
     let count = (rows.len() / COLUMNS) as u32;
     let mut place: u32 = 0;
+    // no range: it goes from year to year
     while place < count {
         let here = Place(place);
         let year = field(rows, own_row(here), YEAR);

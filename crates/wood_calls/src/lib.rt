@@ -24,13 +24,7 @@ const HALF: usize = MOST_ROWS / 2;
 fn asked_right(stems: u32, year: u32) -> bool
     ensures { result ≡ asked_right stems year }
 {
-    if MOST_STEMS < stems {
-        return false;
-    }
-    if year < 1 {
-        return false;
-    }
-    year <= MOST_YEAR
+    stems <= MOST_STEMS && (1..=MOST_YEAR).contains(&year)
 }
 
 // Writes the wood of `seed`, with `stems` stems in `year`. It is refused by the number of the first test that fails, and then nothing is written.

@@ -54,15 +54,13 @@ pub fn write_rows(seed: u32, stems: u32, year: u32, rows: &mut [u32]) -> usize
 {
     let mut x = seed;
     let mut used: usize = 0;
-    let mut stem: u32 = 0;
-    while stem < stems {
+    for stem in 0..stems {
         let first = draw(x);
         let second = draw(first);
         let words = stem_words(year, stem, first, second);
         copy_in(rows, used, &words);
         x = second;
         used += STEM_WORDS;
-        stem += 1;
     }
     used
 }

@@ -379,22 +379,16 @@ pub fn count_up(list: &mut [u32])
     requires { length list.old ≤ 4294967296 }
     ensures { list.new ≡ numbers (length list.old) }
 {
-    let mut i: usize = 0;
-    while i < list.len() {
-        list[i] = i as u32;
-        i += 1;
+    for (i, number) in list.iter_mut().enumerate() {
+        *number = i as u32;
     }
 }
 
 // Copies `words` to `buf`, from `a` on.
-pub fn copy_in(buf: &mut [u32], a: usize, words: &[u32])
+pub fn copy_in<T: Copy>(buf: &mut [T], a: usize, words: &[T])
     requires { a + length words.now ≤ length buf.old }
     ensures { buf.new ≡ paste buf.old a words.now (length words.now) }
 {
-    let mut i: usize = 0;
-    while i < words.len() {
-        let v = words[i];
-        buf[a + i] = v;
-        i += 1;
-    }
+    let end = a + words.len();
+    buf[a..end].copy_from_slice(words);
 }

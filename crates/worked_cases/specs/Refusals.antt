@@ -69,7 +69,16 @@ of_turns =
     ∷ not_turned (turn_call wood plan_top start_of_a 10 [] 1) 7
     ∷ not_turned (turn_call wood plan_group start_of_a 10 [] 7) 7
     ∷ not_turned
-    (record { survey = surveyed wood; plan = plan_a; state = over start_of_a (replicate 10 7); given = 4; quantum = 0; threshold = []; output = replicate 2 9 }) 7
+    (record {
+      survey = surveyed wood;
+      plan = plan_a;
+      state = over start_of_a (replicate 10 7);
+      given = 4;
+      quantum = 0;
+      threshold = [];
+      output =
+          replicate 2 9;
+    }) 7
     ∷ not_turned (turn_call wood plan_a start_of_a 0 [] 2) 8
     ∷ not_turned (turn_call wood plan_a start_of_a 1000001 [] 2) 8
     -- no words; a depth above the patterns; a branch that is not there; a place too few; a wrong kind; more words than the buffer has

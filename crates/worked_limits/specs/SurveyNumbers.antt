@@ -17,7 +17,10 @@ abbrev pub opens_under : ℕ → List ℕ → Case
 opens_under n words = (opening (under_number n stems) literal_plan_a (replicate 11 7), opened (written_over words (replicate 11 7)))
 
 abbrev pub not_opened_under : ℕ → ℕ → ℕ → Case
-not_opened_under n room x = (opening (under_number n stems) literal_plan_a (replicate room 7), opened (record { answer = Refused x; buffers = replicate room 7 }))
+not_opened_under n room x = (
+  opening (under_number n stems) literal_plan_a (replicate room 7),
+  opened (record { answer = Refused x; buffers = replicate room 7 }),
+)
 
 -- a turn of one step under a number from some words to others, or refused
 abbrev pub goes_under : ℕ → List ℕ → List ℕ → Case

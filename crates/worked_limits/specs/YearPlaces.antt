@@ -56,7 +56,8 @@ year_orders =
 abbrev pub in_both : ℕ → ℕ → ℕ → List ℕ → ℕ → ℕ → ℕ → List ℕ → List Case
 in_both s p o ending first second steps list =
     opens_to apart (asks_of 0x00000000 s p o ending) (state_in_year 0x000007E8 first)
-    ∷ turn_case (turn_call apart (asks_of 0x00000000 s p o ending) (state_in_year 0x000007E8 first) steps [] 128) Spent steps (state_in_year 0x000007EA second) list
+    ∷ turn_case (turn_call apart (asks_of 0x00000000 s p o ending) (state_in_year 0x000007E8 first) steps [] 128) Spent steps
+    (state_in_year 0x000007EA second) list
     ∷ whole_from apart (asks_of 0x00000000 s p o ending) (state_in_year 0x000007EA second) steps list
     ∷ []
 

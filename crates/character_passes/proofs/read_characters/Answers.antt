@@ -6,7 +6,7 @@ use lib.ListN.{set, length-set}
 use Rattle.characters.specs.Characters.{places_of}
 use Rattle.characters.proofs.Laws.{character_within, characters_end, characters_next}
 use Rattle.sequences.proofs.Growing.{written_next, behind_next, written_all}
-use Prim.Native.Nat.{◌+◌, ◌-◌}
+use Prim.Native.Nat.{◌+◌}
 use mathlib.Core.Path.{◌≡◌, refl, sym, ap, ◌∙◌}
 use native.Mathlib.Omega.{arith}
 use lib.ListN.{length, take}

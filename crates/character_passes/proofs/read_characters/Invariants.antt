@@ -1,6 +1,6 @@
 use mathlib.Core.List.{◌++◌, map}
 use Rattle.characters.specs.Characters.{characters_from, characters_of, points_of}
-use Prim.Native.Nat.{◌+◌, ◌-◌, ◌≤◌}
+use Prim.Native.Nat.{◌-◌, ◌≤◌}
 use mathlib.Core.Path.{◌≡◌}
 use lib.ListN.{length, take, drop}
 use Rattle.character_passes.proofs.read_characters.Given as goal

@@ -6,8 +6,8 @@ use Rattle.condition_values.proofs.keeps.Goals as goal
 
 pub returns-then-always : goal.returns-then-always
 returns-then-always c =
-    sym (always_kept c.args.bound.now (condition_in c.args.p.now) (c.always.ensures c.if-always.true))
+    c.if-always.true ∙ sym (always_kept c.args.bound.now (condition_in c.args.p.now) (c.always.ensures c.if-always.true))
 
-pub returns : goal.returns
-returns c =
-    c.is_true.ensures ∙ keeps_true c.args.bound.now (condition_in c.args.p.now) c.evaluate-truth.ensures
+pub returns-else-always : goal.returns-else-always
+returns-else-always c =
+    c.is_true.ensures ∙ keeps_true c.args.bound.now (condition_in c.args.p.now) c.evaluate.ensures

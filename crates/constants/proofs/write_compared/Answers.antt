@@ -23,11 +23,11 @@ returns-in-NoText c =
 pub returns-in-Below : goal.returns-in-Below
 returns-in-Below c =
     let a = c.args in
-    of_below a.out.now a.at a.unnamed a.unwritten a.o a.x a.c c.write_below.new.out c.write_below.result
-    c.in-Below.is c.write_below.ensures
+    of_below a.out.now a.at a.unnamed a.unwritten a.o a.x a.c c.write_far.new.out c.write_far.result
+    c.in-Below.is c.write_far.ensures
 
 pub returns-in-Above : goal.returns-in-Above
 returns-in-Above c =
     let a = c.args in
-    of_above a.out.now a.at a.unnamed a.unwritten a.o a.x a.c c.write_above.new.out c.write_above.result
-    c.in-Above.is c.write_above.ensures
+    of_above a.out.now a.at a.unnamed a.unwritten a.o a.x a.c c.write_far-in-Above.new.out c.write_far-in-Above.result
+    c.in-Above.is c.write_far-in-Above.ensures

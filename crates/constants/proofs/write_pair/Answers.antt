@@ -25,5 +25,7 @@ returns c =
     let a = c.args in
     let zero = condition_words (compared a.o a.x 0x40000000) in
     let one = condition_words (compared a.o a.x 0x40000001) in
-    more_appended a.out.now a.at (a.w ∷ zero) one c.write_comparison-second.new.out c.write_comparison.new.out c.write_comparison-second.result c.write_comparison.result
-    (more_appended a.out.now a.at (a.w ∷ []) zero c.write_word-first.new.out c.write_comparison-second.new.out c.write_word-first.result c.write_comparison-second.result c.write_word-first.ensures c.write_comparison-second.ensures) c.write_comparison.ensures
+    more_appended a.out.now a.at (a.w ∷ zero) one c.write_comparison-second.new.out c.write_comparison.new.out c.write_comparison-second.result
+    c.write_comparison.result
+    (more_appended a.out.now a.at (a.w ∷ []) zero c.write_word-first.new.out c.write_comparison-second.new.out c.write_word-first.result
+    c.write_comparison-second.result c.write_word-first.ensures c.write_comparison-second.ensures) c.write_comparison.ensures

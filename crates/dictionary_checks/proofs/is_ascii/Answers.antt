@@ -1,5 +1,5 @@
 -- `is_ascii` meets its contract. The invariant: all bytes are ASCII exactly where the greatest so far is and the others are.
-use Prim.Native.Nat.{◌+◌, ◌-◌}
+use Prim.Native.Nat.{◌+◌}
 use native.Mathlib.Omega.{arith}
 use mathlib.Core.Path.{refl, sym, ap, ◌∙◌}
 use mathlib.Core.Bool.{◌&&◌}
@@ -9,18 +9,16 @@ use Rattle.sequences.specs.Sequences.{all}
 use Rattle.dictionary_checks.proofs.Ascii.{ascii_byte, ascii_step, ascii_end}
 use Rattle.dictionary_checks.proofs.is_ascii.Goals as goal
 
-pub loop-i-init : goal.loop-i-init
-loop-i-init c = (omega arith, refl)
+pub loop-b-init : goal.loop-b-init
+loop-b-init c = refl
 
-pub loop-i-preserved : goal.loop-i-preserved
-loop-i-preserved c =
-    let bytes = c.args.bytes.now in (
-      omega arith,
-      c.loop-i.invariant.1
-          ∙ (ascii_step bytes c.loop-i.i c.loop-i.greatest (omega arith)
-          ∙ ap (λ g. leb g 0x7F && all ascii_byte (drop (c.loop-i.i + 1) bytes)) (sym c.greater-greatest.ensures)),
-    )
+pub loop-b-preserved : goal.loop-b-preserved
+loop-b-preserved c =
+    let i = c.loop-b.b-index in
+    c.loop-b.invariant
+    ∙ (ascii_step c.args.bytes.now i c.loop-b.greatest (omega arith)
+    ∙ ap (λ g. leb g 0x7F && all ascii_byte (drop (i + 1) c.args.bytes.now)) (sym c.max-greatest.ensures))
 
 pub returns : goal.returns
 returns c =
-    sym (c.loop-i.invariant.1 ∙ ascii_end c.args.bytes.now c.loop-i.i c.loop-i.greatest (omega arith))
+    sym (c.loop-b.invariant ∙ ascii_end c.args.bytes.now c.loop-b.b-index c.loop-b.greatest c.loop-b-test.false)

@@ -1,5 +1,5 @@
 -- `well_formed` meets its contract. The invariant: all bytes are formed exactly where the rest is.
-use Prim.Native.Nat.{◌+◌, ◌-◌}
+use Prim.Native.Nat.{◌+◌}
 use native.Mathlib.Omega.{arith}
 use mathlib.Core.Path.{refl, sym, ◌∙◌}
 use borrow.Author.Tests.{not-true, not-false}
@@ -26,14 +26,14 @@ returns-then-not-rest_in c =
     let i = c.loop-i.i in
     let e = sym c.rest_in.ensures ∙ not-true _ c.if-not-rest_in.true-raw in
     sym (c.loop-i.invariant.1
-    ∙ (more_formed t i Nothing (omega arith) c.first-step.result c.first-step.ensures c.in-More.rest c.in-More.is
-    ∙ behind_wrong t (i + 1) (spans_in c.in-More.rest) e))
+    ∙ (more_formed t i Nothing (omega arith) c.first.result c.first.ensures c.in-Some.rest c.in-Some.is
+    ∙ behind_wrong t (i + 1) (spans_in c.in-Some.rest) e))
 
-pub overflow_add-i-in-More-3 : goal.overflow_add-i-in-More-3
-overflow_add-i-in-More-3 c =
+pub overflow_add-i-in-Some-3 : goal.overflow_add-i-in-Some-3
+overflow_add-i-in-Some-3 c =
     let t = c.args.bytes.now in
     let e = sym c.rest_in.ensures ∙ not-false _ c.if-not-rest_in.false-raw in
-    let f = behind_fits t (c.loop-i.i + 1) c.rest_length.result (spans_in c.in-More.rest) e c.rest_length.ensures
+    let f = behind_fits t (c.loop-i.i + 1) c.rest_length.result (spans_in c.in-Some.rest) e c.rest_length.ensures
     (omega arith) in
     omega arith
 
@@ -41,7 +41,7 @@ pub loop-i-smaller : goal.loop-i-smaller
 loop-i-smaller c =
     let t = c.args.bytes.now in
     let e = sym c.rest_in.ensures ∙ not-false _ c.if-not-rest_in.false-raw in
-    let f = behind_fits t (c.loop-i.i + 1) c.rest_length.result (spans_in c.in-More.rest) e c.rest_length.ensures
+    let f = behind_fits t (c.loop-i.i + 1) c.rest_length.result (spans_in c.in-Some.rest) e c.rest_length.ensures
     (omega arith) in
     omega arith
 
@@ -51,16 +51,16 @@ loop-i-preserved c =
     let i = c.loop-i.i in
     let e = sym c.rest_in.ensures ∙ not-false _ c.if-not-rest_in.false-raw in
     let n = c.rest_length.ensures in (
-      behind_fits t (i + 1) c.rest_length.result (spans_in c.in-More.rest) e n (omega arith),
+      behind_fits t (i + 1) c.rest_length.result (spans_in c.in-Some.rest) e n (omega arith),
       c.loop-i.invariant.1
-          ∙ (more_formed t i Nothing (omega arith) c.first-step.result c.first-step.ensures c.in-More.rest c.in-More.is
-          ∙ behind_more t (i + 1) c.rest_length.result (spans_in c.in-More.rest) e n),
+          ∙ (more_formed t i Nothing (omega arith) c.first.result c.first.ensures c.in-Some.rest c.in-Some.is
+          ∙ behind_more t (i + 1) c.rest_length.result (spans_in c.in-Some.rest) e n),
     )
 
-pub returns-in-Wrong : goal.returns-in-Wrong
-returns-in-Wrong c =
+pub returns-in-None : goal.returns-in-None
+returns-in-None c =
     let t = c.args.bytes.now in
-    sym (c.loop-i.invariant.1 ∙ wrong_formed t c.loop-i.i Nothing (omega arith) c.first-step.result c.first-step.ensures c.in-Wrong.is)
+    sym (c.loop-i.invariant.1 ∙ wrong_formed t c.loop-i.i Nothing (omega arith) c.first.result c.first.ensures c.in-None.is)
 
 pub returns : goal.returns
 returns c =

@@ -12,21 +12,21 @@ returns-then-not-dictionary_right c = let a = c.args in
     (sym c.dictionary_right.ensures ∙ not-true _ c.if-not-dictionary_right.true-raw) in
     record { tt_value = shown.0; number = shown.1 }
 
-pub find-lookup-requires : goal.find-lookup-requires
-find-lookup-requires c =
+pub find-requires : goal.find-requires
+find-requires c =
     let a = c.args in
     ((tested a.kind a.bytes.now a.ends.now).0 (sym c.dictionary_right.ensures ∙ not-false _ c.if-not-dictionary_right.false-raw)).right
 
-pub returns-in-At : goal.returns-in-At
-returns-in-At c = let a = c.args in
+pub returns-in-Ok : goal.returns-in-Ok
+returns-in-Ok c = let a = c.args in
     let shown = find_served (find_input a.kind a.bytes.now a.ends.now a.sought.now)
     (sym c.dictionary_right.ensures ∙ not-false _ c.if-not-dictionary_right.false-raw) _
-    (sym c.in-At.is ∙ c.find-lookup.ensures) in
+    (sym c.in-Ok.is ∙ c.find.ensures) in
     record { tt_value = shown.0; number = shown.1 }
 
-pub returns-in-Absent : goal.returns-in-Absent
-returns-in-Absent c = let a = c.args in
+pub returns-in-Err : goal.returns-in-Err
+returns-in-Err c = let a = c.args in
     let shown = find_served (find_input a.kind a.bytes.now a.ends.now a.sought.now)
     (sym c.dictionary_right.ensures ∙ not-false _ c.if-not-dictionary_right.false-raw) _
-    (sym c.in-Absent.is ∙ c.find-lookup.ensures) in
+    (sym c.in-Err.is ∙ c.find.ensures) in
     record { tt_value = shown.0; number = shown.1 }

@@ -1,5 +1,5 @@
 -- `compare` meets its contract. The invariant: the strings stand to each other as what is left of them.
-use Prim.Native.Nat.{ℕ, ◌+◌, ◌-◌, ◌≤◌}
+use Prim.Native.Nat.{ℕ, ◌+◌, ◌≤◌}
 use native.Mathlib.Omega.{arith}
 use mathlib.Core.Path.{refl, sym, ap₂, ◌∙◌}
 use mathlib.Core.List.{List}
@@ -21,10 +21,10 @@ abbrev second : Read → List ℕ
 second r = r.args.ys.now
 
 first_long : (r : Read) → r.loop-i.i + 8 ≤ length (first r)
-first_long r = omega (arith, r.loop-i-test, r.shorter-both.ensures.0)
+first_long r = omega (arith, r.loop-i-test, r.min-both.ensures)
 
 second_long : (r : Read) → r.loop-i.i + 8 ≤ length (second r)
-second_long r = omega (arith, r.loop-i-test, r.shorter-both.ensures.1)
+second_long r = omega (arith, r.loop-i-test, r.min-both.ensures)
 
 first_bytes : (r : Read) → Bytes (first r)
 first_bytes r i = omega (arith, r.type_inv.xs i)
@@ -39,24 +39,28 @@ pub loop-i-init : goal.loop-i-init
 loop-i-init c = (omega arith, refl)
 
 pub eight_at-first-requires : goal.eight_at-first-requires
-eight_at-first-requires c = omega (arith, c.loop-i-test, c.shorter-both.ensures.0)
+eight_at-first-requires c = omega (arith, c.loop-i-test, c.min-both.ensures)
 
 pub eight_at-second-requires : goal.eight_at-second-requires
-eight_at-second-requires c = omega (arith, c.loop-i-test, c.shorter-both.ensures.1)
+eight_at-second-requires c = omega (arith, c.loop-i-test, c.min-both.ensures)
 
 pub returns-then-first-second : goal.returns-then-first-second
 returns-then-first-second c =
-    sym (c.loop-i.invariant.1 ∙ (said (goal.at.returns-then-first-second c).After-eight_at-second).if_less (omega (arith, c.eight_at-first.ensures, c.eight_at-second.ensures, c.if-first-second.true)))
+    sym (c.loop-i.invariant.1 ∙ (said (goal.at.returns-then-first-second c).After-eight_at-second).if_less
+    (omega (arith, c.eight_at-first.ensures, c.eight_at-second.ensures, c.if-first-second.true)))
 
 pub returns-then-second-first : goal.returns-then-second-first
 returns-then-second-first c =
-    sym (c.loop-i.invariant.1 ∙ (said (goal.at.returns-then-second-first c).After-eight_at-second).if_more (omega (arith, c.eight_at-first.ensures, c.eight_at-second.ensures, c.if-second-first.true)))
+    sym (c.loop-i.invariant.1 ∙ (said (goal.at.returns-then-second-first c).After-eight_at-second).if_more
+    (omega (arith, c.eight_at-first.ensures, c.eight_at-second.ensures, c.if-second-first.true)))
 
 pub loop-i-preserved : goal.loop-i-preserved
 loop-i-preserved c = (
   omega (arith, c.loop-i-test),
   c.loop-i.invariant.1
-      ∙ eight_same (first (goal.at.loop-i-preserved c).After-eight_at-second) (second (goal.at.loop-i-preserved c).After-eight_at-second) c.loop-i.i (first_long (goal.at.loop-i-preserved c).After-eight_at-second) (second_long (goal.at.loop-i-preserved c).After-eight_at-second) (first_bytes (goal.at.loop-i-preserved c).After-eight_at-second) (second_bytes (goal.at.loop-i-preserved c).After-eight_at-second)
+      ∙ eight_same (first (goal.at.loop-i-preserved c).After-eight_at-second) (second (goal.at.loop-i-preserved c).After-eight_at-second) c.loop-i.i
+      (first_long (goal.at.loop-i-preserved c).After-eight_at-second) (second_long (goal.at.loop-i-preserved c).After-eight_at-second)
+      (first_bytes (goal.at.loop-i-preserved c).After-eight_at-second) (second_bytes (goal.at.loop-i-preserved c).After-eight_at-second)
       (omega (arith, c.eight_at-first.ensures, c.eight_at-second.ensures, c.if-first-second.false, c.if-second-first.false)),
 )
 

@@ -30,7 +30,12 @@ overflow_add-mid c =
 pub string-requires : goal.string-requires
 string-requires c = let i = c.loop-lo.invariant.ordered in
     let w = c.loop-lo.invariant.within in
-    let n = strings_length c.args.bytes.now 0 c.args.ends.now in record { ends_value = c.requires.cut; n_in_bounds = (let h : c.loop-lo.lo + (c.loop-lo.hi - c.loop-lo.lo) / 2 < length c.args.ends.now = omega arith in h) }
+    let n = strings_length c.args.bytes.now 0 c.args.ends.now in
+    record {
+      ends_value = c.requires.cut;
+      n_in_bounds =
+          (let h : c.loop-lo.lo + (c.loop-lo.hi - c.loop-lo.lo) / 2 < length c.args.ends.now = omega arith in h);
+    }
 
 pub overflow_add-lo : goal.overflow_add-lo
 overflow_add-lo c =
@@ -40,33 +45,33 @@ overflow_add-lo c =
     let n = strings_length a.bytes.now 0 a.ends.now in
     omega arith
 
-pub loop-lo-preserved-in-Before : goal.loop-lo-preserved-in-Before
-loop-lo-preserved-in-Before c =
+pub loop-lo-preserved-in-Less : goal.loop-lo-preserved-in-Less
+loop-lo-preserved-in-Less c =
     let ss = strings_of c.args.bytes.now c.args.ends.now in
     let up : Ascending string_before ss = neighbours_ascending before_ordered ss c.requires.ascend in
-    let e = c.compare-side.ensures in
+    let e = c.compare.ensures in
     let t = c.string.ensures in
     between_up c.args.s.now ss up c.loop-lo.lo c.loop-lo.hi (c.loop-lo.lo + (c.loop-lo.hi - c.loop-lo.lo) / 2) c.loop-lo.invariant (omega arith) (omega arith)
-    (means_before (get_or ss (c.loop-lo.lo + (c.loop-lo.hi - c.loop-lo.lo) / 2) []) c.args.s.now (e ∙ ap (λ x. precedence x c.args.s.now) t) c.in-Before.is)
+    (means_before (get_or ss (c.loop-lo.lo + (c.loop-lo.hi - c.loop-lo.lo) / 2) []) c.args.s.now (e ∙ ap (λ x. precedence x c.args.s.now) t) c.in-Less.is)
 
 pub loop-lo-preserved : goal.loop-lo-preserved
 loop-lo-preserved c =
     let ss = strings_of c.args.bytes.now c.args.ends.now in
     let up : Ascending string_before ss = neighbours_ascending before_ordered ss c.requires.ascend in
-    let e = c.compare-side.ensures in
+    let e = c.compare.ensures in
     let t = c.string.ensures in
     between_down c.args.s.now ss up c.loop-lo.lo c.loop-lo.hi (c.loop-lo.lo + (c.loop-lo.hi - c.loop-lo.lo) / 2) c.loop-lo.invariant (omega arith) (omega arith)
-    (means_after (get_or ss (c.loop-lo.lo + (c.loop-lo.hi - c.loop-lo.lo) / 2) []) c.args.s.now (e ∙ ap (λ x. precedence x c.args.s.now) t) c.in-After.is)
+    (means_after (get_or ss (c.loop-lo.lo + (c.loop-lo.hi - c.loop-lo.lo) / 2) []) c.args.s.now (e ∙ ap (λ x. precedence x c.args.s.now) t) c.in-Greater.is)
 
-pub returns-in-Same : goal.returns-in-Same
-returns-in-Same c =
+pub returns-in-Equal : goal.returns-in-Equal
+returns-in-Equal c =
     let ss = strings_of c.args.bytes.now c.args.ends.now in
     let up : Ascending string_before ss = neighbours_ascending before_ordered ss c.requires.ascend in
-    let e = c.compare-side.ensures in
+    let e = c.compare.ensures in
     let t = c.string.ensures in
     let w = c.loop-lo.invariant.within in
     lookup_at c.args.s.now ss up (c.loop-lo.lo + (c.loop-lo.hi - c.loop-lo.lo) / 2) (omega arith)
-    (means_same (get_or ss (c.loop-lo.lo + (c.loop-lo.hi - c.loop-lo.lo) / 2) []) c.args.s.now (e ∙ ap (λ x. precedence x c.args.s.now) t) c.in-Same.is)
+    (means_same (get_or ss (c.loop-lo.lo + (c.loop-lo.hi - c.loop-lo.lo) / 2) []) c.args.s.now (e ∙ ap (λ x. precedence x c.args.s.now) t) c.in-Equal.is)
 
 pub returns : goal.returns
 returns c =

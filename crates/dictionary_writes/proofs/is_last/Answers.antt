@@ -23,12 +23,12 @@ is_before-requires c = let n = c.if-k-places.false in record {
   ends_value = c.requires.ends_value;
   a_in_bounds = (
     entry c.args.ends.now c.args.places.now c.requires.places_value c.args.k _ c.requires.k_in_bounds c.wide.ensures,
-    entry c.args.ends.now c.args.places.now c.requires.places_value (c.args.k + 1) _ (omega (arith, c.requires.k_in_bounds)) c.wide-2.ensures,
+    entry c.args.ends.now c.args.places.now c.requires.places_value (c.args.k + 1) _ (omega (arith, c.requires.k_in_bounds)) c.wide-else-k-places.ensures,
   );
 }
 
-pub returns : goal.returns
-returns c =
+pub returns-else-k-places : goal.returns-else-k-places
+returns-else-k-places c =
     let a = c.args in
     rw (ne_eqb (a.k + 1) (length a.places.now) c.if-k-places.false)
-    (c.is_before.ensures ∙ ap₂ (place_before a.bytes.now a.ends.now) c.wide.ensures c.wide-2.ensures)
+    (c.is_before.ensures ∙ ap₂ (place_before a.bytes.now a.ends.now) c.wide.ensures c.wide-else-k-places.ensures)

@@ -1,12 +1,14 @@
 -- `write_strings` meets its contract. The invariant: what is written and the strings still to come, each once, make the whole; and the places passed have
 -- their numbers.
-use Prim.Native.Nat.{ℕ, ◌+◌, ◌≤◌, ◌<◌}
+use Prim.Native.Nat.{ℕ, ◌+◌, ◌-◌, ◌≤◌, ◌<◌}
 use native.Mathlib.Omega.{arith}
-use mathlib.Core.Path.{◌≡◌, sym, ap, subst, subst⁻¹, ◌∙◌}
+use mathlib.Core.Path.{◌≡◌, refl, sym, ap, subst, subst⁻¹, ◌∙◌}
 use mathlib.Core.Bool.{Bool, true, false, ◌||◌}
 use mathlib.Core.List.{List, [], ◌∷◌, flatten}
 use lib.Dec.{eqb}
-use lib.ListN.{length, get_or, set, drop, length-map}
+use lib.ListN.{length, get_or, set, drop, length-drop, length-map}
+use Rattle.std.proofs.lemmas.List.{length-take-le}
+use Rattle.std.proofs.lemmas.Slice.{put_mid-paste}
 use borrow.Author.Tests.{ltb-true}
 use Rattle.sequences.specs.Sequences.{all, over}
 use Rattle.sequences.proofs.Elements.{all_at_lem}
@@ -66,7 +68,7 @@ module _ (z : After-string-s) where
       ≡ get_or (sorted_strings z.args.bytes.now z.args.ends.now) z.loop-k.k [] ∷ rest
   taken_here =
       taken z.args.bytes.now z.args.ends.now z.args.places.now z.loop-k.k z.requires.places_value z.loop-k-test.true z.is_last.result z.is_last.ensures
-      z.if-is_last.true
+      z.if-not-is_last.false
 
   -- it is the next to be written
   waits : StringsWritten whole (z.string-s.result.now ∷ rest) z.args.out.now z.loop-k.out z.args.cuts.now z.loop-k.cuts z.loop-k.filled z.loop-k.count
@@ -82,7 +84,7 @@ module _ (z : After-string-s) where
       ∙ sym (string_at bs es (sorted_places bs es) k (listed bs es ps k sorted h))) in
       subst (λ r. StringsWritten whole r z.args.out.now z.loop-k.out z.args.cuts.now z.loop-k.cuts z.loop-k.filled z.loop-k.count)
       (taken_here ∙ ap (λ x. x ∷ rest) (sym is))
-      z.loop-k.invariant.1
+      z.loop-k.invariant.0
 
   -- there is room for all of them
   bytes_room : length (flatten whole) ≤ length z.args.out.now
@@ -106,13 +108,14 @@ module _ (z : After-string-s) where
 
 pub overflow_cast-numbers : goal.overflow_cast-numbers
 overflow_cast-numbers c =
-    let n = count_most (last_of_each (sorted_strings c.args.bytes.now c.args.ends.now)) _ _ _ _ _ c.loop-k.filled c.loop-k.count c.loop-k.invariant.1 in
+    let n = count_most (last_of_each (sorted_strings c.args.bytes.now c.args.ends.now)) _ _ _ _ _ c.loop-k.filled c.loop-k.count c.loop-k.invariant.0 in
     omega (arith, n, once_strings c.args.bytes.now c.args.ends.now c.requires.ends_value, c.requires.ends_len_bound.0)
 
 pub bounds-numbers-place : goal.bounds-numbers-place
 bounds-numbers-place c =
-    let w = within c.args.bytes.now c.args.ends.now c.args.places.now c.loop-k.k c.requires.places_value c.loop-k-test.true c.wide-place.result c.wide-place.ensures in
-    omega (arith, w, c.loop-k.invariant.2.long, c.requires.ends_len_bound.1)
+    let w = within c.args.bytes.now c.args.ends.now c.args.places.now c.loop-k.k c.requires.places_value c.loop-k-test.true c.wide-place.result
+    c.wide-place.ensures in
+    omega (arith, w, c.loop-k.invariant.1.long, c.requires.ends_len_bound.1)
 
 pub is_last-requires-clause-places_value : goal.is_last-requires-clause-places_value
 is_last-requires-clause-places_value c =
@@ -122,11 +125,17 @@ pub string-s-requires-clause-n_in_bounds : goal.string-s-requires-clause-n_in_bo
 string-s-requires-clause-n_in_bounds c =
     within c.args.bytes.now c.args.ends.now c.args.places.now c.loop-k.k c.requires.places_value c.loop-k-test.true c.wide-place.result c.wide-place.ensures
 
-pub copy_bytes-requires : goal.copy_bytes-requires
-copy_bytes-requires c = omega (arith, fits (goal.at.copy_bytes-requires c).After-string-s)
+pub copy_from_slice-requires : goal.copy_from_slice-requires
+copy_from_slice-requires c =
+    let h = fits (goal.at.copy_from_slice-requires c).After-string-s in
+    let z : c.loop-k.filled + length c.string-s.result.now - c.loop-k.filled ≡ length c.string-s.result.now = omega arith in
+    rw z (length-take-le (length c.string-s.result.now) (drop c.loop-k.filled c.loop-k.out) (omega (arith, length-drop c.loop-k.filled c.loop-k.out)))
 
-pub overflow_add-filled : goal.overflow_add-filled
-overflow_add-filled c = omega (arith, small (goal.at.overflow_add-filled c).After-string-s (λ i. omega (arith, c.type_inv.ends i)))
+pub slice_bounds-copy_from_slice-end : goal.slice_bounds-copy_from_slice-end
+slice_bounds-copy_from_slice-end c = omega (arith, fits (goal.at.slice_bounds-copy_from_slice-end c).After-string-s)
+
+pub overflow_add-end : goal.overflow_add-end
+overflow_add-end c = omega (arith, small (goal.at.overflow_add-end c).After-string-s (λ i. omega (arith, c.type_inv.ends i)))
 
 pub overflow_cast-cuts : goal.overflow_cast-cuts
 overflow_cast-cuts c = omega (arith, small (goal.at.overflow_cast-cuts c).After-string-s (λ i. omega (arith, c.type_inv.ends i)))
@@ -134,38 +143,37 @@ overflow_cast-cuts c = omega (arith, small (goal.at.overflow_cast-cuts c).After-
 pub bounds-cuts-count : goal.bounds-cuts-count
 bounds-cuts-count c = free (goal.at.bounds-cuts-count c).After-string-s
 
-pub loop-k-preserved-then-is_last : goal.loop-k-preserved-then-is_last
-loop-k-preserved-then-is_last c =
-    let z = (goal.at.loop-k-preserved-then-is_last c).After-string-s in
+pub loop-k-preserved : goal.loop-k-preserved
+loop-k-preserved c =
+    let z = (goal.at.loop-k-preserved c).After-string-s in
     let a = c.args in
     let l = c.loop-k in
     let s = c.string-s.result.now in
     let w = within a.bytes.now a.ends.now a.places.now l.k c.requires.places_value c.loop-k-test.true c.wide-place.result c.wide-place.ensures in (
-      omega arith,
       subst⁻¹
           (λ o. StringsWritten (whole z) (rest z) a.out.now o a.cuts.now (set l.cuts l.count (l.filled + length s)) (l.filled + length s) (l.count + 1))
-          c.copy_bytes.ensures
+          (put_mid-paste l.filled (l.filled + length s - l.filled) l.out c.copy_from_slice.new.self s (length s) c.copy_from_slice.ensures.after
+          (omega arith) refl)
           (written_step (whole z) (rest z) a.out.now l.out a.cuts.now l.cuts l.filled l.count s (waits z) (bytes_room z) (ends_room z)),
-      numbers_kept a.bytes.now a.ends.now a.numbers.now l.numbers l.count l.k c.wide-place.result l.invariant.2
+      numbers_kept a.bytes.now a.ends.now a.numbers.now l.numbers l.count l.k c.wide-place.result l.invariant.1
           (listed a.bytes.now a.ends.now a.places.now l.k c.requires.places_value c.loop-k-test.true)
           (placed a.bytes.now a.ends.now a.places.now l.k c.requires.places_value c.loop-k-test.true c.wide-place.result c.wide-place.ensures)
-          (omega (arith, w, l.invariant.2.long, c.requires.ends_len_bound.1)) _ (taken_here z),
+          (omega (arith, w, l.invariant.1.long, c.requires.ends_len_bound.1)) _ (taken_here z),
     )
 
-pub loop-k-preserved : goal.loop-k-preserved
-loop-k-preserved c =
+pub loop-k-preserved-then-not-is_last : goal.loop-k-preserved-then-not-is_last
+loop-k-preserved-then-not-is_last c =
     let a = c.args in
     let l = c.loop-k in
     let sorted = c.requires.places_value in
     let h = c.loop-k-test.true in
     let w = within a.bytes.now a.ends.now a.places.now l.k sorted h c.wide-place.result c.wide-place.ensures in
-    let e = left a.bytes.now a.ends.now a.places.now l.k sorted h c.is_last.result c.is_last.ensures c.if-is_last.false in (
-      omega arith,
-      subst (λ r. StringsWritten (last_of_each (sorted_strings a.bytes.now a.ends.now)) r a.out.now l.out a.cuts.now l.cuts l.filled l.count) e l.invariant.1,
-      numbers_left_lem a.bytes.now a.ends.now a.numbers.now l.numbers l.count l.k c.wide-place.result l.invariant.2
+    let e = left a.bytes.now a.ends.now a.places.now l.k sorted h c.is_last.result c.is_last.ensures c.if-not-is_last.true in (
+      subst (λ r. StringsWritten (last_of_each (sorted_strings a.bytes.now a.ends.now)) r a.out.now l.out a.cuts.now l.cuts l.filled l.count) e l.invariant.0,
+      numbers_left_lem a.bytes.now a.ends.now a.numbers.now l.numbers l.count l.k c.wide-place.result l.invariant.1
           (listed a.bytes.now a.ends.now a.places.now l.k sorted h)
           (placed a.bytes.now a.ends.now a.places.now l.k sorted h c.wide-place.result c.wide-place.ensures)
-          (omega (arith, w, l.invariant.2.long, c.requires.ends_len_bound.1)) e,
+          (omega (arith, w, l.invariant.1.long, c.requires.ends_len_bound.1)) e,
     )
 
 pub returns : goal.returns
@@ -178,7 +186,7 @@ returns c =
     let every = last_of_each (sorted_strings bs es) in
     let m = length-map (sorted_places bs es) (λ p. get_or (strings_of bs es) p []) in
     let n = ap length c.requires.places_value in
-    let v = subst (λ r. StringsWritten every r o l.out e l.cuts l.filled l.count) (none_left (sorted_strings bs es) l.k (omega arith)) l.invariant.1 in
+    let v = subst (λ r. StringsWritten every r o l.out e l.cuts l.filled l.count) (none_left (sorted_strings bs es) l.k (omega arith)) l.invariant.0 in
     let once = sorted_strings_lem bs es in
     record {
       bytes_value = (
@@ -187,5 +195,5 @@ returns c =
       );
       bytes = bytes_end every o l.out e l.cuts l.filled l.count v ∙ ap (λ ss. over (flatten ss) o) once;
       ends = ends_end every o l.out e l.cuts l.filled l.count v ∙ ap (λ ss. over (ends_after 0 ss) e) once;
-      numbers = numbers_end bs es c.args.numbers.now l.numbers l.count l.k l.invariant.2 (omega arith) c.requires.ends_len_bound.1;
+      numbers = numbers_end bs es c.args.numbers.now l.numbers l.count l.k l.invariant.1 (omega arith) c.requires.ends_len_bound.1;
     }

@@ -1,4 +1,3 @@
-use Prim.Native.Nat.{◌-◌}
 use Rattle.list_best_places.specs.Places.{PlacedUpTo}
 use Rattle.list_best_places.proofs.far_back.Given as goal
 

@@ -31,7 +31,11 @@ comes_before-requires c =
     (c.requires.among, omega (arith, c.requires.width), omega arith)
 
 pub far_back-requires : goal.far_back-requires
-far_back-requires c = record { searchable = c.requires; placed_up_to = placed_back c.requires (placed_start c.requires) (let n = c.if-list-eq0.false in omega arith) c.comes_before.ensures c.if-comes_before.true }
+far_back-requires c = record {
+  searchable = c.requires;
+  placed_up_to =
+      placed_back c.requires (placed_start c.requires) (let n = c.if-list-eq0.false in omega arith) c.comes_before.ensures c.if-comes_before.true;
+}
 
 pub near_back-requires : goal.near_back-requires
 near_back-requires c = record { searchable = c.requires; placed_up_to = c.far_back.ensures }

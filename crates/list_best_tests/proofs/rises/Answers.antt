@@ -1,5 +1,4 @@
 -- `rises` meets its contract: no row passed comes before the one in front of it.
-use Prim.Native.Nat.{◌-◌}
 use native.Mathlib.Omega.{arith}
 use Rattle.list_best.proofs.BestTests.{rising_start, rising_end, second, widths, rising_more, rising_stops}
 use Rattle.list_best_tests.proofs.rises.Goals as goal

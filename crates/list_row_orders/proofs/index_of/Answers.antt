@@ -1,23 +1,16 @@
--- `index_of` meets its contract: the words passed are not the word.
-use Prim.Native.Nat.{◌-◌}
-use native.Mathlib.Omega.{arith}
-use Rattle.list_row_orders.proofs.Comparing.{index_end, index_here, index_later}
+-- `index_of` meets its contract.
+use Rattle.std.proofs.Common.{◌∙◌, rules, tests, eqb, length, ap}
+use Rattle.std.specs.Option.{unwrap_or}
+use Rattle.std.proofs.lemmas.Iterator.{YieldsList-from_slice}
+use Rattle.std.proofs.lemmas.Iterator.Search.{position_from_yields_List}
+use Rattle.list_row_orders.proofs.Comparing.{index_found}
 use Rattle.list_row_orders.proofs.index_of.Goals as goal
-
-pub loop-i-init : goal.loop-i-init
-loop-i-init c = (omega arith, omega arith)
-
-pub returns-then-words-i : goal.returns-then-words-i
-returns-then-words-i c =
-    let a = c.args in
-    omega (arith, index_here a.word a.words.now c.loop-i.i (omega arith) c.if-words-i.true)
-
-pub loop-i-preserved : goal.loop-i-preserved
-loop-i-preserved c =
-    let a = c.args in
-    (omega arith, omega (arith, index_later a.word a.words.now c.loop-i.i (omega arith) c.if-words-i.false))
 
 pub returns : goal.returns
 returns c =
-    let a = c.args in
-    omega (arith, index_end a.word a.words.now c.loop-i.i (omega arith))
+    let xs = c.args.words.now in
+    let w = c.args.word in
+    c.unwrap_or.ensures
+    ∙ ap (λ o. unwrap_or o (length xs))
+    (position_from_yields_List (λ x. eqb x w) _ _ _ c.position.ensures.ran (YieldsList-from_slice xs cc) (λ x b q k. search (rules, tests)))
+    ∙ index_found w xs

@@ -11,7 +11,8 @@ use Rattle.merge_calls.proofs.merge.Goals as goal
 
 pub returns-then-refused-ne0 : goal.returns-then-refused-ne0
 returns-then-refused-ne0 c =
-    let shown = call_told merge_schema merge_is_right _ (plan_refused _ c.check-refused.result (check_refuses c.args.plan.now c.check-refused.result c.check-refused.ensures c.if-refused-ne0.true)) in
+    let shown = call_told merge_schema merge_is_right _
+    (plan_refused _ c.check-refused.result (check_refuses c.args.plan.now c.check-refused.result c.check-refused.ensures c.if-refused-ne0.true)) in
     record { kept_after = shown.0; number = shown.1 }
 
 pub returns-then-kept-given : goal.returns-then-kept-given

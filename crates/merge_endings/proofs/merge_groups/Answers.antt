@@ -21,7 +21,8 @@ slice_bounds-are_groups-end-2 c =
 
 pub returns-then-not-are_groups : goal.returns-then-not-are_groups
 returns-then-not-are_groups c =
-    λ vs m e plan a. lists_wrong _ a c.requires.1 (refuses (right (goal.at.returns-then-not-are_groups c).Start vs m) (c.are_groups.ensures vs m e) c.if-not-are_groups.true-raw)
+    λ vs m e plan a. lists_wrong _ a c.requires.1
+    (refuses (right (goal.at.returns-then-not-are_groups c).Start vs m) (c.are_groups.ensures vs m e) c.if-not-are_groups.true-raw)
 
 pub merge_groups-requires : goal.merge_groups-requires
 merge_groups-requires c = (

@@ -20,7 +20,8 @@ slice_bounds-are_registers-end-2 c =
 
 pub returns-then-not-are_registers : goal.returns-then-not-are_registers
 returns-then-not-are_registers c =
-    λ v plan a. lists_wrong _ a c.requires (refuses (right (goal.at.returns-then-not-are_registers c).Start v) (c.are_registers.ensures v) c.if-not-are_registers.true-raw)
+    λ v plan a. lists_wrong _ a c.requires
+    (refuses (right (goal.at.returns-then-not-are_registers c).Start v) (c.are_registers.ensures v) c.if-not-are_registers.true-raw)
 
 pub returns-then-kept-lt-REGISTERS : goal.returns-then-kept-lt-REGISTERS
 returns-then-kept-lt-REGISTERS c =
@@ -30,7 +31,12 @@ returns-then-kept-lt-REGISTERS c =
 
 pub merge_registers-requires : goal.merge_registers-requires
 merge_registers-requires c = let front = take c.args.given c.args.kept.now in
-    let p = goes_on_fact (right (goal.at.merge_registers-requires c).Start 0) (c.are_registers.ensures 0) c.if-not-are_registers.false-raw in record { list_len = (list_sixteen 0 front c.args.list.now p, c.if-kept-lt-REGISTERS.false); given_in_bounds = (c.requires, kept_right_lem 0 front c.args.list.now p) }
+    let p = goes_on_fact (right (goal.at.merge_registers-requires c).Start 0) (c.are_registers.ensures 0) c.if-not-are_registers.false-raw in
+    record {
+      list_len = (list_sixteen 0 front c.args.list.now p, c.if-kept-lt-REGISTERS.false);
+      given_in_bounds =
+          (c.requires, kept_right_lem 0 front c.args.list.now p);
+    }
 
 pub returns : goal.returns
 returns c =

@@ -1,35 +1,16 @@
--- `all_bound` meets its contract: each variable passed is bound by some branch.
-use Prim.Native.Nat.{◌-◌}
-use mathlib.Core.Path.{refl, sym, ◌∙◌}
-use native.Mathlib.Omega.{arith}
-use borrow.Author.Tests.{not-true, not-false}
-use Rattle.sequences.proofs.Walking.{all_goes, all_stops, all_end}
+-- `all_bound` meets its contract: some branch binds each variable.
+use mathlib.Core.Path.{◌∙◌}
+use borrow.Author.Tests.{tests}
+use Rattle.std.proofs.Common.{rules}
+use Rattle.std.proofs.lemmas.Iterator.{YieldsList-from_slice}
+use Rattle.std.proofs.lemmas.Iterator.Search.{all_from_yields_List}
 use Rattle.plans.specs.Branches.{binds}
 use Rattle.plans.specs.Reading.{branches_in}
+use Rattle.plans.proofs.Chains.{all_all}
 use Rattle.plan_ending_variables.proofs.all_bound.Goals as goal
-
-pub loop-i-init : goal.loop-i-init
-loop-i-init c = (omega arith, refl)
-
-pub some_binds-requires : goal.some_binds-requires
-some_binds-requires c =
-    let pre = c.requires in
-    pre
-
-pub returns-then-not-some_binds : goal.returns-then-not-some_binds
-returns-then-not-some_binds c =
-    let args = c.args in
-    let f = binds (branches_in args.count args.p.now) in
-    sym (c.loop-i.invariant.1 ∙ all_stops args.list.now c.loop-i.i f (omega arith) (sym c.some_binds.ensures ∙ not-true _ c.if-not-some_binds.true-raw))
-
-pub loop-i-preserved : goal.loop-i-preserved
-loop-i-preserved c =
-    let args = c.args in
-    let f = binds (branches_in args.count args.p.now) in
-    (omega arith, c.loop-i.invariant.1 ∙ all_goes args.list.now c.loop-i.i f (omega arith) (sym c.some_binds.ensures ∙ not-false _ c.if-not-some_binds.false-raw))
 
 pub returns : goal.returns
 returns c =
-    let args = c.args in
-    let f = binds (branches_in args.count args.p.now) in
-    sym (c.loop-i.invariant.1 ∙ all_end args.list.now c.loop-i.i f (omega arith))
+    let f = binds (branches_in c.args.count c.args.p.now) in
+    all_from_yields_List f _ _ _ c.all.ensures.ran (YieldsList-from_slice c.args.list.now cc) (λ x b q k. search (rules, tests))
+    ∙ all_all f c.args.list.now

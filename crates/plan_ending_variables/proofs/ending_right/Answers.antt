@@ -29,7 +29,8 @@ returns-then-not-variables_right c =
     let args = c.args in
     let f = binds (branches_in args.count args.p.now) in let q = ending_at args.e.now in
     rw (← c.ending_form.ensures, not-false c.ending_form.result c.if-not-ending_form.false-raw)
-    (sym (wrong_variables f c.variables_right.result q (rw c.variables-list.ensures at c.variables_right.ensures) (not-true _ c.if-not-variables_right.true-raw)))
+    (sym (wrong_variables f c.variables_right.result q (rw c.variables-list.ensures at c.variables_right.ensures)
+    (not-true _ c.if-not-variables_right.true-raw)))
 
 pub ending_kind-requires : goal.ending_kind-requires
 ending_kind-requires c =
@@ -78,7 +79,8 @@ returns-in-Registers c =
     let args = c.args in
     let f = binds (branches_in args.count args.p.now) in let q = ending_at args.e.now in
     rw (← c.ending_form.ensures, form_is (goal.at.returns-in-Registers c).After-ending_kind)
-    (sym (right_registers f c.variables_right.result q (rw c.variables-list.ensures at c.variables_right.ensures) (not-false _ c.if-not-variables_right.false-raw)
+    (sym (right_registers f c.variables_right.result q (rw c.variables-list.ensures at c.variables_right.ensures)
+    (not-false _ c.if-not-variables_right.false-raw)
     (sym c.ending_kind.ensures ∙ c.in-Registers.is)))
 
 pub returns-in-Invalid : goal.returns-in-Invalid

@@ -1,30 +1,15 @@
--- `keys_among` meets its contract: the variable of each key passed is among the list.
-use Prim.Native.Nat.{◌-◌}
-use mathlib.Core.Path.{refl, sym, ◌∙◌}
-use native.Mathlib.Omega.{arith}
-use borrow.Author.Tests.{not-true, not-false}
-use Rattle.sequences.proofs.Walking.{all_goes, all_stops, all_end}
+-- `keys_among` meets its contract: the variable of each key is among the list.
+use mathlib.Core.Path.{◌∙◌}
+use borrow.Author.Tests.{tests}
+use Rattle.std.proofs.Common.{rules}
+use Rattle.std.proofs.lemmas.Iterator.{YieldsList-from_slice}
+use Rattle.std.proofs.lemmas.Iterator.Search.{all_from_yields_List}
 use Rattle.plans.specs.Endings.{key_among}
+use Rattle.plans.proofs.Chains.{all_all}
 use Rattle.plan_ending_variables.proofs.keys_among.Goals as goal
-
-pub loop-i-init : goal.loop-i-init
-loop-i-init c = (omega arith, refl)
-
-pub returns-then-not-is_key_among : goal.returns-then-not-is_key_among
-returns-then-not-is_key_among c =
-    let args = c.args in
-    sym (c.loop-i.invariant.1 ∙ all_stops args.keys.now c.loop-i.i (key_among args.list.now) (omega arith)
-    (sym c.is_key_among.ensures ∙ not-true _ c.if-not-is_key_among.true-raw))
-
-pub loop-i-preserved : goal.loop-i-preserved
-loop-i-preserved c =
-    let args = c.args in (
-      omega arith,
-      c.loop-i.invariant.1 ∙ all_goes args.keys.now c.loop-i.i (key_among args.list.now) (omega arith)
-          (sym c.is_key_among.ensures ∙ not-false _ c.if-not-is_key_among.false-raw),
-    )
 
 pub returns : goal.returns
 returns c =
-    let args = c.args in
-    sym (c.loop-i.invariant.1 ∙ all_end args.keys.now c.loop-i.i (key_among args.list.now) (omega arith))
+    let f = key_among c.args.list.now in
+    all_from_yields_List f _ _ _ c.all.ensures.ran (YieldsList-from_slice c.args.keys.now cc) (λ x b q k. search (rules, tests))
+    ∙ all_all f c.args.keys.now

@@ -19,21 +19,36 @@ offset_bounds-body-at c =
     let args = c.args in
     let pre = c.requires in
     let few = (plan_in_lem args.plan.now pre).head in
-    omega (arith, part_room args.plan.now pre c.branch_count.result (omega (arith, c.branch_count.ensures.0, few)) c.body_part-body.result.now c.body_part-body.ensures c.branches_words-at.result c.branches_words-at.ensures)
+    omega (
+      arith,
+      part_room args.plan.now pre c.branch_count.result
+          (omega (arith, c.branch_count.ensures.0, few)) c.body_part-body.result.now c.body_part-body.ensures c.branches_words-at.result
+          c.branches_words-at.ensures,
+    )
 
 pub slice_bounds-result-count : goal.slice_bounds-result-count
 slice_bounds-result-count c =
     let args = c.args in
     let pre = c.requires in
     let few = (plan_in_lem args.plan.now pre).head in
-    omega (arith, part_room args.plan.now pre c.branch_count.result (omega (arith, c.branch_count.ensures.0, few)) c.body_part-body.result.now c.body_part-body.ensures c.branches_words-at.result c.branches_words-at.ensures)
+    omega (
+      arith,
+      part_room args.plan.now pre c.branch_count.result
+          (omega (arith, c.branch_count.ensures.0, few)) c.body_part-body.result.now c.body_part-body.ensures c.branches_words-at.result
+          c.branches_words-at.ensures,
+    )
 
 pub slice_bounds-result-start : goal.slice_bounds-result-start
 slice_bounds-result-start c =
     let args = c.args in
     let pre = c.requires in
     let few = (plan_in_lem args.plan.now pre).head in
-    omega (arith, part_room args.plan.now pre c.branch_count.result (omega (arith, c.branch_count.ensures.0, few)) c.body_part-body.result.now c.body_part-body.ensures c.branches_words-at.result c.branches_words-at.ensures)
+    omega (
+      arith,
+      part_room args.plan.now pre c.branch_count.result
+          (omega (arith, c.branch_count.ensures.0, few)) c.body_part-body.result.now c.body_part-body.ensures c.branches_words-at.result
+          c.branches_words-at.ensures,
+    )
 
 pub returns : goal.returns
 returns c =
@@ -41,5 +56,6 @@ returns c =
     let pre = c.requires in
     let q = plan_in_lem args.plan.now pre in
     let l = c.branch_count.ensures.0 ∙ q.head in
-    let e = part_from args.plan.now pre c.branch_count.result (omega arith) c.body_part-body.result.now c.body_part-body.ensures c.branches_words-at.result c.branches_words-at.ensures in
+    let e = part_from args.plan.now pre c.branch_count.result
+    (omega arith) c.body_part-body.result.now c.body_part-body.ensures c.branches_words-at.result c.branches_words-at.ensures in
     (rw (e, l) q.form, rw (e, l) q.ending)

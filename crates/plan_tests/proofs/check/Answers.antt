@@ -20,15 +20,24 @@ returns-then-count-eq0 c =
 pub slice_bounds-check_body-count : goal.slice_bounds-check_body-count
 slice_bounds-check_body-count c =
     let args = c.args in
-    omega (arith, ap length c.from_head-part.ensures, some_words (from_head args.plan.now) c.branch_count-count.result c.branch_count-count.ensures.0 c.if-count-eq0.false)
+    omega (
+      arith,
+      ap length c.from_head-part.ensures,
+      some_words (from_head args.plan.now) c.branch_count-count.result c.branch_count-count.ensures.0 c.if-count-eq0.false,
+    )
 
 pub slice_bounds-check_body-start : goal.slice_bounds-check_body-start
 slice_bounds-check_body-start c =
     let args = c.args in
-    omega (arith, ap length c.from_head-part.ensures, some_words (from_head args.plan.now) c.branch_count-count.result c.branch_count-count.ensures.0 c.if-count-eq0.false)
+    omega (
+      arith,
+      ap length c.from_head-part.ensures,
+      some_words (from_head args.plan.now) c.branch_count-count.result c.branch_count-count.ensures.0 c.if-count-eq0.false,
+    )
 
 pub returns : goal.returns
 returns c =
     let args = c.args in
-    c.check_body.ensures ∙ sym (check_with args.plan.now c.branch_count-count.result c.branch_count-count.ensures.0 c.if-count-eq0.false c.if-plan-gt-MOST_WORDS.false c.years_in.result c.years_in.ensures c.from_head-part.result.now
+    c.check_body.ensures ∙ sym (check_with args.plan.now c.branch_count-count.result c.branch_count-count.ensures.0 c.if-count-eq0.false
+    c.if-plan-gt-MOST_WORDS.false c.years_in.result c.years_in.ensures c.from_head-part.result.now
     c.from_head-part.ensures _ refl)

@@ -9,10 +9,13 @@ use Rattle.print_files.proofs.print_bytes.Goals as goal
 
 pub print_query-requires : goal.print_query-requires
 print_query-requires g c = let b = c.args.bytes.now in
-    let p = c.in-Parts.parts in
-    let e = sym (ap (λ (r : FileRead). r.answer) c.read_file-layout.ensures) ∙ c.in-Parts.is in
-    let laid = laid_out b p e in record { laid = (laid.0, omega arith); bytes_value = (e, ap (λ (r : FileRead). take p.words r.words) c.read_file-layout.ensures ∙ words_read_lem b p e _) }
+    let p = c.in-Ok.parts in
+    let e = sym (ap (λ (r : FileRead). r.answer) c.read_file.ensures) ∙ c.in-Ok.is in
+    let laid = laid_out b p e in record {
+      laid = (laid.0, omega arith);
+      bytes_value = (e, ap (λ (r : FileRead). take p.words r.words) c.read_file.ensures ∙ words_read_lem b p e _);
+    }
 
 pub print_refused-requires : goal.print_refused-requires
 print_refused-requires g c =
-    for_size _ (sym (ap (λ (r : FileRead). r.answer) c.read_file-layout.ensures) ∙ c.in-Refused.is)
+    for_size _ (sym (ap (λ (r : FileRead). r.answer) c.read_file.ensures) ∙ c.in-Err.is)

@@ -10,7 +10,8 @@ use Rattle.print_files.proofs.print_query.Goals as goal
 pub run-requires : goal.run-requires
 run-requires g c = let o = c.open-opened in
     let a = c.args in record {
-      started = started _ _ _ o.result (ap (λ (r : WordsResult). r.answer) o.ensures.state_after) _ (ap (λ (r : WordsResult). r.buffers) o.ensures.state_after) _
+      started = started _ _ _ o.result (ap (λ (r : WordsResult). r.answer) o.ensures.state_after) _
+          (ap (λ (r : WordsResult). r.buffers) o.ensures.state_after) _
           c.in-Words.is;
       asks = file_asks a.bytes.now a.file.now a.parts c.requires.bytes_value.0 c.requires.bytes_value.1;
     }

@@ -19,7 +19,8 @@ returns c = let a = c.args in
     let x = c.long.result in
     let e = length_word x (omega (arith, c.long.ensures)) in record {
       line = rw (refused_text a.number x c.long.ensures.0)
-          (whole_line refused_word (number_field x) c.put_bytes-next.result c.put_number-end.result c.put_byte.result a.line.now c.put_bytes-next.new.line c.put_number-end.new.line
+          (whole_line refused_word (number_field x) c.put_bytes-next.result c.put_number-end.result c.put_byte.result a.line.now
+          c.put_bytes-next.new.line c.put_number-end.new.line
           c.put_byte.new.line (omega (arith, c.requires)) c.put_bytes-next.ensures c.put_number-end.ensures c.put_byte.ensures);
       room = omega (arith, c.put_bytes-next.ensures.0, c.put_number-end.ensures.0, c.put_byte.ensures.0);
     }

@@ -36,9 +36,11 @@ returns c = let a = c.args in
     let n = length-append named counted in record {
       line = served_text a.number a.steps steps a.ending.now a.line.now c.put_bytes.new.line c.put_bytes.result c.long.ensures.0
           (placed_front (named ++ counted ++ a.ending.now) a.line.now c.put_bytes.new.line c.put_bytes.result
-          (placed_then (named ++ counted) a.ending.now 0 c.put_named-after_steps.result c.put_bytes.result a.line.now c.put_named-after_steps.new.line c.put_bytes.new.line
+          (placed_then (named ++ counted) a.ending.now 0 c.put_named-after_steps.result c.put_bytes.result a.line.now c.put_named-after_steps.new.line
+          c.put_bytes.new.line
           (omega arith)
-          (placed_then named counted 0 c.put_named-after_number.result c.put_named-after_steps.result a.line.now c.put_named-after_number.new.line c.put_named-after_steps.new.line (omega arith)
+          (placed_then named counted 0 c.put_named-after_number.result c.put_named-after_steps.result a.line.now c.put_named-after_number.new.line
+          c.put_named-after_steps.new.line (omega arith)
           c.put_named-after_number.ensures c.put_named-after_steps.ensures)
           c.put_bytes.ensures));
       room = omega (arith, pre, c.put_named-after_number.ensures.0, c.put_named-after_steps.ensures.0, c.put_bytes.ensures.0);

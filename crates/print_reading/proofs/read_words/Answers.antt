@@ -1,5 +1,4 @@
 -- `read_words` meets its contract: the words passed are read.
-use Prim.Native.Nat.{◌-◌}
 use native.Mathlib.Omega.{arith}
 use mathlib.Core.Path.{refl, ◌∙◌}
 use lib.ListN.{length-set}
@@ -18,7 +17,7 @@ loop-i-preserved c =
     let n = length_words a.bytes.now in (
       omega arith,
       (simp length-set) ∙ inv.1,
-      rw (inv.2, c.word_at-word.ensures, word_in a.bytes.now i (omega arith))
+      rw (inv.2, c.word_at.ensures, word_in a.bytes.now i (omega arith))
           (over_more (file_words a.bytes.now) a.words.now i (omega arith) (omega arith)),
     )
 

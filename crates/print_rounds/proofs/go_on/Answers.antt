@@ -1,5 +1,5 @@
 -- `go_on` meets its contract, as the loop of `query_plays::play` does: after each turn its variables and buffers are those of as many rounds.
-use Prim.Native.Nat.{◌+◌, ◌-◌}
+use Prim.Native.Nat.{◌+◌}
 use native.Mathlib.Omega.{arith}
 use mathlib.Core.Path.{◌≡◌, refl, sym, ◌∙◌, ap, subst⁻¹}
 use Rattle.queries.specs.declared.Keeping.TheVariants.{Merged}
@@ -23,11 +23,19 @@ print_step-went-requires g c = let v = lent_survey c.args.rows.now c.args.pos.no
     let started = c.requires.started in
     let here = stands_at Merged v p st c.args.opened started c.args.output.now c.args.kept.now c.args.quantum n c.loop-made.saved
     c.loop-made.used _ c.loop-made.invariant.4 in
-    let stands = subst⁻¹ (λ r. StandsAfter v p c.args.quantum r n c.loop-made.state c.loop-made.saved) here.1 here.0 in record { lists_of = c.requires.lists_of; can_open = started_opens v p st c.args.opened started; made_lt_most_turns = (omega (arith, c.loop-made-test.true), stands); asks = (c.requires.asks.0, c.loop-made.invariant.2 ∙ c.requires.asks.1) }
+    let stands = subst⁻¹ (λ r. StandsAfter v p c.args.quantum r n c.loop-made.state c.loop-made.saved) here.1 here.0 in
+    record {
+      lists_of = c.requires.lists_of;
+      can_open = started_opens v p st c.args.opened started;
+      made_lt_most_turns =
+          (omega (arith, c.loop-made-test.true), stands);
+      asks = (c.requires.asks.0, c.loop-made.invariant.2 ∙ c.requires.asks.1);
+    }
 
 pub loop-made-preserved : goal.loop-made-preserved
 loop-made-preserved g c =
-    let e = rounds_next Merged _ _ _ _ c.loop-made.made c.loop-made.saved c.loop-made.used _ c.loop-made.invariant.4 c.print_step-went.result _ c.print_step-went.ensures _
+    let e = rounds_next Merged _ _ _ _ c.loop-made.made c.loop-made.saved c.loop-made.used _ c.loop-made.invariant.4 c.print_step-went.result _
+    c.print_step-went.ensures _
     c.in-On.is in (
       omega arith,
       c.state-1.given ∙ c.loop-made.invariant.1,
@@ -47,7 +55,8 @@ shape_of-kept-in-Over g c = c.kept-1.given ∙ c.loop-made.invariant.3
 
 pub returns-in-Over : goal.returns-in-Over
 returns-in-Over g c =
-    let e = rounds_next Merged _ _ _ _ c.loop-made.made c.loop-made.saved c.loop-made.used _ c.loop-made.invariant.4 c.print_step-went.result _ c.print_step-went.ensures _
+    let e = rounds_next Merged _ _ _ _ c.loop-made.made c.loop-made.saved c.loop-made.used _ c.loop-made.invariant.4 c.print_step-went.result _
+    c.print_step-went.ensures _
     c.in-Over.is in
     sym (ap result_at (rounds_over Merged _ _ _ _ (c.loop-made.made + 1) _ (omega arith) _ _ e))
 
@@ -62,7 +71,8 @@ shape_of-kept-in-Stopped g c = c.kept-1.given ∙ c.loop-made.invariant.3
 
 pub returns-in-Stopped : goal.returns-in-Stopped
 returns-in-Stopped g c =
-    let e = rounds_next Merged _ _ _ _ c.loop-made.made c.loop-made.saved c.loop-made.used _ c.loop-made.invariant.4 c.print_step-went.result _ c.print_step-went.ensures _
+    let e = rounds_next Merged _ _ _ _ c.loop-made.made c.loop-made.saved c.loop-made.used _ c.loop-made.invariant.4 c.print_step-went.result _
+    c.print_step-went.ensures _
     c.in-Stopped.is in
     sym (ap result_at (rounds_stopped Merged _ _ _ _ (c.loop-made.made + 1) _ (omega arith) _ _ e))
 

@@ -1,4 +1,4 @@
-use Prim.Native.Nat.{◌-◌, ◌≤◌}
+use Prim.Native.Nat.{◌≤◌}
 use mathlib.Core.Path.{◌≡◌}
 use lib.ListN.{length}
 use Rattle.queries.specs.declared.Keeping.TheVariants.{Merged}
@@ -11,8 +11,6 @@ use Rattle.print_rounds.proofs.go_on.Given as goal
 abbrev pub invariant-loop-made : goal.invariant-loop-made
 invariant-loop-made g l =
     (l.made ≤ most_turns) × (length l.state ≡ length l.initial.state) × (length l.output ≡ length l.initial.output) × (length l.kept ≡ length l.initial.kept)
-    × (rounds Merged (lent_survey l.rows l.pos l.osp) l.plan l.quantum l.made (first_position l.opened (record { state = l.initial.state; output = l.initial.output; kept = l.initial.kept }))
+    × (rounds Merged (lent_survey l.rows l.pos l.osp) l.plan l.quantum l.made
+    (first_position l.opened (record { state = l.initial.state; output = l.initial.output; kept = l.initial.kept }))
     ≡ record { went = On l.saved l.used; held = record { state = l.state; output = l.output; kept = l.kept } })
-
-abbrev pub decreases-loop-made : goal.decreases-loop-made
-decreases-loop-made g l = most_turns - l.made

@@ -51,7 +51,8 @@ go_on-played-requires g c = let v = lent_survey c.args.rows.now c.args.pos.now c
     let p = c.args.plan.now in
     let form = started_form v p c.args.state.now c.args.opened c.requires.started in
     let h = some_words c.lists_of-lists.result.kind c.lists_of-lists.result.width (lists_width p c.lists_of-lists.result (form, c.lists_of-lists.ensures)) in
-    let wide : c.lists_of-lists.result.width ≡ width (plan_of p).ending = ap (λ (x : Listing). x.width) c.lists_of-lists.ensures in record { lists_of = (form, c.lists_of-lists.ensures); started = c.requires.started; asks = (c.requires.asks, simp length-take (omega arith)) }
+    let wide : c.lists_of-lists.result.width ≡ width (plan_of p).ending = ap (λ (x : Listing). x.width) c.lists_of-lists.ensures in
+    record { lists_of = (form, c.lists_of-lists.ensures); started = c.requires.started; asks = (c.requires.asks, simp length-take (omega arith)) }
 
 pub print_played-requires : goal.print_played-requires
 print_played-requires g c = let a = c.args in
@@ -61,7 +62,8 @@ print_played-requires g c = let a = c.args in
     let h = some_words c.lists_of-lists.result.kind c.lists_of-lists.result.width (lists_width p c.lists_of-lists.result (form, c.lists_of-lists.ensures)) in
     let wide : c.lists_of-lists.result.width ≡ width (plan_of p).ending = ap (λ (x : Listing). x.width) c.lists_of-lists.ensures in
     let opens = started_opens v p c.args.state.now c.args.opened c.requires.started in
-    let left = leaves_by Merged v p c.args.state.now c.args.opened c.requires.started _ _ _ most_turns c.go_on-played.result _ c.go_on-played.ensures in record {
+    let left = leaves_by Merged v p c.args.state.now c.args.opened c.requires.started _ _ _ most_turns c.go_on-played.result _ c.go_on-played.ensures
+    in record {
       lists_of = file_lists a.bytes.now a.rows.now a.pos.now a.osp.now p a.quantum c.requires.asks c.lists_of-lists.result (form, c.lists_of-lists.ensures);
       can_open = file_opens a.bytes.now a.rows.now a.pos.now a.osp.now p a.quantum c.requires.asks opens;
       left_to_show = file_left a.bytes.now a.rows.now a.pos.now a.osp.now p a.quantum c.requires.asks opens _ _ _ _ c.go_on-played.result left

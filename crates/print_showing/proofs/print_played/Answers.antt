@@ -10,7 +10,8 @@ slice_bounds-print_whole-end g c =
     sym (length-take-le _ c.args.kept.now h.0)
 
 pub print_whole-requires : goal.print_whole-requires
-print_whole-requires g c = let h = subst (LeftToShow c.args.bytes.now c.args.kept.now) c.in-Finished.is c.requires.left_to_show in record { lists_of = c.requires.lists_of; can_open = c.requires.can_open; list_shown = h.1 }
+print_whole-requires g c = let h = subst (LeftToShow c.args.bytes.now c.args.kept.now) c.in-Finished.is c.requires.left_to_show in
+    record { lists_of = c.requires.lists_of; can_open = c.requires.can_open; list_shown = h.1 }
 
 pub print_refused-requires : goal.print_refused-requires
 print_refused-requires g c =

@@ -32,8 +32,8 @@ returns-then-is_served c =
     (sym c.is_served.ensures ∙ c.if-is_served.true)
     c.take_list-taken.ensures
 
-pub returns : goal.returns
-returns c =
+pub returns-else-is_served : goal.returns-else-is_served
+returns-else-is_served c =
     let e = c.turn-turned.ensures.output_after in
     none_taken c.args.keeping _ c.args.kept.now c.args.used c.turn-turned.result _ _ (ap (λ (r : TurnResult). r.answer) e)
     (ap (λ (r : TurnResult). r.buffers.state) e) (ap (λ (r : TurnResult). r.buffers.output) e)

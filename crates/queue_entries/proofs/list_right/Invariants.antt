@@ -1,5 +1,5 @@
 -- The loop of `list_right` keeps that the list is right if the entries from the place on are.
-use Prim.Native.Nat.{◌-◌, ◌≤◌}
+use Prim.Native.Nat.{◌≤◌}
 use mathlib.Core.Path.{◌≡◌}
 use lib.ListN.{take, drop}
 use Rattle.queues.specs.Lists.{owners_in}
@@ -11,6 +11,3 @@ invariant-loop-i l =
     (l.i ≤ l.count)
     × (standing l.waiting (take l.count l.list) (owners_in (take l.few l.others))
     ≡ standing l.waiting (drop l.i (take l.count l.list)) (owners_in (take l.few l.others)))
-
-abbrev pub decreases-loop-i : goal.decreases-loop-i
-decreases-loop-i l = l.count - l.i

@@ -32,7 +32,11 @@ returns-then-not-kept_registers c = let a = c.args in
     record { report_after = shown.0; number = shown.1 }
 
 pub write_counts-requires : goal.write_counts-requires
-write_counts-requires c = let a = c.args in record { list_len_bound = kept_short (take a.given a.kept.now) (sym c.kept_registers.ensures ∙ not-false _ c.if-not-kept_registers.false-raw); report_words_in_bounds = c.if-report-lt-REPORT_WORDS.false }
+write_counts-requires c = let a = c.args in
+    record {
+      list_len_bound = kept_short (take a.given a.kept.now) (sym c.kept_registers.ensures ∙ not-false _ c.if-not-kept_registers.false-raw);
+      report_words_in_bounds = c.if-report-lt-REPORT_WORDS.false;
+    }
 
 pub returns : goal.returns
 returns c = let a = c.args in

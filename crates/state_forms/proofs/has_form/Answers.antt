@@ -21,7 +21,8 @@ year_is : (c : After-year_read) →
     c.year_read.result ≡ is_year_read (tables_of c.args.rows.now c.args.pos.now c.args.osp.now) (plan_of c.args.plan.now).years (year_in c.args.state.now)
 year_is c =
     c.year_read.ensures
-    ∙ year_told (tables_of c.args.rows.now c.args.pos.now c.args.osp.now) c.args.plan.now c.args.state.now c.requires.plan_value c.years_in.result c.years_in.ensures
+    ∙ year_told (tables_of c.args.rows.now c.args.pos.now c.args.osp.now) c.args.plan.now c.args.state.now c.requires.plan_value c.years_in.result
+    c.years_in.ensures
     c.number.result c.number.ensures
 
 pub returns-then-state-lt2 : goal.returns-then-state-lt2
@@ -30,23 +31,27 @@ returns-then-state-lt2 c =
 
 pub returns-then-kind-ne-SURVEY : goal.returns-then-kind-ne-SURVEY
 returns-then-kind-ne-SURVEY c =
-    sym (form_elsewhere (lent (goal.at.returns-then-kind-ne-SURVEY c).Start) (asked (goal.at.returns-then-kind-ne-SURVEY c).Start) c.args.state.now (λ e. c.if-kind-ne-SURVEY.true (c.kind.ensures ∙ e)))
+    sym (form_elsewhere (lent (goal.at.returns-then-kind-ne-SURVEY c).Start) (asked (goal.at.returns-then-kind-ne-SURVEY c).Start) c.args.state.now
+    (λ e. c.if-kind-ne-SURVEY.true (c.kind.ensures ∙ e)))
 
 pub returns-then-kind-ne-YEAR : goal.returns-then-kind-ne-YEAR
 returns-then-kind-ne-YEAR c =
-    sym (form_yearless (lent (goal.at.returns-then-kind-ne-YEAR c).Start) (asked (goal.at.returns-then-kind-ne-YEAR c).Start) c.args.state.now (sym c.kind.ensures ∙ c.if-kind-ne-SURVEY.false) (λ e. c.if-kind-ne-YEAR.true (c.kind-2.ensures ∙ e)))
+    sym (form_yearless (lent (goal.at.returns-then-kind-ne-YEAR c).Start) (asked (goal.at.returns-then-kind-ne-YEAR c).Start) c.args.state.now
+    (sym c.kind.ensures ∙ c.if-kind-ne-SURVEY.false) (λ e. c.if-kind-ne-YEAR.true (c.kind-2.ensures ∙ e)))
 
 pub year_read-requires : goal.year_read-requires
 year_read-requires c = record { right = c.requires.right; year_lt_term_values = omega (arith, c.number.ensures) }
 
 pub returns-then-not-year_read : goal.returns-then-not-year_read
 returns-then-not-year_read c =
-    sym (form_unread (lent (goal.at.returns-then-not-year_read c).Start) (asked (goal.at.returns-then-not-year_read c).Start) c.args.state.now (sym c.kind.ensures ∙ c.if-kind-ne-SURVEY.false) (sym c.kind-2.ensures ∙ c.if-kind-ne-YEAR.false)
+    sym (form_unread (lent (goal.at.returns-then-not-year_read c).Start) (asked (goal.at.returns-then-not-year_read c).Start) c.args.state.now
+    (sym c.kind.ensures ∙ c.if-kind-ne-SURVEY.false) (sym c.kind-2.ensures ∙ c.if-kind-ne-YEAR.false)
     c.year_read.result (year_is (goal.at.returns-then-not-year_read c).After-year_read) (not-true _ c.if-not-year_read.true-raw))
 
 pub returns : goal.returns
 returns c =
     c.has_shape.ensures
     ∙ ap (shape_behind (asked (goal.at.returns c).Start)) (rest_of c.args.state.now 2)
-    ∙ sym (form_behind (lent (goal.at.returns c).Start) (asked (goal.at.returns c).Start) c.args.state.now (sym c.kind.ensures ∙ c.if-kind-ne-SURVEY.false) (sym c.kind-2.ensures ∙ c.if-kind-ne-YEAR.false)
+    ∙ sym (form_behind (lent (goal.at.returns c).Start) (asked (goal.at.returns c).Start) c.args.state.now
+    (sym c.kind.ensures ∙ c.if-kind-ne-SURVEY.false) (sym c.kind-2.ensures ∙ c.if-kind-ne-YEAR.false)
     c.year_read.result (year_is (goal.at.returns c).After-year_read) (not-false _ c.if-not-year_read.false-raw))

@@ -19,11 +19,13 @@ returns-then-state-eq0 c =
 
 pub returns-then-not-position_right : goal.returns-then-not-position_right
 returns-then-not-position_right c =
-    sym (shape_elsewhere (lent (goal.at.returns-then-not-position_right c).Start) c.args.state.now (sym c.position_right.ensures ∙ not-true _ c.if-not-position_right.true-raw))
+    sym (shape_elsewhere (lent (goal.at.returns-then-not-position_right c).Start) c.args.state.now
+    (sym c.position_right.ensures ∙ not-true _ c.if-not-position_right.true-raw))
 
 pub returns-then-state-wide : goal.returns-then-state-wide
 returns-then-state-wide c =
-    sym (shape_longer (lent (goal.at.returns-then-state-wide c).Start) c.args.state.now (sym c.position_right.ensures ∙ not-false _ c.if-not-position_right.false-raw)
+    sym (shape_longer (lent (goal.at.returns-then-state-wide c).Start) c.args.state.now
+    (sym c.position_right.ensures ∙ not-false _ c.if-not-position_right.false-raw)
     (λ e. c.if-state-wide.true (let n = c.wide.ensures in let m = c.depth.ensures in omega arith)))
 
 pub returns : goal.returns
@@ -33,4 +35,5 @@ returns c =
     let w = c.if-state-eq0.false in
     c.all_places.ensures
     ∙ ap (all is_place) (rest_of c.args.state.now 1)
-    ∙ sym (shape_places (lent (goal.at.returns c).Start) c.args.state.now (sym c.position_right.ensures ∙ not-false _ c.if-not-position_right.false-raw) (omega arith))
+    ∙ sym (shape_places (lent (goal.at.returns c).Start) c.args.state.now
+    (sym c.position_right.ensures ∙ not-false _ c.if-not-position_right.false-raw) (omega arith))

@@ -1,6 +1,10 @@
 -- `last_right` meets its contract: from the first place of the range on, its end decides.
 use native.Mathlib.Omega.{arith}
 use mathlib.Core.Path.{◌≡◌, refl, sym, ap, ◌∙◌}
+use Prim.Native.Nat.{◌≤◌}
+use lib.Dec.{leb}
+use borrow.Author.Tests.{le-leb, lt-leb}
+use Rattle.state_saving.specs.Loading.{up_to_end}
 use Rattle.tables.specs.declared.Prefix.{Prefix}
 use Rattle.tables.specs.Tables.{Tables, tables_of}
 use Rattle.tables.specs.Ranges.{range_start, range_end}
@@ -21,14 +25,36 @@ prefix_is : (r : After-level_range-range) → prefix_of r.level_of.result ≡ (l
 prefix_is r =
     sym (level_prefix_lem r.args.year r.args.terms.now r.args.level r.args.bound.now r.level_of.result r.level_of.ensures _ refl)
 
-first_is_lem : (r : After-level_range-range) → r.level_range-range.result.first.0 ≡ range_start ((tables_of r.args.rows.now r.args.pos.now r.args.osp.now)) ((level_prefix r.args.year r.args.terms.now r.args.level r.args.bound.now))
+first_is_lem : (r : After-level_range-range) →
+    r.level_range-range.result.first.0 ≡ range_start ((tables_of r.args.rows.now r.args.pos.now r.args.osp.now))
+    ((level_prefix r.args.year r.args.terms.now r.args.level r.args.bound.now))
 first_is_lem r = r.level_range-range.ensures.first_value ∙ ap (range_start ((tables_of r.args.rows.now r.args.pos.now r.args.osp.now))) (prefix_is r)
 
-end_is : (r : After-level_range-range) → r.level_range-range.result.end.0 ≡ range_end ((tables_of r.args.rows.now r.args.pos.now r.args.osp.now)) ((level_prefix r.args.year r.args.terms.now r.args.level r.args.bound.now))
+end_is : (r : After-level_range-range) →
+    r.level_range-range.result.end.0 ≡ range_end ((tables_of r.args.rows.now r.args.pos.now r.args.osp.now))
+    ((level_prefix r.args.year r.args.terms.now r.args.level r.args.bound.now))
 end_is r = r.level_range-range.ensures.end_value ∙ ap (range_end ((tables_of r.args.rows.now r.args.pos.now r.args.osp.now))) (prefix_is r)
 
-pub returns-then-place-first : goal.returns-then-place-first
-returns-then-place-first c = record { right_value = sym (before_start (lent (goal.at.returns-then-place-first c).Start) (selected (goal.at.returns-then-place-first c).Start) c.args.place.0 (omega (arith, first_is_lem (goal.at.returns-then-place-first c).After-level_range-range, c.if-place-first.true))); ends = end_is (goal.at.returns-then-place-first c).After-level_range-range }
+-- from the first place on, the end decides
+decided_lem : (r : After-level_range-range) → r.level_range-range.result.first.0 ≤ r.args.place.0 → leb r.args.place.0 r.level_range-range.result.end.0
+    ≡ up_to_end (tables_of r.args.rows.now r.args.pos.now r.args.osp.now)
+    (level_prefix r.args.year r.args.terms.now r.args.level r.args.bound.now) r.args.place.0
+decided_lem r h =
+    from_start (tables_of r.args.rows.now r.args.pos.now r.args.osp.now) (level_prefix r.args.year r.args.terms.now r.args.level r.args.bound.now)
+    r.args.place.0 (omega (arith, first_is_lem r, h)) _ (end_is r)
+
+pub returns-then-place-range : goal.returns-then-place-range
+returns-then-place-range c =
+    let r = (goal.at.returns-then-place-range c).After-level_range-range in
+    let s = (goal.at.returns-then-place-range c).Start in
+    record { right_value = sym (before_start (lent s) (selected s) c.args.place.0 (omega (arith, first_is_lem r, c.if-place-range.true))); ends = tt }
+
+pub returns-then-place-range-2 : goal.returns-then-place-range-2
+returns-then-place-range-2 c =
+    let r = (goal.at.returns-then-place-range-2 c).After-level_range-range in
+    record { right_value = sym (le-leb _ _ c.if-place-range-2.true) ∙ decided_lem r c.if-place-range.false; ends = end_is r }
 
 pub returns : goal.returns
-returns c = record { right_value = from_start (lent (goal.at.returns c).Start) (selected (goal.at.returns c).Start) c.args.place.0 (omega (arith, first_is_lem (goal.at.returns c).After-level_range-range, c.if-place-first.false)) _ (end_is (goal.at.returns c).After-level_range-range); ends = end_is (goal.at.returns c).After-level_range-range }
+returns c =
+    let r = (goal.at.returns c).After-level_range-range in
+    record { right_value = sym (lt-leb _ _ c.if-place-range-2.false) ∙ decided_lem r c.if-place-range.false; ends = tt }

@@ -9,11 +9,18 @@ use Rattle.state_walks.proofs.places_right.Goals.{Start}
 abbrev lent : Start → Section
 lent s = section_of s.args.rows.now s.args.pos.now s.args.osp.now s.args.year
 
-pub returns-then-above : goal.returns-then-above
-returns-then-above c = let passes = c.if-above.true in
-    let b = c.upper_right-above.ensures.bound_after passes in
-    let right = sym c.upper_right-above.ensures.right_value ∙ passes in
-    let k = c.upper_right-above.ensures.ends passes in record { right_value = c.last_right-last.ensures.right_value ∙ sym (upper_passes (lent (goal.at.returns-then-above c).Start) c.args.terms.now c.args.c _ (record { right = right; bound = b })); bound_after = λ e. b; ends = λ e. (c.last_right-last.ensures.ends, k.0, k.1) }
+pub returns-in_err-ends : goal.returns-in_err-ends
+returns-in_err-ends c =
+    let fails = upper_fails (lent (goal.at.returns-in_err-ends c).Start) c.args.terms.now c.args.c (sym c.in_err-ends.ensures.right_value) in
+    rw c.from_residual.ensures (record { right_value = sym fails; bound_after = λ e. absurd_true e refl; ends = tt })
 
-pub returns : goal.returns
-returns c = let fails = upper_fails (lent (goal.at.returns c).Start) c.args.terms.now c.args.c (sym c.upper_right-above.ensures.right_value ∙ c.if-above.false) in record { right_value = sym fails; bound_after = λ e. absurd_true e refl; ends = λ e. absurd_true e refl }
+pub returns-in_err-end-clause-right_value : goal.returns-in_err-end-clause-right_value
+returns-in_err-end-clause-right_value c =
+    rw c.from_residual-in_err-end.ensures
+    (c.in_err-end.ensures.right_value ∙ sym (upper_passes (lent (goal.at.returns-in_err-end-clause-right_value c).Start) c.args.terms.now c.args.c _
+    (record { right = sym c.in_ok-ends.ensures.right_value; bound = c.in_ok-ends.ensures.bound_after refl })))
+
+pub returns-clause-right_value : goal.returns-clause-right_value
+returns-clause-right_value c =
+    c.in_ok-end.ensures.right_value ∙ sym (upper_passes (lent (goal.at.returns-clause-right_value c).Start) c.args.terms.now c.args.c _
+    (record { right = sym c.in_ok-ends.ensures.right_value; bound = c.in_ok-ends.ensures.bound_after refl }))

@@ -1,116 +1,93 @@
-use Prim.Native.Nat.{◌+◌, ◌-◌, ◌%◌}
-use mathlib.Core.Path.{◌≡◌, refl, sym, ap, ◌∙◌}
-use native.Mathlib.Omega.{arith}
-use lib.ListN.{length, get_or, take, drop, length-set}
-use Rattle.syntax_cells.specs.TableWords.{grammar_words}
+-- `feed` meets its contract. The invariant: the token comes to what it comes to with the symbols from a place on.
+use Rattle.std.proofs.Common.{◌+◌, ◌%◌, get_or, take, drop, length-set, sym, ◌∙◌, arith}
+use borrow.Author.Tests.{not-true, not-false}
+use Rattle.syntax_cells.specs.Finding.{placed_symbols}
 use Rattle.syntax_parses.proofs.Feeding.{feed_node, feed_refuse, feed_pass, feed_shift, feed_write, feed_end, placed_from}
 use Rattle.syntax_parses.proofs.feed.Goals as goal
 
-pub loop-at-init : goal.loop-at-init
-loop-at-init c = (omega arith, omega arith, refl, refl, omega arith, refl)
-
 pub loop-at-preserved-then-s-ge64 : goal.loop-at-preserved-then-s-ge64
 loop-at-preserved-then-s-ge64 c =
-    let a = c.args in
-    let e = length-set c.loop-at.out c.loop-at.m (get_or c.loop-at.stack c.loop-at.at 0) in (
-      omega arith,
-      omega arith,
-      omega arith,
-      omega (arith, e),
-      omega arith,
-      feed_node (a.token % 128) a.token c.loop-at.at c.loop-at.m c.loop-at.stack c.loop-at.out (omega arith) (omega arith) (omega arith) ∙ c.loop-at.invariant.5,
-    )
+    let t = c.args.token in
+    let l = c.loop-at in
+    let i = l.invariant in
+    let r = length-set l.out l.m (get_or l.stack l.at 0) in
+    record {
+      same_stack = i.same_stack;
+      same_room = omega (arith, r, i.same_room);
+      few = omega (arith, i.few);
+      same_end = feed_node (t % 128) t l.at l.m l.stack l.out (omega arith) (omega arith) (omega (arith, i.few, i.same_room, i.same_stack)) ∙ i.same_end;
+    }
 
-pub cell-c-requires : goal.cell-c-requires
-cell-c-requires c = (omega arith, omega arith, c.requires.3)
-
-pub shape_of-stack-then-c-eq0 : goal.shape_of-stack-then-c-eq0
-shape_of-stack-then-c-eq0 c = c.loop-at.invariant.2
-
-pub shape_of-out-then-c-eq0 : goal.shape_of-out-then-c-eq0
-shape_of-out-then-c-eq0 c = c.loop-at.invariant.3
-
-pub returns-then-c-eq0 : goal.returns-then-c-eq0
-returns-then-c-eq0 c =
-    let a = c.args in (
-      c.loop-at.invariant.2,
-      c.loop-at.invariant.3,
+pub returns-in-Refuse : goal.returns-in-Refuse
+returns-in-Refuse c =
+    let t = c.args.token in
+    let l = c.loop-at in
+    let i = l.invariant in
+    let w = rw c.in-Refuse.is at c.cell.ensures in (
+      i.same_stack,
+      i.same_room,
       tt,
-      feed_refuse (a.token % 128) a.token c.loop-at.at c.loop-at.m c.loop-at.stack c.loop-at.out (omega arith) c.cell-c.result (omega arith) c.cell-c.ensures.0
-          (omega arith) ∙ c.loop-at.invariant.5,
+      feed_refuse (t % 128) t l.at l.m l.stack l.out (omega arith) (omega arith) c.in-Refuse.fault w.0 ∙ i.same_end,
     )
 
-pub push-low-requires : goal.push-low-requires
-push-low-requires c =
-    let t : length c.args.table.now ≡ length grammar_words = ap length c.requires.3 in
-    (omega (arith, c.cell-c.ensures), omega arith, omega (arith, c.cell-c.ensures, t))
-
-pub shape_of-stack-then-c-eq3 : goal.shape_of-stack-then-c-eq3
-shape_of-stack-then-c-eq3 c =
-    c.push-low.ensures.1 ∙ c.loop-at.invariant.2
-
-pub shape_of-out-then-c-eq3 : goal.shape_of-out-then-c-eq3
-shape_of-out-then-c-eq3 c =
-    let a = c.args in
-    length-set c.loop-at.out c.loop-at.m a.token ∙ c.loop-at.invariant.3
-
-pub returns-then-c-eq3 : goal.returns-then-c-eq3
-returns-then-c-eq3 c =
-    let a = c.args in
-    let h = placed_from c.cell-c.result a.table.now (drop (c.loop-at.at + 1) c.loop-at.stack) (drop c.push-low.result c.push-low.new.stack) c.requires.3 c.push-low.ensures.2 in (
-      c.push-low.ensures.1 ∙ c.loop-at.invariant.2,
-      length-set c.loop-at.out c.loop-at.m a.token ∙ c.loop-at.invariant.3,
-      (omega (arith, c.push-low.ensures), omega (arith, c.push-low.ensures, c.cell-c.ensures), omega (arith, c.push-low.ensures, c.cell-c.ensures)),
-      feed_write (a.token % 128) a.token c.loop-at.at c.loop-at.m c.loop-at.stack c.loop-at.out (omega arith) c.cell-c.result (omega arith) c.cell-c.ensures.0
-          c.push-low.result c.push-low.new.stack h (omega arith) (omega arith) ∙ c.loop-at.invariant.5,
+pub returns-then-not-placing : goal.returns-then-not-placing
+unfolding placed_symbols
+returns-then-not-placing c =
+    let t = c.args.token in
+    let l = c.loop-at in
+    let i = l.invariant in
+    let p = c.in-Shift.placing in
+    let w = rw c.in-Shift.is at c.cell.ensures in
+    let d = c.push-low.ensures in
+    let b = not-true p.writes c.if-not-placing.true in
+    let s = rw b at w.0 in
+    let f = placed_from p c.args.table.now (drop (l.at + 1) l.stack) (drop c.push-low.result c.push-low.new.stack) c.requires.3 d.2 in (
+      omega (arith, d.1, i.same_stack),
+      i.same_room,
+      (omega (arith, d.0, i.same_stack), omega (arith, d.0, w.1), omega (arith, d.0, w.1, i.few)),
+      feed_shift (t % 128) t l.at l.m l.stack l.out (omega arith) (omega arith) c.push-low.result c.push-low.new.stack (placed_symbols p) f s ∙ i.same_end,
     )
 
-pub push-low-requires-then-c-eq2 : goal.push-low-requires-then-c-eq2
-push-low-requires-then-c-eq2 c =
-    let t : length c.args.table.now ≡ length grammar_words = ap length c.requires.3 in
-    (omega (arith, c.cell-c.ensures), omega arith, omega (arith, c.cell-c.ensures, t))
-
-pub shape_of-stack-then-c-eq2 : goal.shape_of-stack-then-c-eq2
-shape_of-stack-then-c-eq2 c =
-    c.push-low-then-c-eq2.ensures.1 ∙ c.loop-at.invariant.2
-
-pub shape_of-out-then-c-eq2 : goal.shape_of-out-then-c-eq2
-shape_of-out-then-c-eq2 c = c.loop-at.invariant.3
-
-pub returns-then-c-eq2 : goal.returns-then-c-eq2
-returns-then-c-eq2 c =
-    let a = c.args in
-    let h = placed_from c.cell-c.result a.table.now (drop (c.loop-at.at + 1) c.loop-at.stack) (drop c.push-low-then-c-eq2.result c.push-low-then-c-eq2.new.stack) c.requires.3 c.push-low-then-c-eq2.ensures.2 in (
-      c.push-low-then-c-eq2.ensures.1 ∙ c.loop-at.invariant.2,
-      c.loop-at.invariant.3,
-      (omega (arith, c.push-low-then-c-eq2.ensures), omega (arith, c.push-low-then-c-eq2.ensures, c.cell-c.ensures), omega (arith, c.push-low-then-c-eq2.ensures, c.cell-c.ensures)),
-      feed_shift (a.token % 128) a.token c.loop-at.at c.loop-at.m c.loop-at.stack c.loop-at.out (omega arith) c.cell-c.result (omega arith) c.cell-c.ensures.0
-          c.push-low-then-c-eq2.result c.push-low-then-c-eq2.new.stack h (omega arith) ∙ c.loop-at.invariant.5,
+pub returns-in-Shift : goal.returns-in-Shift
+unfolding placed_symbols
+returns-in-Shift c =
+    let t = c.args.token in
+    let l = c.loop-at in
+    let i = l.invariant in
+    let p = c.in-Shift.placing in
+    let w = rw c.in-Shift.is at c.cell.ensures in
+    let d = c.push-low.ensures in
+    let b = not-false p.writes c.if-not-placing.false in
+    let s = rw b at w.0 in
+    let r = length-set l.out l.m t in
+    let f = placed_from p c.args.table.now (drop (l.at + 1) l.stack) (drop c.push-low.result c.push-low.new.stack) c.requires.3 d.2 in (
+      omega (arith, d.1, i.same_stack),
+      omega (arith, r, i.same_room),
+      (omega (arith, d.0, i.same_stack), omega (arith, d.0, w.1), omega (arith, d.0, w.1, i.few)),
+      feed_write (t % 128) t l.at l.m l.stack l.out (omega arith) (omega arith) c.push-low.result c.push-low.new.stack (placed_symbols p) f s
+          (omega (arith, i.few, i.same_room, i.same_stack)) ∙ i.same_end,
     )
 
 pub loop-at-preserved : goal.loop-at-preserved
 loop-at-preserved c =
-    let a = c.args in (
-      omega arith,
-      omega arith,
-      omega arith,
-      omega arith,
-      omega arith,
-      feed_pass (a.token % 128) a.token c.loop-at.at c.loop-at.m c.loop-at.stack c.loop-at.out (omega arith) c.cell-c.result (omega arith) c.cell-c.ensures.0 (omega arith)
-          ∙ c.loop-at.invariant.5,
-    )
-
-pub shape_of-stack : goal.shape_of-stack
-shape_of-stack c = c.loop-at.invariant.2
-
-pub shape_of-out : goal.shape_of-out
-shape_of-out c = c.loop-at.invariant.3
+    let t = c.args.token in
+    let l = c.loop-at in
+    let i = l.invariant in
+    let w = rw c.in-Pass.is at c.cell.ensures in
+    record {
+      same_stack = i.same_stack;
+      same_room = i.same_room;
+      few = omega (arith, i.few);
+      same_end = feed_pass (t % 128) t l.at l.m l.stack l.out (omega arith) (omega arith) w.0 ∙ i.same_end;
+    }
 
 pub returns : goal.returns
 returns c =
-    let a = c.args in (
-      c.loop-at.invariant.2,
-      c.loop-at.invariant.3,
+    let t = c.args.token in
+    let l = c.loop-at in
+    let i = l.invariant in (
+      i.same_stack,
+      i.same_room,
       tt,
-      sym (feed_end (a.token % 128) a.token c.loop-at.at c.loop-at.stack (take c.loop-at.m c.loop-at.out) (omega arith)) ∙ c.loop-at.invariant.5,
+      sym (feed_end (t % 128) t l.at l.stack (take l.m l.out) (omega (arith, l.auto.at-end, c.loop-at-test.false, i.same_stack, c.requires.1))) ∙ i.same_end,
     )

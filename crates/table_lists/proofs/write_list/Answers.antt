@@ -11,7 +11,10 @@ use Rattle.tables.proofs.RowNumbers.{numbers_named}
 use Rattle.table_lists.proofs.write_list.Goals as goal
 
 pub sort-requires : goal.sort-requires
-sort-requires c = record { list_value = rw c.number.ensures (numbers_named c.args.rows.now (length c.args.list.now) c.requires.whole); list_in_bounds = omega (arith, c.number.auto.list, c.requires.spared) }
+sort-requires c = record {
+  list_value = rw c.number.ensures (numbers_named c.args.rows.now (length c.args.list.now) c.requires.whole);
+  list_in_bounds = omega (arith, c.number.auto.list, c.requires.spared);
+}
 
 pub returns : goal.returns
 unfolding row_numbers

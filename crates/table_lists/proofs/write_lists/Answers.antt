@@ -39,7 +39,8 @@ slice_bounds-write_list-end-3 c =
 
 pub write_list-requires : goal.write_list-requires
 write_list-requires c =
-    room c.args.rows.now c.args.count c.requires.column_count_in_bounds.0 _ _ (length-take-le c.args.count c.args.pos.now c.requires.column_count_in_bounds.1) c.requires.count_le_most_rows.0
+    room c.args.rows.now c.args.count c.requires.column_count_in_bounds.0 _ _
+    (length-take-le c.args.count c.args.pos.now c.requires.column_count_in_bounds.1) c.requires.count_le_most_rows.0
     c.requires.count_le_most_rows.1
 
 pub slice_bounds-write_list-end-4 : goal.slice_bounds-write_list-end-4
@@ -52,8 +53,13 @@ slice_bounds-write_list-end-6 c =
 
 pub write_list-requires-2 : goal.write_list-requires-2
 write_list-requires-2 c =
-    room c.args.rows.now c.args.count c.requires.column_count_in_bounds.0 _ _ (length-take-le c.args.count c.args.osp.now c.requires.column_count_in_bounds.2) c.requires.count_le_most_rows.0
+    room c.args.rows.now c.args.count c.requires.column_count_in_bounds.0 _ _
+    (length-take-le c.args.count c.args.osp.now c.requires.column_count_in_bounds.2) c.requires.count_le_most_rows.0
     (omega (arith, c.requires.count_le_most_rows.1, c.write_list.auto.spare))
 
 pub returns : goal.returns
-returns c = record { pos_after = over_list c.args.rows.now c.args.count c.requires.column_count_in_bounds.0 Pos c.write_list.new.list c.args.pos.now c.write_list.ensures; osp_after = over_list c.args.rows.now c.args.count c.requires.column_count_in_bounds.0 Osp c.write_list-2.new.list c.args.osp.now c.write_list-2.ensures }
+returns c = record {
+  pos_after =
+      over_list c.args.rows.now c.args.count c.requires.column_count_in_bounds.0 Pos c.write_list.new.list c.args.pos.now c.write_list.ensures;
+  osp_after = over_list c.args.rows.now c.args.count c.requires.column_count_in_bounds.0 Osp c.write_list-2.new.list c.args.osp.now c.write_list-2.ensures;
+}

@@ -5,7 +5,7 @@ use mathlib.Core.Path.{◌≡◌, sym, ◌∙◌, ap}
 use mathlib.Core.Bool.{true}
 use native.Mathlib.Omega.{arith}
 use lib.ListN.{length}
-use borrow.Author.Tests.{not-true, not-false, eqb-true}
+use borrow.Author.Tests.{eqb-true}
 use Rattle.words.specs.Tests.{first_failing, number_of}
 use Rattle.tables.specs.declared.Order.TheVariants.{Spo}
 use Rattle.tables.specs.Tables.{Tables, tables_of, row_count, lengths_right, kinds_right, years_right, ascends, table_tests}
@@ -28,7 +28,7 @@ abbrev checked : Else-not-lengths_right → Tables
 checked c = (tables_of c.args.rows.now c.args.pos.now c.args.osp.now)
 
 lengths : (c : Else-not-lengths_right) → lengths_right (checked c) ≡ true
-lengths c = sym c.lengths_right.ensures ∙ not-false _ c.if-not-lengths_right.false-raw
+lengths c = sym c.lengths_right.ensures ∙ c.if-not-lengths_right.false
 
 sized : (c : Else-not-lengths_right) → Sized (checked c)
 sized c = lengths_sized (checked c) (lengths c)
@@ -58,28 +58,34 @@ by_orders w z fit one p =
     orders_say (walked w) z fit p w.years_alike-alike.result one ∙ ap refusal_after (sym w.walk-orders.ensures)
 
 pub returns-then-not-lengths_right : goal.returns-then-not-lengths_right
-returns-then-not-lengths_right c = sym (lengths_first (lent (goal.at.returns-then-not-lengths_right c).Start) (sym c.lengths_right.ensures ∙ not-true _ c.if-not-lengths_right.true-raw))
+returns-then-not-lengths_right c =
+    sym (lengths_first (lent (goal.at.returns-then-not-lengths_right c).Start) (sym c.lengths_right.ensures ∙ c.if-not-lengths_right.true))
 
 pub returns-then-pos-eq0 : goal.returns-then-pos-eq0
 returns-then-pos-eq0 c =
     let z = sized (goal.at.returns-then-pos-eq0 c).Else-not-lengths_right in
-    sym (no_rows_fact (checked (goal.at.returns-then-pos-eq0 c).Else-not-lengths_right) z (fits (goal.at.returns-then-pos-eq0 c).Else-not-lengths_right) (omega (arith, c.if-pos-eq0.true)))
+    sym (no_rows_fact (checked (goal.at.returns-then-pos-eq0 c).Else-not-lengths_right) z
+    (fits (goal.at.returns-then-pos-eq0 c).Else-not-lengths_right) (omega (arith, c.if-pos-eq0.true)))
 
 pub overflow_cast-count : goal.overflow_cast-count
 overflow_cast-count c = let z = sized (goal.at.overflow_cast-count c).Else-not-lengths_right in omega arith
 
 pub years_alike-alike-requires : goal.years_alike-alike-requires
-years_alike-alike-requires c = let z = sized (goal.at.years_alike-alike-requires c).Else-not-lengths_right in record { column_count_value = omega arith; count_nonzero = omega (arith, c.if-pos-eq0.false) }
+years_alike-alike-requires c = let z = sized (goal.at.years_alike-alike-requires c).Else-not-lengths_right in
+    record { column_count_value = omega arith; count_nonzero = omega (arith, c.if-pos-eq0.false) }
 
 pub walk-orders-requires : goal.walk-orders-requires
-walk-orders-requires c = let z = sized (goal.at.walk-orders-requires c).Else-not-lengths_right in record { sized = z; nonzero = omega (arith, c.if-pos-eq0.false) }
+walk-orders-requires c = let z = sized (goal.at.walk-orders-requires c).Else-not-lengths_right in
+    record { sized = z; nonzero = omega (arith, c.if-pos-eq0.false) }
 
 pub passes-requires : goal.passes-requires
 passes-requires c = let z = sized (goal.at.passes-requires c).Else-not-lengths_right in record {
   sized = z;
   nonzero = omega (arith, c.if-pos-eq0.false);
   last_named = λ e o.
-      all_named (looked (goal.at.passes-requires c).After-years_alike-alike) z (fits (goal.at.passes-requires c).Else-not-lengths_right) c.years_alike-alike.result (alike (goal.at.passes-requires c).After-years_alike-alike (sized (goal.at.passes-requires c).Else-not-lengths_right)) (sym c.walk-orders.ensures ∙ e)
+      all_named (looked (goal.at.passes-requires c).After-years_alike-alike) z
+      (fits (goal.at.passes-requires c).Else-not-lengths_right) c.years_alike-alike.result
+      (alike (goal.at.passes-requires c).After-years_alike-alike (sized (goal.at.passes-requires c).Else-not-lengths_right)) (sym c.walk-orders.ensures ∙ e)
       o (row_count (looked (goal.at.passes-requires c).After-years_alike-alike) - 1) (omega (arith, c.if-pos-eq0.false));
 }
 
@@ -90,9 +96,15 @@ returns-then-passes c =
     let fit = fits (goal.at.returns-then-passes c).Else-not-lengths_right in
     let y = c.passes.ensures c.if-passes.true in
     let r = sym c.walk-orders.ensures ∙ y.all_right in
-    let one = alike (goal.at.returns-then-passes c).After-years_alike-alike z (own_up t z fit _ (alike (goal.at.returns-then-passes c).After-years_alike-alike (sized (goal.at.returns-then-passes c).Else-not-lengths_right)) r) y.one in
-    let says = ends_say t one (all_named t z fit _ (alike (goal.at.returns-then-passes c).After-years_alike-alike (sized (goal.at.returns-then-passes c).Else-not-lengths_right)) r) (all_up t z fit _ (alike (goal.at.returns-then-passes c).After-years_alike-alike (sized (goal.at.returns-then-passes c).Else-not-lengths_right)) r) y.ends in
-    sym (orders_say t z fit says _ (alike (goal.at.returns-then-passes c).After-years_alike-alike (sized (goal.at.returns-then-passes c).Else-not-lengths_right)) ∙ ap refusal_after r)
+    let one = alike (goal.at.returns-then-passes c).After-years_alike-alike z
+    (own_up t z fit _ (alike (goal.at.returns-then-passes c).After-years_alike-alike
+    (sized (goal.at.returns-then-passes c).Else-not-lengths_right)) r) y.one in
+    let says = ends_say t one (all_named t z fit _
+    (alike (goal.at.returns-then-passes c).After-years_alike-alike (sized (goal.at.returns-then-passes c).Else-not-lengths_right)) r)
+    (all_up t z fit _ (alike (goal.at.returns-then-passes c).After-years_alike-alike
+    (sized (goal.at.returns-then-passes c).Else-not-lengths_right)) r) y.ends in
+    sym (orders_say t z fit says _
+    (alike (goal.at.returns-then-passes c).After-years_alike-alike (sized (goal.at.returns-then-passes c).Else-not-lengths_right)) ∙ ap refusal_after r)
 
 pub first_refusal-requires : goal.first_refusal-requires
 first_refusal-requires c = let z = sized (goal.at.first_refusal-requires c).Else-not-lengths_right in omega arith
@@ -102,5 +114,6 @@ returns c =
     let t = checked (goal.at.returns c).Else-not-lengths_right in
     c.first_refusal.ensures
     ∙ ap (λ n. refusal_with n c.walk-orders.result) (rows_alone t.rows t.pos t.osp)
-    ∙ sym (refusal_with_lem t (sized (goal.at.returns c).Else-not-lengths_right) c.walk-orders.result (by_orders (goal.at.returns c).After-walk-orders (sized (goal.at.returns c).Else-not-lengths_right)
+    ∙ sym (refusal_with_lem t (sized (goal.at.returns c).Else-not-lengths_right) c.walk-orders.result
+    (by_orders (goal.at.returns c).After-walk-orders (sized (goal.at.returns c).Else-not-lengths_right)
     (fits (goal.at.returns c).Else-not-lengths_right) (alike (goal.at.returns c).After-years_alike-alike (sized (goal.at.returns c).Else-not-lengths_right))))

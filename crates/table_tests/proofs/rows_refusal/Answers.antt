@@ -1,47 +1,34 @@
--- `table_tests::rows_refusal` meets its contract. The loop's invariant: a row starts at `at`, and `kinds` and `years` say whether the rows
--- before it have right kinds and years.
-use Prim.Native.Nat.{◌-◌, zero-le}
-use mathlib.Core.Path.{◌≡◌, refl, sym, ◌∙◌, ap₂}
-use mathlib.Core.Bool.{Bool, true, false, cond, ◌&&◌}
-use native.Mathlib.Omega.{arith}
-use lib.ListN.{length}
-use borrow.Author.Tests.{not-true, not-false}
-use mathlib.Core.List.{[]}
-use Rattle.tables.specs.Tables.{tables_of}
+-- `table_tests::rows_refusal` meets its contract. The loop's invariant: `kinds` and `years` say whether the rows before `row` have right kinds and years.
+use Rattle.std.proofs.Common.{◌≡◌, ◌/◌, Bool, true, false, cond, [], length, refl, sym, ◌∙◌, arith}
+use Rattle.tables.specs.Tables.{tables_of, column_count}
 use Rattle.table_tests.specs.Refusals.{rows_refusal}
 use Rattle.table_tests.proofs.RowKinds.{kinds_none, years_none, kinds_next, years_next, rows_all}
 use Rattle.table_tests.proofs.rows_refusal.Goals as goal
-use Rattle.table_tests.proofs.rows_refusal.Goals.{At-loop-at}
+use Rattle.table_tests.proofs.rows_refusal.Goals.{At-loop-row}
 
-pub loop-at-init : goal.loop-at-init
-loop-at-init c =
-    let a = c.args in
-    (refl, zero-le, kinds_none a.rows.now, years_none a.rows.now)
+pub loop-row-init : goal.loop-row-init
+loop-row-init c = (kinds_none c.args.rows.now, years_none c.args.rows.now)
 
-pub loop-at-preserved : goal.loop-at-preserved
-loop-at-preserved c =
-    let rows = c.args.rows.now in (
-      omega arith,
-      omega arith,
-      c.both-kinds.ensures ∙ ap₂ ◌&&◌ c.loop-at.invariant.2 c.row_right.ensures ∙ kinds_next rows c.loop-at.at c.loop-at.invariant.0,
-      c.both-years.ensures ∙ ap₂ ◌&&◌ c.loop-at.invariant.3 c.year_right.ensures ∙ years_next rows c.loop-at.at c.loop-at.invariant.0,
+pub loop-row-preserved : goal.loop-row-preserved
+loop-row-preserved c =
+    let i = c.loop-row.invariant in (
+      kinds_next c.args.rows.now c.loop-row.row c.loop-row.kinds c.row_right-kinds.result i.0 c.row_right-kinds.ensures,
+      years_next c.args.rows.now c.loop-row.row c.loop-row.years c.year_right-years.result i.1 c.year_right-years.ensures,
     )
 
 -- what the answer is by the two tests
-answer : (l : At-loop-at) (kinds years : Bool) →
+answer : (l : At-loop-row) (kinds years : Bool) →
     let rows = l.args.rows.now in
-    l.loop-at.at ≡ length rows → l.loop-at.kinds ≡ kinds → l.loop-at.years ≡ years
-    → rows_refusal (tables_of rows [] []) ≡ cond kinds (cond years 0 23) 2
+    l.loop-row.row ≡ length rows / column_count → l.loop-row.kinds ≡ kinds → l.loop-row.years ≡ years
+    → cond kinds (cond years 0 23) 2 ≡ rows_refusal (tables_of rows [] [])
 answer l kinds years h k y =
-    rows_all l.args.rows.now l.loop-at.at h kinds years (sym k ∙ l.loop-at.invariant.2) (sym y ∙ l.loop-at.invariant.3)
+    sym (rows_all l.args.rows.now l.loop-row.row h kinds years (sym k ∙ l.loop-row.invariant.0) (sym y ∙ l.loop-row.invariant.1))
 
 pub returns-then-not-kinds : goal.returns-then-not-kinds
-returns-then-not-kinds c = sym (answer (goal.at.returns-then-not-kinds c).At-loop-at false c.loop-at.years (omega arith) (not-true _ c.if-not-kinds.true-raw) refl)
+returns-then-not-kinds c = answer (goal.at.returns-then-not-kinds c).At-loop-row false c.loop-row.years (omega arith) c.if-not-kinds.true refl
 
 pub returns-then-not-years : goal.returns-then-not-years
-returns-then-not-years c =
-    sym (answer (goal.at.returns-then-not-years c).At-loop-at true false (omega arith) (not-false _ c.if-not-kinds.false-raw) (not-true _ c.if-not-years.true-raw))
+returns-then-not-years c = answer (goal.at.returns-then-not-years c).At-loop-row true false (omega arith) c.if-not-kinds.false c.if-not-years.true
 
 pub returns : goal.returns
-returns c =
-    sym (answer (goal.at.returns c).At-loop-at true true (omega arith) (not-false _ c.if-not-kinds.false-raw) (not-false _ c.if-not-years.false-raw))
+returns c = answer (goal.at.returns c).At-loop-row true true (omega arith) c.if-not-kinds.false c.if-not-years.false

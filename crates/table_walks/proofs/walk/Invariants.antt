@@ -1,29 +1,20 @@
-use Rattle.std.proofs.Common.{◌≡◌, ◌+◌, ◌-◌, ◌<◌, ◌≤◌, true, drop}
+use Rattle.std.proofs.Common.{◌≡◌, ◌-◌, true, drop}
 use Rattle.sequences.specs.Sequences.{lex_before}
 use Rattle.tables.specs.Tables.{tables_of}
-use Rattle.table_walk_keys.specs.Walk.{order_count, key_count, keys_at, right_upto}
+use Rattle.table_walk_keys.specs.Walk.{keys_at, right_upto}
 use Rattle.table_walk_keys.proofs.Walking.{RightBefore}
 use Rattle.table_walks.proofs.walk.Given as goal
 
-abbrev pub invariant-columns : goal.invariant-columns
-invariant-columns l =
-    (l.column < key_count) × (l.before ≡ lex_before (drop (l.column + 1) l.last) (drop (l.column + 1) l.next))
+-- whether the row comes before the next by the columns from `column` on
+abbrev pub invariant-loop-column : goal.invariant-loop-column
+invariant-loop-column l = l.before ≡ lex_before (drop l.column l.last) (drop l.column l.next)
 
-abbrev pub decreases-columns : goal.decreases-columns
-decreases-columns l = l.column
+-- of this order the places before `place` are right, and `last` has the keys of the one before it
+abbrev pub invariant-loop-place : goal.invariant-loop-place
+invariant-loop-place l =
+    let t = tables_of l.own l.by_predicate l.by_object in
+    (l.last ≡ keys_at l.alike l.order t (l.place - 1)) × (right_upto l.alike t l.order l.place ≡ true)
 
-abbrev pub invariant-places : goal.invariant-places
-invariant-places l =
-    (1 ≤ l.place)
-    × (l.place ≤ l.short)
-    × (l.last ≡ keys_at l.alike l.order (tables_of l.own l.by_predicate l.by_object) (l.place - 1))
-    × (right_upto l.alike (tables_of l.own l.by_predicate l.by_object) l.order l.place ≡ true)
-
-abbrev pub decreases-places : goal.decreases-places
-decreases-places l = l.short - l.place
-
-abbrev pub invariant-orders : goal.invariant-orders
-invariant-orders l = RightBefore l.alike (tables_of l.own l.by_predicate l.by_object) l.turn
-
-abbrev pub decreases-orders : goal.decreases-orders
-decreases-orders l = order_count - l.turn
+-- the orders before `turn` are right
+abbrev pub invariant-loop-turn : goal.invariant-loop-turn
+invariant-loop-turn l = RightBefore l.alike (tables_of l.own l.by_predicate l.by_object) l.turn

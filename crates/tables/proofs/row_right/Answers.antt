@@ -5,5 +5,4 @@ use Rattle.tables.proofs.row_right.Goals as goal
 
 pub returns : goal.returns
 unfolding row_right all_below
-returns c =
-    rw (c.both-3.ensures, c.both-2.ensures, c.both.ensures, c.kind-o.ensures, c.kind-p.ensures, c.kind-s.ensures, c.kind-y.ensures)
+returns c = rw (c.kind-o.ensures, c.kind-p.ensures, c.kind-s.ensures, c.kind-y.ensures)

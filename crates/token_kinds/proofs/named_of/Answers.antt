@@ -1,26 +1,10 @@
 -- `named_of` meets its contract.
 use borrow.Author.Tests.{eq-eqb, ne_eqb}
 use Rattle.token_runs.specs.RunClasses.{past_end}
-use Rattle.token_runs.proofs.Advancing.{point_there}
 use Rattle.token_kinds.proofs.TokensRead.{named_read}
 use mathlib.Core.Path.{refl, sym, ◌∙◌}
-use native.Mathlib.Omega.{arith}
 use lib.ListN.{get_or}
 use Rattle.token_kinds.proofs.named_of.Goals as goal
-
-pub overflow_sub-end : goal.overflow_sub-end
-overflow_sub-end c = omega (arith, c.dotted_end-end.ensures.1)
-
-pub overflow_add-end : goal.overflow_add-end
-overflow_add-end c = omega (arith, c.dotted_end-end.ensures.2)
-
-pub overflow_add-end-then-point_at-eq58 : goal.overflow_add-end-then-point_at-eq58
-overflow_add-end-then-point_at-eq58 c = omega (arith, c.dotted_end-end.ensures.2)
-
-pub prefixed_of-requires : goal.prefixed_of-requires
-prefixed_of-requires c =
-    let h = point_there c.args.points.now c.dotted_end-end.result 0x3A (omega arith) (sym c.point_at.ensures ∙ c.if-point_at-eq58.true) in
-    (omega (arith, c.dotted_end-end.ensures.1), omega (arith, h), c.requires.1)
 
 pub returns-then-point_at-eq58 : goal.returns-then-point_at-eq58
 returns-then-point_at-eq58 c =
@@ -34,4 +18,4 @@ returns c =
     let a = c.args in
     let p = a.points.now in
     let q = ne_eqb (get_or p c.dotted_end-end.result past_end) 0x3A (λ e. c.if-point_at-eq58.false (c.point_at.ensures ∙ e)) in
-    c.word_of.ensures ∙ sym (named_read p a.from a.c c.dotted_end-end.result c.dotted_end-end.ensures.1 c.dotted_end-end.ensures.0 ∙ rw q refl)
+    c.word_token.ensures ∙ sym (named_read p a.from a.c c.dotted_end-end.result c.dotted_end-end.ensures.1 c.dotted_end-end.ensures.0 ∙ rw q refl)

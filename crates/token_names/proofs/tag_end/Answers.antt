@@ -1,30 +1,25 @@
 -- `tag_end` meets its contract. The invariant: where all parts end is where those from a place on do.
 use borrow.Author.Tests.{not-true, not-false}
 use Rattle.token_names.proofs.Dotting.{tag_over, tag_on, tag_stop}
-use Prim.Native.Nat.{◌-◌}
-use mathlib.Core.Path.{refl, sym, ◌∙◌}
+use mathlib.Core.Path.{◌≡◌, sym, ◌∙◌}
+use lib.ListN.{length}
 use native.Mathlib.Omega.{arith}
 use Rattle.token_names.proofs.tag_end.Goals as goal
 
-pub loop-at-init : goal.loop-at-init
-loop-at-init c = (omega arith, omega (arith, c.requires), refl)
-
 pub returns-then-not-in_tag : goal.returns-then-not-in_tag
 returns-then-not-in_tag c =
-    let a = c.args in
     let at = c.loop-at.at in
     let t = sym c.in_tag.ensures ∙ not-true c.in_tag.result c.if-not-in_tag.true-raw in
-    (sym (c.loop-at.invariant.2 ∙ tag_stop a.points.now at at (omega arith) t), omega arith, omega arith)
+    (sym (c.loop-at.invariant ∙ tag_stop c.args.points.now at at (omega arith) t), omega arith, omega arith)
 
 pub loop-at-preserved : goal.loop-at-preserved
 loop-at-preserved c =
-    let a = c.args in
     let at = c.loop-at.at in
     let t = sym c.in_tag.ensures ∙ not-false c.in_tag.result c.if-not-in_tag.false-raw in
-    (omega arith, omega arith, c.loop-at.invariant.2 ∙ tag_on a.points.now at at (omega arith) t)
+    c.loop-at.invariant ∙ tag_on c.args.points.now at at (omega arith) t
 
 pub returns : goal.returns
 returns c =
-    let a = c.args in
     let at = c.loop-at.at in
-    (sym (c.loop-at.invariant.2 ∙ tag_over a.points.now at at (omega (arith, c.loop-at-test.false))), omega arith, omega arith)
+    let l : length c.args.points.now ≡ at = omega (arith, c.loop-at.auto.at-end, c.loop-at-test.false) in
+    (l ∙ sym (c.loop-at.invariant ∙ tag_over c.args.points.now at at (omega (arith, l))), omega arith, omega arith)

@@ -4,10 +4,9 @@ use Rattle.tokens.specs.Tokens.{tokens_from, tokens_of}
 use Rattle.tokens.specs.TokenWords.{kind_number, token_words}
 use Rattle.tokens.proofs.Passing.{skipped_blanks, skipped_tokens, token_span, tokens_next, tokens_over}
 use Rattle.token_passes.proofs.ThreeWords.{three_long, three_written, three_behind}
-use Prim.Native.Nat.{◌+◌, ◌-◌, ◌≤◌, ◌<◌}
+use Prim.Native.Nat.{◌+◌, ◌≤◌, ◌<◌}
 use native.Mathlib.Nat.{add-zero}
 use mathlib.Core.Path.{refl, sym, ap, ◌∙◌}
-use mathlib.Core.Bool.{false}
 use mathlib.Core.List.{[], ◌∷◌, ◌++◌, append-nil}
 use native.Mathlib.Omega.{arith}
 use lib.ListN.{length, take, drop}
@@ -24,9 +23,6 @@ loop-at-init c =
       refl,
     )
 
-pub read_token-t-requires : goal.read_token-t-requires
-read_token-t-requires c = (omega arith, c.requires.1)
-
 pub write_token-requires : goal.write_token-requires
 write_token-requires c =
     let a = c.args in
@@ -35,10 +31,6 @@ write_token-requires c =
     let n = c.loop-at.n in
     let q = token_span p at (omega arith) c.read_token-t.result c.read_token-t.ensures in
     (omega (arith, c.requires.2, c.loop-at.invariant.1, c.loop-at.invariant.2), omega (arith, q.2, c.requires.0), omega (arith, q.2, c.requires.0))
-
-pub overflow_add-n : goal.overflow_add-n
-overflow_add-n c =
-    omega (arith, c.requires.2, c.loop-at.invariant.1, c.loop-at.invariant.0)
 
 pub overflow_add-t : goal.overflow_add-t
 overflow_add-t c =
@@ -92,24 +84,6 @@ loop-at-preserved c =
       u ∙ ap (λ x. take (n + 3) x ++ rest) (sym put),
       ap (drop (n + 3)) put ∙ three_behind b n k t.start t.size room a.tokens.now i.5,
     )
-
-pub write_token-requires-2 : goal.write_token-requires-2
-write_token-requires-2 c =
-    (omega (arith, c.requires.2, c.loop-at.invariant.0, c.loop-at.invariant.1, c.loop-at.invariant.2), omega (arith, c.requires.0, c.loop-at.invariant.0), omega arith)
-
-pub overflow_add-result : goal.overflow_add-result
-overflow_add-result c =
-    omega (arith, c.requires.2, c.loop-at.invariant.0, c.loop-at.invariant.1)
-
-pub shape_of-tokens : goal.shape_of-tokens
-shape_of-tokens c =
-    let a = c.args in
-    let p = a.points.now in
-    let at = c.loop-at.at in
-    let n = c.loop-at.n in
-    let b = c.loop-at.tokens in
-    let i = c.loop-at.invariant in
-    ap length c.write_token-2.ensures ∙ three_long b n 0 at 0 (omega (arith, c.requires.2, i.0, i.1, i.2)) ∙ i.2
 
 pub returns : goal.returns
 returns c =

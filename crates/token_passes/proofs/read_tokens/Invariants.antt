@@ -1,7 +1,7 @@
 use Rattle.tokens.specs.Runs.{blanks_length}
 use Rattle.tokens.specs.Tokens.{tokens_from, tokens_of}
 use Rattle.tokens.specs.TokenWords.{token_words}
-use Prim.Native.Nat.{◌+◌, ◌-◌, ◌*◌, ◌≤◌}
+use Prim.Native.Nat.{◌-◌, ◌*◌, ◌≤◌}
 use mathlib.Core.Path.{◌≡◌}
 use mathlib.Core.Bool.{false}
 use mathlib.Core.List.{◌++◌}

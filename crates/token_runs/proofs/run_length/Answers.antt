@@ -1,34 +1,23 @@
--- `run_length_lem` meets its contract. The invariant: where the run ends is where that from a place on does.
-use borrow.Author.Tests.{not-true, not-false}
+-- `run_length` meets its contract: it counts the characters that pass from the front on.
+use Rattle.std.proofs.Common.{rules, tests, ap, ◌∙◌, sym, drop, arith, length-drop}
+use Rattle.std.specs.Slice.Iter.{iter_rest}
+use Rattle.std.proofs.lemmas.Iterator.{YieldsList-from_slice}
+use Rattle.std.proofs.lemmas.Iterator.Consumers.{count_from_yields_List}
+use Rattle.std.proofs.lemmas.Iterator.Search.{YieldsList-from_take_while}
+use Rattle.std.proofs.lemmas.List.Folds.{length-prefix_len}
+use Rattle.std.proofs.lemmas.List.Sums.{prefix_len-le-length}
 use Rattle.token_runs.specs.RunClasses.{is_of_class}
-use Rattle.token_runs.proofs.Advancing.{run_end, run_on, run_stop}
-use Prim.Native.Nat.{◌-◌}
-use mathlib.Core.Path.{refl, sym, ◌∙◌}
-use native.Mathlib.Omega.{arith}
+use Rattle.token_runs.proofs.Advancing.{left_from, run_prefix}
 use Rattle.token_runs.proofs.run_length.Goals as goal
-
-pub loop-at-init : goal.loop-at-init
-loop-at-init c = (omega (arith, c.requires.0), omega arith, refl)
-
-pub is_of_class-requires : goal.is_of_class-requires
-is_of_class-requires c = c.requires.1
-
-pub returns-then-not-is_of_class : goal.returns-then-not-is_of_class
-returns-then-not-is_of_class c =
-    let a = c.args in
-    let t = sym c.is_of_class.ensures ∙ not-true c.is_of_class.result c.if-not-is_of_class.true-raw in
-    let e = run_stop a.points.now c.loop-at.at (omega arith) (is_of_class a.class) t in
-    (omega (arith, c.loop-at.invariant.2, e), omega arith)
-
-pub loop-at-preserved : goal.loop-at-preserved
-loop-at-preserved c =
-    let a = c.args in
-    let t = sym c.is_of_class.ensures ∙ not-false c.is_of_class.result c.if-not-is_of_class.false-raw in
-    let e = run_on a.points.now c.loop-at.at (omega arith) (is_of_class a.class) t in
-    (omega arith, omega arith, omega (arith, c.loop-at.invariant.2, e))
 
 pub returns : goal.returns
 returns c =
-    let a = c.args in
-    let e = run_end a.points.now c.loop-at.at (is_of_class a.class) (omega (arith, c.loop-at-test.false)) in
-    (omega (arith, c.loop-at.invariant.2, e), omega arith)
+    let f = is_of_class c.args.class in
+    let cs = drop c.args.from c.args.points.now in
+    let run = c.take_while-run in
+    let rest = ap iter_rest run.ensures.source ∙ c.iter.ensures.rest ∙ left_from c.args.points.now c.args.from in
+    let e =
+    count_from_yields_List run.result _ c.count.ensures.ran
+    (YieldsList-from_take_while _ f (YieldsList-from_slice cs rest) run.ensures.closure run.ensures.done (λ x b q k. search (rules, tests)))
+    ∙ length-prefix_len f cs in
+    (e ∙ sym (run_prefix f cs), omega (arith, e, prefix_len-le-length f cs, length-drop c.args.from c.args.points.now))

@@ -7,6 +7,6 @@ use Rattle.trial_plans.proofs.play_bytes.Goals as goal
 
 pub play_wood-requires : goal.play_wood-requires
 play_wood-requires g c =
-    let p = c.in-Parts.parts in
-    let laid = laid_out _ p (sym (ap (λ (r : FileRead). r.answer) c.read_file-layout.ensures) ∙ c.in-Parts.is) in
+    let p = c.in-Ok.parts in
+    let laid = laid_out _ p (sym (ap (λ (r : FileRead). r.answer) c.read_file.ensures) ∙ c.in-Ok.is) in
     (laid.0, omega arith)

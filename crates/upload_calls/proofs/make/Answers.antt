@@ -21,16 +21,24 @@ lent s = make_input s.args.upload.now s.args.rows.now s.args.pos.now s.args.osp.
 
 pub returns-then-upload-ne0 : goal.returns-then-upload-ne0
 returns-then-upload-ne0 c =
-    let shown = call_told make_schema make_is_right (lent (goal.at.returns-then-upload-ne0 c).Start) (wrong_upload (lent (goal.at.returns-then-upload-ne0 c).Start) (upload_parts c.args.upload.now c.if-upload-ne0.true)) in
+    let shown = call_told make_schema make_is_right (lent (goal.at.returns-then-upload-ne0 c).Start)
+    (wrong_upload (lent (goal.at.returns-then-upload-ne0 c).Start) (upload_parts c.args.upload.now c.if-upload-ne0.true)) in
     record { report_after = shown.0; number = shown.1 }
 
 pub returns-then-upload-gt-MOST_ROWS : goal.returns-then-upload-gt-MOST_ROWS
 returns-then-upload-gt-MOST_ROWS c =
-    let shown = call_told make_schema make_is_right (lent (goal.at.returns-then-upload-gt-MOST_ROWS c).Start) (wrong_upload (lent (goal.at.returns-then-upload-gt-MOST_ROWS c).Start) (upload_many c.args.upload.now c.if-upload-ne0.false c.if-upload-gt-MOST_ROWS.true)) in
+    let shown = call_told make_schema make_is_right (lent (goal.at.returns-then-upload-gt-MOST_ROWS c).Start)
+    (wrong_upload (lent (goal.at.returns-then-upload-gt-MOST_ROWS c).Start)
+    (upload_many c.args.upload.now c.if-upload-ne0.false c.if-upload-gt-MOST_ROWS.true)) in
     record { report_after = shown.0; number = shown.1 }
 
 pub make_within-requires : goal.make_within-requires
-make_within-requires c = let n = length-replicate {A = ℕ} most_rows 0 in record { upload_value = upload_right_lem c.args.upload.now c.if-upload-ne0.false c.if-upload-gt-MOST_ROWS.false; list_len = (n, n, enough (length {A = ℕ} (replicate (most_rows / 2) 0)) (length-replicate {A = ℕ} (most_rows / 2) 0)) }
+make_within-requires c = let n = length-replicate {A = ℕ} most_rows 0 in
+    record {
+      upload_value = upload_right_lem c.args.upload.now c.if-upload-ne0.false c.if-upload-gt-MOST_ROWS.false;
+      list_len =
+          (n, n, enough (length {A = ℕ} (replicate (most_rows / 2) 0)) (length-replicate {A = ℕ} (most_rows / 2) 0));
+    }
 
 pub returns : goal.returns
 returns c =

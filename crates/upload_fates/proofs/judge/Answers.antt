@@ -1,24 +1,24 @@
 -- `judge` meets its contract.
 use native.Mathlib.Omega.{arith}
-use mathlib.Core.Path.{sym}
 use lib.Seq.{length-take-le}
-use Rattle.upload_fates.proofs.Judging.{front_named, front_length, sorted_named, listed, judged}
+use Rattle.upload_fates.proofs.Judging.{front_named, sorted_named, listed, judged}
 use Rattle.upload_fates.proofs.judge.Goals as goal
-
-pub slice_bounds-sort-end-2 : goal.slice_bounds-sort-end-2
-slice_bounds-sort-end-2 c =
-    sym (length-take-le c.mark_kinds-right.result c.mark_kinds-right.new.list c.mark_kinds-right.ensures.listed.fits)
 
 pub sort-requires : goal.sort-requires
 sort-requires c = let up = c.args.upload.now in
-    let n = length-take-le c.mark_kinds-right.result c.mark_kinds-right.new.list c.mark_kinds-right.ensures.listed.fits in record { list_value = front_named up c.mark_kinds-right.new.list c.mark_kinds-right.result c.mark_kinds-right.ensures.listed; list_in_bounds = omega (arith, n, c.mark_kinds-right.ensures.listed.fits, c.mark_kinds-right.auto.fates, c.requires.list_in_bounds) }
-
-pub slice_bounds-mark_repeats-end-2 : goal.slice_bounds-mark_repeats-end-2
-slice_bounds-mark_repeats-end-2 c =
-    front_length c.args.upload.now c.mark_kinds-right.new.list c.mark_kinds-right.result c.mark_kinds-right.ensures.listed c.sort.new.list c.sort.ensures
+    let n = length-take-le c.mark_kinds-right.result c.mark_kinds-right.new.list c.mark_kinds-right.ensures.listed.fits in
+    record {
+      list_value = front_named up c.mark_kinds-right.new.list c.mark_kinds-right.result c.mark_kinds-right.ensures.listed;
+      list_in_bounds =
+          omega (arith, n, c.mark_kinds-right.ensures.listed.fits, c.mark_kinds-right.auto.fates, c.requires.list_in_bounds);
+    }
 
 pub mark_repeats-requires : goal.mark_repeats-requires
-mark_repeats-requires c = record { list_value = sorted_named c.args.upload.now c.mark_kinds-right.new.list c.mark_kinds-right.result c.mark_kinds-right.ensures.listed c.sort.new.list c.sort.ensures; upload_in_bounds = omega (arith, c.mark_kinds-right.auto.fates, c.requires.fits.judged) }
+mark_repeats-requires c = record {
+  list_value = sorted_named c.args.upload.now c.mark_kinds-right.new.list c.mark_kinds-right.result c.mark_kinds-right.ensures.listed
+      c.sort.new.list c.sort.ensures;
+  upload_in_bounds = omega (arith, c.mark_kinds-right.auto.fates, c.requires.fits.judged);
+}
 
 pub returns : goal.returns
 returns c = let up = c.args.upload.now in record {

@@ -27,7 +27,18 @@ made_size : (s : Start) → length (made_rows s.args.upload.now) ≡ s.args.kept
 made_size s = omega (arith, made_length s.args.upload.now, s.requires.ready_to_write.counted)
 
 pub write_rows-end-requires : goal.write_rows-end-requires
-write_rows-end-requires c = let up = c.args.upload.now in record { list_value = rw c.requires.ready_to_write.listed (right_named up); upload_in_bounds = c.requires.ready_to_write.long; list_in_bounds = omega (arith, ap length (words_made (goal.at.write_rows-end-requires c).Start), made_size (goal.at.write_rows-end-requires c).Start, c.requires.column_count_in_bounds.0) }
+write_rows-end-requires c = let up = c.args.upload.now in
+    record {
+      list_value = rw c.requires.ready_to_write.listed (right_named up);
+      upload_in_bounds = c.requires.ready_to_write.long;
+      list_in_bounds =
+          omega (
+            arith,
+            ap length (words_made (goal.at.write_rows-end-requires c).Start),
+            made_size (goal.at.write_rows-end-requires c).Start,
+            c.requires.column_count_in_bounds.0,
+          );
+    }
 
 pub write_lists-requires : goal.write_lists-requires
 write_lists-requires c =
@@ -38,4 +49,11 @@ pub returns : goal.returns
 returns c = let a = c.args in
     let rows : c.write_rows-end.new.rows ≡ over (made_rows a.upload.now) a.rows.now =
     c.write_rows-end.ensures.rows_after ∙ ap (λ ws. over ws a.rows.now) (words_made (goal.at.returns c).Start) in
-    let first = ap₂ take (sym (made_size (goal.at.returns c).Start)) rows ∙ take_over (made_rows a.upload.now) a.rows.now in record { value = c.write_rows-end.ensures.value ∙ ap length (words_made (goal.at.returns c).Start) ∙ made_size (goal.at.returns c).Start; rows_after = rows; pos_after = c.write_lists.ensures.pos_after ∙ ap (λ rs. over (row_numbers Pos rs) a.pos.now) first; osp_after = c.write_lists.ensures.osp_after ∙ ap (λ rs. over (row_numbers Osp rs) a.osp.now) first }
+    let first = ap₂ take (sym (made_size (goal.at.returns c).Start)) rows ∙ take_over (made_rows a.upload.now) a.rows.now in
+    record {
+      value = c.write_rows-end.ensures.value ∙ ap length (words_made (goal.at.returns c).Start) ∙ made_size (goal.at.returns c).Start;
+      rows_after = rows;
+      pos_after = c.write_lists.ensures.pos_after ∙ ap (λ rs. over (row_numbers Pos rs) a.pos.now) first;
+      osp_after =
+          c.write_lists.ensures.osp_after ∙ ap (λ rs. over (row_numbers Osp rs) a.osp.now) first;
+    }

@@ -28,7 +28,8 @@ loop-at-init c = (omega arith, refl)
 pub returns-then-later-earlier : goal.returns-then-later-earlier
 returns-then-later-earlier c =
     let g = c.args.grant.now in
-    sym (c.loop-at.invariant.1 ∙ step (goal.at.returns-then-later-earlier c).At-loop-at (omega arith) ∙ rw (le-ltb (get_or g (c.loop-at.at - 1) 0) (get_or g c.loop-at.at 0) c.if-later-earlier.true))
+    sym (c.loop-at.invariant.1 ∙ step (goal.at.returns-then-later-earlier c).At-loop-at (omega arith) ∙
+    rw (le-ltb (get_or g (c.loop-at.at - 1) 0) (get_or g c.loop-at.at 0) c.if-later-earlier.true))
 
 pub loop-at-preserved : goal.loop-at-preserved
 loop-at-preserved c =

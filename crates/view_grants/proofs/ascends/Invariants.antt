@@ -1,12 +1,9 @@
 use Prim.Native.Nat.{◌-◌, ◌≤◌}
 use mathlib.Core.Path.{◌≡◌}
-use lib.ListN.{length, drop}
+use lib.ListN.{drop}
 use lib.Dec.{ltb}
 use Rattle.sequences.specs.Sequences.{neighbours}
 use Rattle.view_grants.proofs.ascends.Given as goal
 
 abbrev pub invariant-loop-at : goal.invariant-loop-at
 invariant-loop-at l = (1 ≤ l.at) × (neighbours ltb l.grant ≡ neighbours ltb (drop (l.at - 1) l.grant))
-
-abbrev pub decreases-loop-at : goal.decreases-loop-at
-decreases-loop-at l = length l.grant - l.at

@@ -1,5 +1,4 @@
 -- `seek` meets its contract. The invariant: the first word that is not less stands at `at` or behind.
-use Prim.Native.Nat.{◌-◌}
 use mathlib.Core.Path.{◌≡◌, sym}
 use native.Mathlib.Omega.{arith}
 use Rattle.view_grants.specs.Places.{first_from}

@@ -8,7 +8,8 @@ use Rattle.view_marks.proofs.Subjects.{seen_is}
 use Rattle.view_marks.proofs.first_seen.Goals as goal
 
 pub seek-sought-requires : goal.seek-sought-requires
-seek-sought-requires c = record { grant_value = c.requires.grant_value; from_bound = subst (λ w. c.args.from ≤ first_from c.args.grant.now w) (sym c.field.ensures) c.requires.from_bound }
+seek-sought-requires c = record
+    { grant_value = c.requires.grant_value; from_bound = subst (λ w. c.args.from ≤ first_from c.args.grant.now w) (sym c.field.ensures) c.requires.from_bound }
 
 pub returns : goal.returns
 returns c =

@@ -47,7 +47,13 @@ loop-row-init c =
     )
 
 pub next_seen-this-requires : goal.next_seen-this-requires
-next_seen-this-requires c = record { rows_right = c.requires.rows_right; grant_value = c.requires.grant_value; row_in_bounds = (omega arith, c.requires.column_count_in_bounds.0); from_bound = c.loop-row.invariant.4 (omega arith); seen_value = c.loop-row.invariant.5 }
+next_seen-this-requires c = record {
+  rows_right = c.requires.rows_right;
+  grant_value = c.requires.grant_value;
+  row_in_bounds = (omega arith, c.requires.column_count_in_bounds.0);
+  from_bound = c.loop-row.invariant.4 (omega arith);
+  seen_value = c.loop-row.invariant.5;
+}
 
 pub one_more-number-requires : goal.one_more-number-requires
 one_more-number-requires c =
@@ -57,22 +63,33 @@ one_more-number-requires c =
 pub loop-row-preserved : goal.loop-row-preserved
 loop-row-preserved c =
     let row = c.loop-row.row in
-    let mark : c.mark_by.result ≡ mark_of (visible_at (goal.at.loop-row-preserved c).At-loop-row) row = c.mark_by.ensures ∙ ap₂ mark_by c.next_seen-this.ensures.0 c.loop-row.invariant.1 in
+    let mark : c.mark_by.result ≡ mark_of (visible_at (goal.at.loop-row-preserved c).At-loop-row) row = c.mark_by.ensures ∙
+    ap₂ mark_by c.next_seen-this.ensures.0 c.loop-row.invariant.1 in
     let z : row ≡ row + 1 - 1 = omega arith in (
       omega arith,
-      c.one_more-number.ensures ∙ rw (c.next_seen-this.ensures.0, c.loop-row.invariant.1) (number_next (visible_at (goal.at.loop-row-preserved c).At-loop-row) row),
+      c.one_more-number.ensures ∙ rw (c.next_seen-this.ensures.0, c.loop-row.invariant.1)
+          (number_next (visible_at (goal.at.loop-row-preserved c).At-loop-row) row),
       (simp length-set) ∙ c.loop-row.invariant.2,
       ap (λ n. set c.loop-row.marks n c.mark_by.result) c.wide.ensures
-          ∙ marks_over (visible_at (goal.at.loop-row-preserved c).At-loop-row) row c.args.marks.now c.loop-row.marks c.mark_by.result (omega (arith, c.requires.column_count_in_bounds.1)) c.loop-row.invariant.3 mark,
+          ∙ marks_over (visible_at (goal.at.loop-row-preserved c).At-loop-row) row c.args.marks.now c.loop-row.marks c.mark_by.result
+          (omega (arith, c.requires.column_count_in_bounds.1)) c.loop-row.invariant.3 mark,
       λ h k₁ y.
-          let a = subjects_rise (rows (goal.at.loop-row-preserved c).At-loop-row) c.requires.rows_right row (row + 1) (omega arith) (omega arith) (ap (λ n. field_of (rows (goal.at.loop-row-preserved c).At-loop-row) n year_column) z ∙ y) in
+          let a = subjects_rise (rows (goal.at.loop-row-preserved c).At-loop-row) c.requires.rows_right row (row + 1) (omega arith) (omega arith)
+          (ap (λ n. field_of (rows (goal.at.loop-row-preserved c).At-loop-row) n year_column) z ∙ y) in
           omega (
             arith,
             c.next_seen-this.ensures.1,
-            first_later (grant (goal.at.loop-row-preserved c).At-loop-row) (field_of (rows (goal.at.loop-row-preserved c).At-loop-row) row subject_column) (field_of (rows (goal.at.loop-row-preserved c).At-loop-row) (row + 1) subject_column) a,
+            first_later (grant (goal.at.loop-row-preserved c).At-loop-row)
+                (field_of (rows (goal.at.loop-row-preserved c).At-loop-row) row subject_column)
+                (field_of (rows (goal.at.loop-row-preserved c).At-loop-row) (row + 1) subject_column) a,
           ),
       λ h. c.next_seen-this.ensures.0 ∙ ap (visible_at (goal.at.loop-row-preserved c).At-loop-row) z,
     )
 
 pub returns : goal.returns
-returns c = let n : c.loop-row.row ≡ length (rows (goal.at.returns c).At-loop-row) / column_count = omega arith in record { value = c.wide-2.ensures ∙ c.loop-row.invariant.1 ∙ ap (passed_before (visible_at (goal.at.returns c).At-loop-row)) n; marks_after = c.loop-row.invariant.3 ∙ ap (λ k. over (marks_of (visible_at (goal.at.returns c).At-loop-row) k) c.args.marks.now) n }
+returns c = let n : c.loop-row.row ≡ length (rows (goal.at.returns c).At-loop-row) / column_count = omega arith in
+    record {
+      value = c.wide-2.ensures ∙ c.loop-row.invariant.1 ∙ ap (passed_before (visible_at (goal.at.returns c).At-loop-row)) n;
+      marks_after =
+          c.loop-row.invariant.3 ∙ ap (λ k. over (marks_of (visible_at (goal.at.returns c).At-loop-row) k) c.args.marks.now) n;
+    }

@@ -18,6 +18,3 @@ invariant-loop-row l =
     × (l.row < l.count → 0 < l.row → field_of l.rows (l.row - 1) year_column ≡ field_of l.rows l.row year_column
     → l.before.from ≤ first_from l.grant (field_of l.rows l.row subject_column))
     × (0 < l.row → l.before.seen ≡ seen_by l.rows l.grant l.flags (l.row - 1))
-
-abbrev pub decreases-loop-row : goal.decreases-loop-row
-decreases-loop-row l = l.count - l.row

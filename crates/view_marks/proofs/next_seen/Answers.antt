@@ -8,7 +8,15 @@ use Rattle.view_marks.proofs.Subjects.{seen_alike, first_next}
 use Rattle.view_marks.proofs.next_seen.Goals as goal
 
 pub first_seen-requires : goal.first_seen-requires
-first_seen-requires c = record { rows_right = c.requires.rows_right; grant_value = c.requires.grant_value; first_of_subject = first_next c.args.rows.now c.requires.rows_right c.args.row c.requires.row_in_bounds.0 (λ h. absurd (omega arith)); column_count_in_bounds = c.requires.row_in_bounds.1; from_bound = zero-le }
+first_seen-requires c = record {
+  rows_right = c.requires.rows_right;
+  grant_value = c.requires.grant_value;
+  first_of_subject =
+      first_next c.args.rows.now c.requires.rows_right c.args.row c.requires.row_in_bounds.0 (λ h. absurd (omega arith));
+  column_count_in_bounds =
+      c.requires.row_in_bounds.1;
+  from_bound = zero-le;
+}
 
 -- the first of another year
 pub first_seen-requires-then-year-field : goal.first_seen-requires-then-year-field

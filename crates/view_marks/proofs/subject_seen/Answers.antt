@@ -1,5 +1,5 @@
 -- `subject_seen` meets its contract. The invariant: what the flags of the rows before `next` tell is seen.
-use Prim.Native.Nat.{ℕ, ◌-◌, ◌/◌}
+use Prim.Native.Nat.{ℕ, ◌/◌}
 use mathlib.Core.Path.{◌≡◌, sym, ap, ap₂, ◌∙◌}
 use mathlib.Core.List.{List}
 use mathlib.Core.Bool.{Bool, ◌||◌}
@@ -39,7 +39,8 @@ subject l = field_of (rows l) (row l) subject_column
 
 -- whether the next row is of them
 asks : (c : After-is_of) →
-    c.is_of.result ≡ is_of (c.args.rows.now) ((field_of (c.args.rows.now) (c.args.row) year_column)) ((field_of (c.args.rows.now) (c.args.row) subject_column)) c.loop-next.next
+    c.is_of.result ≡ is_of (c.args.rows.now) ((field_of (c.args.rows.now) (c.args.row) year_column))
+    ((field_of (c.args.rows.now) (c.args.row) subject_column)) c.loop-next.next
 asks c =
     c.is_of.ensures
     ∙ ap₂ (λ y s. is_of (c.args.rows.now) y s c.loop-next.next) c.field-year.ensures c.field-subject.ensures
@@ -62,7 +63,9 @@ pub returns-then-not-is_of : goal.returns-then-not-is_of
 returns-then-not-is_of c =
     c.loop-next.invariant.2
     ∙ ap (λ b. granted (goal.at.returns-then-not-is_of c).At-loop-next || b)
-    (sym (told_after (rows (goal.at.returns-then-not-is_of c).At-loop-next) c.requires.rows_right (flags (goal.at.returns-then-not-is_of c).At-loop-next) (row (goal.at.returns-then-not-is_of c).At-loop-next) c.loop-next.next c.loop-next.invariant.0 (omega arith)
+    (sym (told_after (rows (goal.at.returns-then-not-is_of c).At-loop-next) c.requires.rows_right
+    (flags (goal.at.returns-then-not-is_of c).At-loop-next)
+    (row (goal.at.returns-then-not-is_of c).At-loop-next) c.loop-next.next c.loop-next.invariant.0 (omega arith)
     (sym (asks (goal.at.returns-then-not-is_of c).After-is_of) ∙ not-true _ c.if-not-is_of.true-raw)))
 
 pub bounds-flags-wide : goal.bounds-flags-wide
@@ -74,13 +77,20 @@ loop-next-preserved c = (
   omega arith,
   c.either-seen.ensures
       ∙ ap (λ b. b || eqb (get_or (flags (goal.at.loop-next-preserved c).At-loop-next) c.wide.result 0) 1) c.loop-next.invariant.2
-      ∙ ap (λ n. (granted (goal.at.loop-next-preserved c).At-loop-next || some_below (told (rows (goal.at.loop-next-preserved c).At-loop-next) (flags (goal.at.loop-next-preserved c).At-loop-next) (year (goal.at.loop-next-preserved c).At-loop-next) (subject (goal.at.loop-next-preserved c).At-loop-next)) c.loop-next.next)
+      ∙ ap (λ n. (granted (goal.at.loop-next-preserved c).At-loop-next || some_below
+      (told (rows (goal.at.loop-next-preserved c).At-loop-next) (flags (goal.at.loop-next-preserved c).At-loop-next)
+      (year (goal.at.loop-next-preserved c).At-loop-next) (subject (goal.at.loop-next-preserved c).At-loop-next)) c.loop-next.next)
       || eqb (get_or (flags (goal.at.loop-next-preserved c).At-loop-next) n 0) 1)
       c.wide.ensures
-      ∙ some_told_lem (rows (goal.at.loop-next-preserved c).At-loop-next) (flags (goal.at.loop-next-preserved c).At-loop-next) (granted (goal.at.loop-next-preserved c).At-loop-next) (year (goal.at.loop-next-preserved c).At-loop-next) (subject (goal.at.loop-next-preserved c).At-loop-next) c.loop-next.next (sym (asks (goal.at.loop-next-preserved c).After-is_of) ∙ not-false _ c.if-not-is_of.false-raw),
+      ∙ some_told_lem (rows (goal.at.loop-next-preserved c).At-loop-next) (flags (goal.at.loop-next-preserved c).At-loop-next)
+      (granted (goal.at.loop-next-preserved c).At-loop-next) (year (goal.at.loop-next-preserved c).At-loop-next)
+      (subject (goal.at.loop-next-preserved c).At-loop-next) c.loop-next.next
+      (sym (asks (goal.at.loop-next-preserved c).After-is_of) ∙ not-false _ c.if-not-is_of.false-raw),
 )
 
 pub returns : goal.returns
 returns c =
     let n : c.loop-next.next ≡ length (rows (goal.at.returns c).At-loop-next) / column_count = omega arith in
-    c.loop-next.invariant.2 ∙ ap (λ k. granted (goal.at.returns c).At-loop-next || some_below (told (rows (goal.at.returns c).At-loop-next) (flags (goal.at.returns c).At-loop-next) (year (goal.at.returns c).At-loop-next) (subject (goal.at.returns c).At-loop-next)) k) n
+    c.loop-next.invariant.2 ∙ ap (λ k. granted (goal.at.returns c).At-loop-next || some_below
+    (told (rows (goal.at.returns c).At-loop-next) (flags (goal.at.returns c).At-loop-next) (year (goal.at.returns c).At-loop-next)
+    (subject (goal.at.returns c).At-loop-next)) k) n

@@ -1,4 +1,4 @@
-use Prim.Native.Nat.{◌-◌, ◌≤◌}
+use Prim.Native.Nat.{◌≤◌}
 use mathlib.Core.Path.{◌≡◌}
 use mathlib.Core.Bool.{◌||◌}
 use Rattle.sequences.specs.Sequences.{some_below}
@@ -11,6 +11,3 @@ invariant-loop-next l =
     (l.row ≤ l.next)
     × (l.next ≤ l.count)
     × (l.seen ≡ (l.granted || some_below (told l.rows l.flags (field_of l.rows l.row year_column) (field_of l.rows l.row subject_column)) l.next))
-
-abbrev pub decreases-loop-next : goal.decreases-loop-next
-decreases-loop-next l = l.count - l.next

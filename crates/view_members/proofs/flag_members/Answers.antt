@@ -1,5 +1,5 @@
 -- `flag_members` meets its contract. The invariant: the rows before `place` are flagged, and they are of earlier years.
-use Prim.Native.Nat.{ℕ, ◌-◌, ◌<◌}
+use Prim.Native.Nat.{ℕ, ◌<◌}
 use mathlib.Core.Path.{◌≡◌, refl, sym, ap, ◌∙◌, subst}
 use mathlib.Core.List.{List}
 use native.Mathlib.Omega.{arith}
@@ -38,16 +38,22 @@ end l = range_end ((tables_of l.args.rows.now l.args.pos.now l.args.osp.now)) (y
 there : (c : In-loop-place) → c.loop-place.place < row_count (tables_of c.args.rows.now c.args.pos.now c.args.osp.now)
 there c = omega arith
 
-ahead : (c : In-loop-place) → c.loop-place.place < (range_end (tables_of c.args.rows.now c.args.pos.now c.args.osp.now) (year_prefix Spo ((field_of (c.args.rows.now) c.loop-place.place year_column))))
+ahead : (c : In-loop-place) → c.loop-place.place <
+    (range_end (tables_of c.args.rows.now c.args.pos.now c.args.osp.now) (year_prefix Spo ((field_of (c.args.rows.now) c.loop-place.place year_column))))
 ahead c =
-    row_inside (tables_of c.args.rows.now c.args.pos.now c.args.osp.now) c.requires.right (c.args.grant.now) (c.args.membership) c.loop-place.flags c.loop-place.place (there c)
+    row_inside (tables_of c.args.rows.now c.args.pos.now c.args.osp.now) c.requires.right (c.args.grant.now)
+    (c.args.membership) c.loop-place.flags c.loop-place.place (there c)
 
 pub overflow_cast-count : goal.overflow_cast-count
 overflow_cast-count c = let h = c.requires.right.sized.few in omega arith
 
 pub loop-place-init : goal.loop-place-init
-loop-place-init c =
-    (refl, omega arith, walked_none (tables (goal.at.loop-place-init c).Start) c.requires.right c.args.grant.now c.args.membership c.args.flags.now c.requires.unflagged)
+loop-place-init c = (
+  refl,
+  omega arith,
+  walked_none
+      (tables (goal.at.loop-place-init c).Start) c.requires.right c.args.grant.now c.args.membership c.args.flags.now c.requires.unflagged,
+)
 
 pub field-year-requires : goal.field-year-requires
 field-year-requires c = let h = there (goal.at.field-year-requires c).In-loop-place in (omega (arith, c.own_row.ensures), omega arith)
@@ -60,33 +66,61 @@ pub flag_year-requires : goal.flag_year-requires
 flag_year-requires c = record {
   right = c.requires.right;
   grant_value = c.requires.grant_value;
-  flagged_as = subst (λ y. FlaggedAs (of_earlier (rows (goal.at.flag_year-requires c).At-loop-place) y) (rows (goal.at.flag_year-requires c).At-loop-place) (grant (goal.at.flag_year-requires c).At-loop-place) (membership (goal.at.flag_year-requires c).At-loop-place) c.loop-place.flags) (sym (year_is (goal.at.flag_year-requires c).After-field-year))
-      (walked_before (tables (goal.at.flag_year-requires c).Start) c.requires.right (grant (goal.at.flag_year-requires c).At-loop-place) (membership (goal.at.flag_year-requires c).At-loop-place) c.loop-place.flags c.loop-place.place (there (goal.at.flag_year-requires c).In-loop-place) c.loop-place.invariant.2);
+  flagged_as = subst (λ y. FlaggedAs (of_earlier (rows (goal.at.flag_year-requires c).At-loop-place) y)
+      (rows (goal.at.flag_year-requires c).At-loop-place) (grant (goal.at.flag_year-requires c).At-loop-place)
+      (membership (goal.at.flag_year-requires c).At-loop-place) c.loop-place.flags) (sym (year_is (goal.at.flag_year-requires c).After-field-year))
+      (walked_before (tables (goal.at.flag_year-requires c).Start) c.requires.right (grant (goal.at.flag_year-requires c).At-loop-place)
+      (membership (goal.at.flag_year-requires c).At-loop-place) c.loop-place.flags c.loop-place.place
+      (there (goal.at.flag_year-requires c).In-loop-place) c.loop-place.invariant.2);
 }
 
 -- the prefix that the code asks for is that of the row's year
 asked : (c : After-field-year) →
-    range_end (tables_of c.args.rows.now c.args.pos.now c.args.osp.now) (year_prefix Spo c.field-year.result) ≡ (range_end (tables_of c.args.rows.now c.args.pos.now c.args.osp.now) (year_prefix Spo ((field_of (c.args.rows.now) c.loop-place.place year_column))))
+    range_end (tables_of c.args.rows.now c.args.pos.now c.args.osp.now) (year_prefix Spo c.field-year.result) ≡
+    (range_end (tables_of c.args.rows.now c.args.pos.now c.args.osp.now) (year_prefix Spo ((field_of (c.args.rows.now) c.loop-place.place year_column))))
 asked c = ap (λ y. range_end (tables_of c.args.rows.now c.args.pos.now c.args.osp.now) (year_prefix Spo y)) (year_is c)
 
 pub end_from-place-requires : goal.end_from-place-requires
-end_from-place-requires c = record { right = c.requires.right; count_le_column_count = omega arith; from_bound = omega (arith, ahead (goal.at.end_from-place-requires c).In-loop-place, asked (goal.at.end_from-place-requires c).After-field-year) }
+end_from-place-requires c = record {
+  right = c.requires.right;
+  count_le_column_count = omega arith;
+  from_bound =
+      omega (arith, ahead (goal.at.end_from-place-requires c).In-loop-place, asked (goal.at.end_from-place-requires c).After-field-year);
+}
 
 pub loop-place-smaller : goal.loop-place-smaller
 loop-place-smaller c =
-    omega (arith, ahead (goal.at.loop-place-smaller c).In-loop-place, asked (goal.at.loop-place-smaller c).After-field-year, c.end_from-place.ensures, there (goal.at.loop-place-smaller c).In-loop-place)
+    omega (
+      arith,
+      ahead (goal.at.loop-place-smaller c).In-loop-place,
+      asked (goal.at.loop-place-smaller c).After-field-year,
+      c.end_from-place.ensures,
+      there (goal.at.loop-place-smaller c).In-loop-place,
+    )
 
 pub loop-place-preserved : goal.loop-place-preserved
 loop-place-preserved c =
-    let e : c.end_from-place.result.0 ≡ end (goal.at.loop-place-preserved c).At-loop-place = c.end_from-place.ensures ∙ asked (goal.at.loop-place-preserved c).After-field-year in
+    let e : c.end_from-place.result.0 ≡ end (goal.at.loop-place-preserved c).At-loop-place = c.end_from-place.ensures ∙
+    asked (goal.at.loop-place-preserved c).After-field-year in
     let flags = c.flag_year.new.flags in (
       omega arith,
-      omega (arith, e, end_le_count (tables (goal.at.loop-place-preserved c).Start) (year_prefix Spo (year_word (goal.at.loop-place-preserved c).At-loop-place))),
-      subst (Walked (tables (goal.at.loop-place-preserved c).Start) (grant (goal.at.loop-place-preserved c).At-loop-place) (membership (goal.at.loop-place-preserved c).At-loop-place) flags) (sym e)
-          (walked_after (tables (goal.at.loop-place-preserved c).Start) c.requires.right (grant (goal.at.loop-place-preserved c).At-loop-place) (membership (goal.at.loop-place-preserved c).At-loop-place) flags c.loop-place.place (there (goal.at.loop-place-preserved c).In-loop-place)
-          (subst (λ a. FlaggedAs (not_later (rows (goal.at.loop-place-preserved c).At-loop-place) a) (rows (goal.at.loop-place-preserved c).At-loop-place) (grant (goal.at.loop-place-preserved c).At-loop-place) (membership (goal.at.loop-place-preserved c).At-loop-place) flags) (year_is (goal.at.loop-place-preserved c).After-field-year) c.flag_year.ensures)),
+      omega (
+        arith,
+        e,
+        end_le_count (tables (goal.at.loop-place-preserved c).Start)
+            (year_prefix Spo (year_word (goal.at.loop-place-preserved c).At-loop-place)),
+      ),
+      subst (Walked (tables (goal.at.loop-place-preserved c).Start) (grant (goal.at.loop-place-preserved c).At-loop-place)
+          (membership (goal.at.loop-place-preserved c).At-loop-place) flags) (sym e)
+          (walked_after (tables (goal.at.loop-place-preserved c).Start) c.requires.right (grant (goal.at.loop-place-preserved c).At-loop-place)
+          (membership (goal.at.loop-place-preserved c).At-loop-place) flags c.loop-place.place (there (goal.at.loop-place-preserved c).In-loop-place)
+          (subst (λ a. FlaggedAs (not_later (rows (goal.at.loop-place-preserved c).At-loop-place) a)
+          (rows (goal.at.loop-place-preserved c).At-loop-place) (grant (goal.at.loop-place-preserved c).At-loop-place)
+          (membership (goal.at.loop-place-preserved c).At-loop-place) flags)
+          (year_is (goal.at.loop-place-preserved c).After-field-year) c.flag_year.ensures)),
     )
 
 pub returns : goal.returns
 returns c =
-    walked_all (tables (goal.at.returns c).Start) c.requires.right (grant (goal.at.returns c).At-loop-place) (membership (goal.at.returns c).At-loop-place) c.loop-place.flags c.loop-place.place (omega arith) c.loop-place.invariant.2
+    walked_all (tables (goal.at.returns c).Start) c.requires.right (grant (goal.at.returns c).At-loop-place)
+    (membership (goal.at.returns c).At-loop-place) c.loop-place.flags c.loop-place.place (omega arith) c.loop-place.invariant.2

@@ -1,5 +1,5 @@
 -- `flag_year` meets its contract. The invariant: the places before `place` are flagged, and the grant is walked up to `from`.
-use Prim.Native.Nat.{ℕ, ◌+◌, ◌-◌, ◌≤◌, ◌<◌}
+use Prim.Native.Nat.{ℕ, ◌+◌, ◌≤◌, ◌<◌}
 use mathlib.Core.Path.{◌≡◌, refl, sym, ap, ◌∙◌, subst}
 use mathlib.Core.List.{List}
 use native.Mathlib.Omega.{arith}
@@ -34,10 +34,12 @@ abbrev row : Loop → ℕ
 row l = row_at Pos ((tables_of l.args.rows.now l.args.pos.now l.args.osp.now)) l.loop-place.place
 
 -- the range ends among the places
-most : (l : Loop) → range_end ((tables_of l.args.rows.now l.args.pos.now l.args.osp.now)) (members_of (year l) (membership l)) ≤ row_count ((tables_of l.args.rows.now l.args.pos.now l.args.osp.now))
+most : (l : Loop) → range_end ((tables_of l.args.rows.now l.args.pos.now l.args.osp.now)) (members_of (year l) (membership l)) ≤ row_count
+    ((tables_of l.args.rows.now l.args.pos.now l.args.osp.now))
 most l = end_le_count ((tables_of l.args.rows.now l.args.pos.now l.args.osp.now)) (members_of (year l) (membership l))
 
-inside : (c : In-loop-place) → c.loop-place.place < range_end (tables_of c.args.rows.now c.args.pos.now c.args.osp.now) (members_of (c.args.year) (c.args.membership))
+inside : (c : In-loop-place) →
+    c.loop-place.place < range_end (tables_of c.args.rows.now c.args.pos.now c.args.osp.now) (members_of (c.args.year) (c.args.membership))
 inside c = omega (arith, c.loop-place.invariant.3)
 
 there : (c : In-loop-place) → c.loop-place.place < row_count (tables_of c.args.rows.now c.args.pos.now c.args.osp.now)
@@ -50,7 +52,8 @@ pub halved-start-requires : goal.halved-start-requires
 halved-start-requires c = record { right = c.requires.right; count_le_column_count = omega arith }
 
 pub end_from-end-requires : goal.end_from-end-requires
-end_from-end-requires c = let e = start_le_end (tables (goal.at.end_from-end-requires c).Start) (members_of c.args.year c.args.membership) in record { right = c.requires.right; count_le_column_count = omega arith; from_bound = omega (arith, c.halved-start.ensures) }
+end_from-end-requires c = let e = start_le_end (tables (goal.at.end_from-end-requires c).Start) (members_of c.args.year c.args.membership) in
+    record { right = c.requires.right; count_le_column_count = omega arith; from_bound = omega (arith, c.halved-start.ensures) }
 
 pub loop-place-init : goal.loop-place-init
 loop-place-init c =
@@ -63,7 +66,8 @@ loop-place-init c =
       omega arith,
       g,
       subst (λ p. Upto (tables (goal.at.loop-place-init c).Start) c.args.grant.now c.args.year c.args.membership c.args.flags.now p 0) (sym e)
-          (upto_start (tables (goal.at.loop-place-init c).Start) c.requires.right c.args.grant.now c.args.year c.args.membership c.args.flags.now c.requires.flagged_as),
+          (upto_start (tables (goal.at.loop-place-init c).Start) c.requires.right c.args.grant.now c.args.year c.args.membership c.args.flags.now
+          c.requires.flagged_as),
     )
 
 pub row_at-row-requires : goal.row_at-row-requires
@@ -82,7 +86,9 @@ pub seek-sought-requires : goal.seek-sought-requires
 seek-sought-requires c = record {
   grant_value = c.requires.grant_value;
   from_bound = subst (λ w. c.loop-place.from ≤ first_from (grant (goal.at.seek-sought-requires c).At-loop-place) w) (sym (object_is c))
-      (sought_behind (tables (goal.at.seek-sought-requires c).Start) c.requires.right (grant (goal.at.seek-sought-requires c).At-loop-place) (year (goal.at.seek-sought-requires c).At-loop-place) (membership (goal.at.seek-sought-requires c).At-loop-place) c.loop-place.flags c.loop-place.place c.loop-place.from c.loop-place.invariant.4
+      (sought_behind (tables (goal.at.seek-sought-requires c).Start) c.requires.right (grant (goal.at.seek-sought-requires c).At-loop-place)
+      (year (goal.at.seek-sought-requires c).At-loop-place)
+      (membership (goal.at.seek-sought-requires c).At-loop-place) c.loop-place.flags c.loop-place.place c.loop-place.from c.loop-place.invariant.4
       c.loop-place.invariant.1 (inside (goal.at.seek-sought-requires c).In-loop-place) (there (goal.at.seek-sought-requires c).In-loop-place));
 }
 
@@ -92,28 +98,50 @@ written c = c.wide.ensures ∙ c.row_at-row.ensures.result_value
 
 pub bounds-flags-wide : goal.bounds-flags-wide
 bounds-flags-wide c =
-    omega (arith, written c, c.requires.right.named Pos c.loop-place.place (there (goal.at.bounds-flags-wide c).In-loop-place), long (goal.at.bounds-flags-wide c).At-loop-place)
+    omega (
+      arith,
+      written c,
+      c.requires.right.named Pos c.loop-place.place (there (goal.at.bounds-flags-wide c).In-loop-place),
+      long (goal.at.bounds-flags-wide c).At-loop-place,
+    )
 
 pub loop-place-preserved : goal.loop-place-preserved
 loop-place-preserved c =
     let next = c.seek-sought.result.at in
     let flag = c.flag_by.result in
-    let n : next ≡ first_from (grant (goal.at.loop-place-preserved c).At-loop-place) (field_of c.args.rows.now (row (goal.at.loop-place-preserved c).At-loop-place) object_column) =
+    let n : next ≡ first_from (grant (goal.at.loop-place-preserved c).At-loop-place)
+    (field_of c.args.rows.now (row (goal.at.loop-place-preserved c).At-loop-place) object_column) =
     c.seek-sought.ensures.0 ∙ ap (first_from (grant (goal.at.loop-place-preserved c).At-loop-place)) (object_is (goal.at.loop-place-preserved c).After-field) in
-    let g : flag ≡ flag_by (member (field_of c.args.rows.now (row (goal.at.loop-place-preserved c).At-loop-place) object_column) (grant (goal.at.loop-place-preserved c).At-loop-place)) =
-    c.flag_by.ensures ∙ ap flag_by (c.seek-sought.ensures.1 ∙ ap (λ w. member w (grant (goal.at.loop-place-preserved c).At-loop-place)) (object_is (goal.at.loop-place-preserved c).After-field)) in (
+    let g : flag ≡ flag_by (member (field_of c.args.rows.now (row (goal.at.loop-place-preserved c).At-loop-place) object_column)
+    (grant (goal.at.loop-place-preserved c).At-loop-place)) =
+    c.flag_by.ensures ∙ ap flag_by
+    (c.seek-sought.ensures.1 ∙ ap (λ w. member w (grant (goal.at.loop-place-preserved c).At-loop-place))
+    (object_is (goal.at.loop-place-preserved c).After-field)) in (
       (simp length-set) ∙ c.loop-place.invariant.0,
       omega (arith, c.loop-place.invariant.1),
       omega arith,
       c.loop-place.invariant.3,
-      subst (λ r. Upto (tables (goal.at.loop-place-preserved c).Start) (grant (goal.at.loop-place-preserved c).At-loop-place) (year (goal.at.loop-place-preserved c).At-loop-place) (membership (goal.at.loop-place-preserved c).At-loop-place) (set c.loop-place.flags r flag) (c.loop-place.place + 1) next) (sym (written c))
-          (upto_next (tables (goal.at.loop-place-preserved c).Start) c.requires.right (grant (goal.at.loop-place-preserved c).At-loop-place) (year (goal.at.loop-place-preserved c).At-loop-place) (membership (goal.at.loop-place-preserved c).At-loop-place) c.loop-place.flags c.loop-place.place c.loop-place.from c.loop-place.invariant.4
-          c.loop-place.invariant.1 (inside (goal.at.loop-place-preserved c).In-loop-place) (there (goal.at.loop-place-preserved c).In-loop-place) (most (goal.at.loop-place-preserved c).At-loop-place) next flag n g
-          (omega (arith, c.requires.right.named Pos c.loop-place.place (there (goal.at.loop-place-preserved c).In-loop-place), long (goal.at.loop-place-preserved c).At-loop-place))),
+      subst (λ r. Upto (tables (goal.at.loop-place-preserved c).Start) (grant (goal.at.loop-place-preserved c).At-loop-place)
+          (year (goal.at.loop-place-preserved c).At-loop-place) (membership (goal.at.loop-place-preserved c).At-loop-place)
+          (set c.loop-place.flags r flag) (c.loop-place.place + 1) next) (sym (written c))
+          (upto_next (tables (goal.at.loop-place-preserved c).Start) c.requires.right (grant (goal.at.loop-place-preserved c).At-loop-place)
+          (year (goal.at.loop-place-preserved c).At-loop-place)
+          (membership (goal.at.loop-place-preserved c).At-loop-place) c.loop-place.flags c.loop-place.place c.loop-place.from c.loop-place.invariant.4
+          c.loop-place.invariant.1 (inside (goal.at.loop-place-preserved c).In-loop-place) (there (goal.at.loop-place-preserved c).In-loop-place)
+          (most (goal.at.loop-place-preserved c).At-loop-place) next flag n g
+          (omega (
+            arith,
+            c.requires.right.named Pos c.loop-place.place (there (goal.at.loop-place-preserved c).In-loop-place),
+            long (goal.at.loop-place-preserved c).At-loop-place,
+          ))),
     )
 
 pub returns : goal.returns
 returns c =
-    let e : c.loop-place.place ≡ range_end (tables (goal.at.returns c).Start) (members_of (year (goal.at.returns c).At-loop-place) (membership (goal.at.returns c).At-loop-place)) = omega (arith, c.loop-place.invariant.2, c.loop-place.invariant.3) in
-    upto_end (tables (goal.at.returns c).Start) c.requires.right (grant (goal.at.returns c).At-loop-place) (year (goal.at.returns c).At-loop-place) (membership (goal.at.returns c).At-loop-place) c.loop-place.flags c.loop-place.from (long (goal.at.returns c).At-loop-place)
-    (subst (λ p. Upto (tables (goal.at.returns c).Start) (grant (goal.at.returns c).At-loop-place) (year (goal.at.returns c).At-loop-place) (membership (goal.at.returns c).At-loop-place) c.loop-place.flags p c.loop-place.from) e c.loop-place.invariant.4)
+    let e : c.loop-place.place ≡ range_end (tables (goal.at.returns c).Start)
+    (members_of (year (goal.at.returns c).At-loop-place) (membership (goal.at.returns c).At-loop-place)) =
+    omega (arith, c.loop-place.invariant.2, c.loop-place.invariant.3) in
+    upto_end (tables (goal.at.returns c).Start) c.requires.right (grant (goal.at.returns c).At-loop-place) (year (goal.at.returns c).At-loop-place)
+    (membership (goal.at.returns c).At-loop-place) c.loop-place.flags c.loop-place.from (long (goal.at.returns c).At-loop-place)
+    (subst (λ p. Upto (tables (goal.at.returns c).Start) (grant (goal.at.returns c).At-loop-place) (year (goal.at.returns c).At-loop-place)
+    (membership (goal.at.returns c).At-loop-place) c.loop-place.flags p c.loop-place.from) e c.loop-place.invariant.4)

@@ -1,4 +1,4 @@
-use Prim.Native.Nat.{◌-◌, ◌≤◌}
+use Prim.Native.Nat.{◌≤◌}
 use mathlib.Core.Path.{◌≡◌}
 use lib.ListN.{length}
 use Rattle.tables.specs.Tables.{tables_of}
@@ -13,6 +13,3 @@ invariant-loop-place l =
     × (l.place ≤ l.last)
     × (l.last ≡ range_end (tables_of l.rows l.pos l.osp) (members_of l.year l.membership))
     × Upto (tables_of l.rows l.pos l.osp) l.grant l.year l.membership l.flags l.place l.from
-
-abbrev pub decreases-loop-place : goal.decreases-loop-place
-decreases-loop-place l = l.last - l.place

@@ -48,7 +48,9 @@ has e = sym e.has_room.ensures ∙ not-false e.has_room.result e.if-not-has_room
 
 pub returns-then-not-asked_right : goal.returns-then-not-asked_right
 returns-then-not-asked_right c =
-    let shown = call_told grow_schema grow_is_right (lent (goal.at.returns-then-not-asked_right c).Start) (wrong_asked (lent (goal.at.returns-then-not-asked_right c).Start) (sym c.asked_right.ensures ∙ not-true c.asked_right.result c.if-not-asked_right.true-raw)) in
+    let shown = call_told grow_schema grow_is_right (lent (goal.at.returns-then-not-asked_right c).Start)
+    (wrong_asked (lent (goal.at.returns-then-not-asked_right c).Start)
+    (sym c.asked_right.ensures ∙ not-true c.asked_right.result c.if-not-asked_right.true-raw)) in
     record { osp_after = shown.0; number = shown.1 }
 
 pub overflow_mul-count : goal.overflow_mul-count
@@ -60,18 +62,33 @@ has_room-requires c = few c
 pub returns-then-not-has_room : goal.returns-then-not-has_room
 returns-then-not-has_room c =
     let shown = call_told grow_schema grow_is_right (lent (goal.at.returns-then-not-has_room c).Start)
-    (no_room (lent (goal.at.returns-then-not-has_room c).Start) (asked (goal.at.returns-then-not-has_room c).After-wide-count) (count (goal.at.returns-then-not-has_room c).After-wide-count) (counted (goal.at.returns-then-not-has_room c).After-wide-count)
+    (no_room (lent (goal.at.returns-then-not-has_room c).Start) (asked (goal.at.returns-then-not-has_room c).After-wide-count)
+    (count (goal.at.returns-then-not-has_room c).After-wide-count) (counted (goal.at.returns-then-not-has_room c).After-wide-count)
     (sym c.has_room.ensures ∙ not-true c.has_room.result c.if-not-has_room.true-raw)) in
     record { osp_after = shown.0; number = shown.1 }
 
 pub write_tables-end-requires : goal.write_tables-end-requires
 write_tables-end-requires c = let a = c.args in
-    let r = room_parts (count (goal.at.write_tables-end-requires c).After-wide-count) (length a.rows.now) (length a.pos.now) (length a.osp.now) (has (goal.at.write_tables-end-requires c).Else-not-has_room) in record { stems_le_most_stems = (asked_few a.stems a.year (asked (goal.at.write_tables-end-requires c).After-wide-count), asked_ended a.stems a.year (asked (goal.at.write_tables-end-requires c).After-wide-count), counted (goal.at.write_tables-end-requires c).After-wide-count); column_count_in_bounds = (r.for_rows, r.for_pos, r.for_osp); most_rows_in_bounds = enough (length {A = ℕ} (replicate (most_rows / 2) 0)) (length-replicate {A = ℕ} (most_rows / 2) 0) }
+    let r = room_parts (count (goal.at.write_tables-end-requires c).After-wide-count) (length a.rows.now) (length a.pos.now) (length a.osp.now)
+    (has (goal.at.write_tables-end-requires c).Else-not-has_room) in
+    record {
+      stems_le_most_stems = (
+        asked_few a.stems a.year (asked (goal.at.write_tables-end-requires c).After-wide-count),
+        asked_ended a.stems a.year (asked (goal.at.write_tables-end-requires c).After-wide-count),
+        counted (goal.at.write_tables-end-requires c).After-wide-count,
+      );
+      column_count_in_bounds = (r.for_rows, r.for_pos, r.for_osp);
+      most_rows_in_bounds = enough (length {A = ℕ} (replicate (most_rows / 2) 0)) (length-replicate {A = ℕ} (most_rows / 2) 0);
+    }
 
 pub returns : goal.returns
 returns c =
     let shown = call_told grow_schema grow_is_right (lent (goal.at.returns c).Start)
-    (same_result (wood_in (lent (goal.at.returns c).Start)) (lent (goal.at.returns c).Start).buffers (rows_for (lent (goal.at.returns c).Start).stems) (grow_counts (lent (goal.at.returns c).Start)) c.write_tables-end.result (count (goal.at.returns c).After-wide-count) _ _ _
-    (c.write_tables-end.ensures.value ∙ ap (λ n. n * column_count) (counted (goal.at.returns c).After-wide-count)) (counted (goal.at.returns c).After-wide-count) c.write_tables-end.ensures.rows_after c.write_tables-end.ensures.pos_after c.write_tables-end.ensures.osp_after
-    ∙ served (lent (goal.at.returns c).Start) (asked (goal.at.returns c).After-wide-count) (count (goal.at.returns c).After-wide-count) (counted (goal.at.returns c).After-wide-count) (has (goal.at.returns c).Else-not-has_room)) in
+    (same_result (wood_in (lent (goal.at.returns c).Start)) (lent (goal.at.returns c).Start).buffers (rows_for (lent (goal.at.returns c).Start).stems)
+    (grow_counts (lent (goal.at.returns c).Start)) c.write_tables-end.result (count (goal.at.returns c).After-wide-count) _ _ _
+    (c.write_tables-end.ensures.value ∙ ap (λ n. n * column_count) (counted (goal.at.returns c).After-wide-count))
+    (counted (goal.at.returns c).After-wide-count) c.write_tables-end.ensures.rows_after c.write_tables-end.ensures.pos_after
+    c.write_tables-end.ensures.osp_after
+    ∙ served (lent (goal.at.returns c).Start) (asked (goal.at.returns c).After-wide-count) (count (goal.at.returns c).After-wide-count)
+    (counted (goal.at.returns c).After-wide-count) (has (goal.at.returns c).Else-not-has_room)) in
     record { osp_after = shown.0; number = shown.1 }

@@ -1,7 +1,6 @@
-use Prim.Native.Nat.{◌-◌, ◌*◌, ◌≤◌}
+use Prim.Native.Nat.{◌*◌}
 use mathlib.Core.Path.{◌≡◌}
 use mathlib.Core.List.{flatten}
-use lib.ListN.{length}
 use Rattle.sequences.specs.Sequences.{iterate, over}
 use Rattle.tables.specs.Tables.{column_count}
 use Rattle.woods.specs.Woods.{next_draw, wood_rows}
@@ -10,11 +9,6 @@ use Rattle.wood_rows.proofs.write_rows.Given as goal
 
 abbrev pub invariant-loop-stem : goal.invariant-loop-stem
 invariant-loop-stem l =
-    (l.stem ≤ l.stems)
-    × (length l.rows ≡ length l.initial.rows)
-    × (l.used ≡ rows_for l.stem * column_count)
+    (l.used ≡ rows_for l.stem * column_count)
     × (l.x ≡ iterate next_draw (2 * l.stem) l.seed)
     × (l.rows ≡ over (flatten (wood_rows l.seed l.year l.stem)) l.initial.rows)
-
-abbrev pub decreases-loop-stem : goal.decreases-loop-stem
-decreases-loop-stem l = l.stems - l.stem

@@ -20,4 +20,12 @@ made_size s = omega (arith, rows_length s.args.seed s.args.stems s.args.year, s.
 pub returns : goal.returns
 returns c = let a = c.args in
     let rows : c.write_rows-end.new.rows ≡ over (flatten (wood_rows a.seed a.year a.stems)) a.rows.now = c.write_rows-end.ensures.rows_after in
-    let first = ap₂ take (sym (made_size (goal.at.returns c).Start)) rows ∙ take_over (flatten (wood_rows a.seed a.year a.stems)) a.rows.now in record { value = omega (arith, c.write_rows-end.ensures.value, c.requires.stems_le_most_stems.2); rows_after = rows; pos_after = c.write_lists.ensures.pos_after ∙ ap (λ rs. over (row_numbers Pos rs) a.pos.now) first; osp_after = c.write_lists.ensures.osp_after ∙ ap (λ rs. over (row_numbers Osp rs) a.osp.now) first }
+    let first = ap₂ take (sym (made_size (goal.at.returns c).Start)) rows ∙ take_over (flatten (wood_rows a.seed a.year a.stems)) a.rows.now in
+    record {
+      value = omega (arith, c.write_rows-end.ensures.value, c.requires.stems_le_most_stems.2);
+      rows_after = rows;
+      pos_after =
+          c.write_lists.ensures.pos_after ∙ ap (λ rs. over (row_numbers Pos rs) a.pos.now) first;
+      osp_after = c.write_lists.ensures.osp_after ∙
+          ap (λ rs. over (row_numbers Osp rs) a.osp.now) first;
+    }

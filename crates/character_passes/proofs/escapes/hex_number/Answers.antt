@@ -3,44 +3,51 @@ use Rattle.characters.specs.Escapes.{hex_from}
 use Rattle.character_passes.proofs.Digits.{digits_done, digits_end, no_digit, past_last, next_digit}
 use Prim.Native.Nat.{◌+◌, ◌-◌, ◌*◌}
 use mathlib.Core.Path.{◌≡◌, refl, sym, ap, ◌∙◌}
+use mathlib.Core.Logic.{inl, inr}
 use native.Mathlib.Omega.{arith}
 use lib.ListN.{drop}
 use Rattle.character_passes.proofs.escapes.hex_number.Goals as goal
 
-pub loop-left-init : goal.loop-left-init
-loop-left-init c = (omega (arith, c.requires), refl)
-
-pub returns-then-at-text : goal.returns-then-at-text
-returns-then-at-text c =
+pub loop-i-init : goal.loop-i-init
+loop-i-init c =
     let a = c.args in
-    sym (c.loop-left.invariant.1 ∙ digits_end a.text.now c.loop-left.at c.loop-left.v c.loop-left.left (omega arith) (omega (arith, c.if-at-text.true)))
+    let z : a.digits - 0 ≡ a.digits = omega arith in
+    let f : a.from + 0 ≡ a.from = omega arith in
+    (omega arith, rw (z, f) refl)
+
+pub returns-then-from-i : goal.returns-then-from-i
+returns-then-from-i c =
+    let a = c.args in
+    let i = c.loop-i.i in
+    sym (c.loop-i.invariant.1 ∙ digits_end a.text.now (a.from + i) c.loop-i.v (a.digits - i) (omega arith) (omega arith))
 
 pub returns-then-d-ge16 : goal.returns-then-d-ge16
 returns-then-d-ge16 c =
     let a = c.args in
+    let i = c.loop-i.i in
     let e = c.hex_digit-d.ensures in
-    sym (c.loop-left.invariant.1 ∙ no_digit a.text.now c.loop-left.at c.loop-left.v (omega arith) c.loop-left.left (omega arith) (omega (arith, e, c.if-d-ge16.true)))
+    elim c.then-d-ge16.either [
+      | inl h ↦ sym (c.loop-i.invariant.1 ∙ no_digit a.text.now (a.from + i) c.loop-i.v (omega arith) (a.digits - i) (omega arith) (omega (arith, e, h)))
+      | inr h ↦
+          sym (c.loop-i.invariant.1
+          ∙ past_last a.text.now (a.from + i) c.loop-i.v (omega arith) (omega (arith, e, h.0)) (a.digits - i) (omega arith) (omega (arith, h.1)))
+    ]
 
-pub returns-then-v-ge-NO_POINT : goal.returns-then-v-ge-NO_POINT
-returns-then-v-ge-NO_POINT c =
+pub loop-i-preserved : goal.loop-i-preserved
+loop-i-preserved c =
     let a = c.args in
+    let i = c.loop-i.i in
     let e = c.hex_digit-d.ensures in
-    sym (c.loop-left.invariant.1 ∙ past_last a.text.now c.loop-left.at c.loop-left.v (omega arith) (omega (arith, e, c.if-d-ge16.false))
-    c.loop-left.left (omega arith) (omega (arith, c.if-v-ge-NO_POINT.true)))
-
-pub loop-left-preserved : goal.loop-left-preserved
-loop-left-preserved c =
-    let a = c.args in
-    let e = c.hex_digit-d.ensures in (
+    let z : a.digits - i - 1 ≡ a.digits - (i + 1) = omega arith in
+    let f : a.from + i + 1 ≡ a.from + (i + 1) = omega arith in (
       omega arith,
-      c.loop-left.invariant.1
-          ∙ next_digit a.text.now c.loop-left.at c.loop-left.v (omega arith) (omega (arith, e, c.if-d-ge16.false))
-          c.loop-left.left (omega arith) (omega (arith, c.if-v-ge-NO_POINT.false))
-          ∙ ap (λ d. hex_from (c.loop-left.left - 1) (drop (c.loop-left.at + 1) a.text.now) (c.loop-left.v * 16 + d)) (sym e),
+      c.loop-i.invariant.1
+          ∙ next_digit a.text.now (a.from + i) c.loop-i.v (omega arith) (omega (arith, e)) (a.digits - i) (omega arith) (omega arith)
+          ∙ rw (z, f) (ap (λ d. hex_from (a.digits - (i + 1)) (drop (a.from + (i + 1)) a.text.now) (c.loop-i.v * 16 + d)) (sym e)),
     )
 
 pub returns : goal.returns
 returns c =
     let a = c.args in
-    let z : c.loop-left.left ≡ 0 = omega (arith, c.loop-left-test.false) in
-    sym (c.loop-left.invariant.1 ∙ rw z (digits_done (drop c.loop-left.at a.text.now) c.loop-left.v))
+    let z : a.digits - c.loop-i.i ≡ 0 = omega arith in
+    sym (c.loop-i.invariant.1 ∙ rw z (digits_done (drop (a.from + c.loop-i.i) a.text.now) c.loop-i.v))

@@ -23,37 +23,37 @@ pub overflow_mul-point : goal.overflow_mul-point
 overflow_mul-point c =
     let a = c.args in
     let e = sym c.nothing_left.ensures ∙ not-true c.nothing_left.result c.loop-rest-test.true-raw in
-    let w = room_more a.text.now c.loop-rest.at c.loop-rest.rest c.loop-rest.point 0 e (omega arith) c.next-step.result c.next-step.ensures c.in-More.r c.in-More.is in
-    omega (arith, w, bits_most c.in-More.r)
+    let w = room_more a.text.now c.loop-rest.at c.loop-rest.rest c.loop-rest.point 0 e (omega arith) c.next.result c.next.ensures c.in-Some.r c.in-Some.is in
+    omega (arith, w, bits_most c.in-Some.r)
 
 pub overflow_add-point : goal.overflow_add-point
 overflow_add-point c =
     let a = c.args in
     let e = sym c.nothing_left.ensures ∙ not-true c.nothing_left.result c.loop-rest-test.true-raw in
-    let w = room_more a.text.now c.loop-rest.at c.loop-rest.rest c.loop-rest.point 0 e (omega arith) c.next-step.result c.next-step.ensures c.in-More.r c.in-More.is in
-    omega (arith, c.left_of.ensures.1, w, bits_most c.in-More.r)
+    let w = room_more a.text.now c.loop-rest.at c.loop-rest.rest c.loop-rest.point 0 e (omega arith) c.next.result c.next.ensures c.in-Some.r c.in-Some.is in
+    omega (arith, w, bits_most c.in-Some.r)
 
 pub loop-rest-preserved : goal.loop-rest-preserved
 loop-rest-preserved c =
     let a = c.args in
     let e = sym c.nothing_left.ensures ∙ not-true c.nothing_left.result c.loop-rest-test.true-raw in
-    let w = room_more a.text.now c.loop-rest.at c.loop-rest.rest c.loop-rest.point 0 e (omega arith) c.next-step.result c.next-step.ensures c.in-More.r c.in-More.is in
+    let w = room_more a.text.now c.loop-rest.at c.loop-rest.rest c.loop-rest.point 0 e (omega arith) c.next.result c.next.ensures c.in-Some.r c.in-Some.is in
     let z : c.loop-rest.at - a.from + 1 ≡ c.loop-rest.at + 1 - a.from = omega arith in (
       omega arith,
       omega arith,
-      omega (arith, c.left_of.ensures.1, w),
+      omega (arith, w),
       c.loop-rest.invariant.3
-          ∙ sequence_more a.text.now c.loop-rest.at c.loop-rest.rest c.loop-rest.point (c.loop-rest.at - a.from) e (omega arith) c.next-step.result
-          c.next-step.ensures c.in-More.r c.in-More.is
-          ∙ rw (z, c.left_of.ensures.0) refl,
+          ∙ sequence_more a.text.now c.loop-rest.at c.loop-rest.rest c.loop-rest.point (c.loop-rest.at - a.from) e (omega arith) c.next.result
+          c.next.ensures c.in-Some.r c.in-Some.is
+          ∙ rw (z, c.from.ensures ∙ c.saturating_sub.ensures) refl,
     )
 
-pub returns-in-Wrong : goal.returns-in-Wrong
-returns-in-Wrong c =
+pub returns-in-None : goal.returns-in-None
+returns-in-None c =
     let a = c.args in
     let e = sym c.nothing_left.ensures ∙ not-true c.nothing_left.result c.loop-rest-test.true-raw in
     sym (c.loop-rest.invariant.3 ∙ sequence_wrong a.text.now c.loop-rest.at c.loop-rest.rest c.loop-rest.point (c.loop-rest.at - a.from) e (omega arith)
-    c.next-step.result c.next-step.ensures c.in-Wrong.is)
+    c.next.result c.next.ensures c.in-None.is)
 
 pub returns : goal.returns
 returns c =

@@ -8,7 +8,7 @@ use Rattle.conditions.proofs.Places.{left_fits, lefts_next, lefts_whole}
 use Rattle.condition_values.proofs.operands.index_operands.Goals as goal
 
 pub loop-at-init : goal.loop-at-init
-loop-at-init c = (omega arith, refl, refl)
+loop-at-init c = (refl, refl)
 
 pub overflow_cast-lefts : goal.overflow_cast-lefts
 overflow_cast-lefts c =
@@ -26,14 +26,13 @@ bounds-lefts-at c = omega (arith, c.requires.1)
 pub loop-at-preserved : goal.loop-at-preserved
 loop-at-preserved c =
     let i = c.loop-at.invariant in (
-      omega arith,
-      (simp length-set) ∙ i.1,
-      lefts_next c.args.plan.now c.loop-at.lefts c.loop-at.at (omega arith) (omega (arith, c.requires.1, i.1)) i.2 c.left_words.ensures,
+      (simp length-set) ∙ i.0,
+      lefts_next c.args.plan.now c.loop-at.lefts c.loop-at.at (omega arith) (omega (arith, c.requires.1, i.0)) i.1 c.left_words.ensures,
     )
 
 pub shape_of-lefts : goal.shape_of-lefts
-shape_of-lefts c = c.loop-at.invariant.1
+shape_of-lefts c = c.loop-at.invariant.0
 
 pub returns : goal.returns
 returns c =
-    lefts_whole c.args.plan.now c.loop-at.lefts c.loop-at.at (omega (arith, c.loop-at-test.false)) c.loop-at.invariant.0 c.loop-at.invariant.2
+    lefts_whole c.args.plan.now c.loop-at.lefts c.loop-at.at (omega (arith, c.loop-at-test.false)) (omega arith) c.loop-at.invariant.1

@@ -1,11 +1,7 @@
-use Prim.Native.Nat.{◌-◌, ◌≤◌}
 use mathlib.Core.Path.{◌≡◌}
 use lib.ListN.{length, take}
 use Rattle.conditions.specs.Values.{lefts_of}
 use Rattle.condition_values.proofs.operands.index_operands.Given as goal
 
 abbrev pub invariant-loop-at : goal.invariant-loop-at
-invariant-loop-at l = (l.at ≤ length l.plan) × (length l.lefts ≡ length l.initial.lefts) × (take l.at l.lefts ≡ take l.at (lefts_of l.plan))
-
-abbrev pub decreases-loop-at : goal.decreases-loop-at
-decreases-loop-at l = length l.plan - l.at
+invariant-loop-at l = (length l.lefts ≡ length l.initial.lefts) × (take l.at l.lefts ≡ take l.at (lefts_of l.plan))

@@ -1,4 +1,4 @@
--- `rest_in_lem` meets its contract.
+-- `rest_in` meets its contract.
 use mathlib.Core.Path.{◌≡◌, sym, ap, ◌∙◌}
 use lib.ListN.{drop}
 use Rattle.dictionary_checks.specs.declared.Rest.{Rest}

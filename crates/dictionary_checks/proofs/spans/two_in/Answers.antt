@@ -1,19 +1,16 @@
 -- `two_in` meets its contract.
 use mathlib.Core.Path.{sym, ◌∙◌}
 use mathlib.Core.List.{[], ◌∷◌}
-use borrow.Author.Tests.{not-true, not-false}
 use Rattle.dictionaries.specs.Utf8.{span, trailing}
 use Rattle.dictionary_checks.proofs.Spanning.{span_goes, span_stops}
 use Rattle.dictionary_checks.proofs.spans.two_in.Goals as goal
 
-pub returns-then-not-one_in : goal.returns-then-not-one_in
-returns-then-not-one_in c =
+pub returns-then-one_in : goal.returns-then-one_in
+returns-then-one_in c =
     let a = c.args in
-    let e = sym c.one_in.ensures ∙ not-true _ c.if-not-one_in.true-raw in
-    sym (span_stops a.bytes.now a.i (span a.least a.greatest) (trailing ∷ []) e)
+    c.one_in-then-one_in.ensures ∙ sym (span_goes a.bytes.now a.i (span a.least a.greatest) (trailing ∷ []) (sym c.one_in.ensures ∙ c.if-one_in.true))
 
-pub returns : goal.returns
-returns c =
+pub returns-else-one_in : goal.returns-else-one_in
+returns-else-one_in c =
     let a = c.args in
-    let e = sym c.one_in.ensures ∙ not-false _ c.if-not-one_in.false-raw in
-    c.one_in-2.ensures ∙ sym (span_goes a.bytes.now a.i (span a.least a.greatest) (trailing ∷ []) e)
+    c.if-one_in.false ∙ sym (span_stops a.bytes.now a.i (span a.least a.greatest) (trailing ∷ []) (sym c.one_in.ensures ∙ c.if-one_in.false))

@@ -15,14 +15,14 @@ Sorted = After-sort
 -- the places as the sort leaves them
 sorted : (d : Sorted) → d.sort.new.list ≡ sorted_places d.args.bytes.now d.args.ends.now
 sorted d =
-    d.sort.ensures ∙ ap (sort_by (place_before d.args.bytes.now d.args.ends.now)) (d.list_places.ensures ∙ ap numbers d.requires.numbers_len.1)
+    d.sort.ensures ∙ ap (sort_by (place_before d.args.bytes.now d.args.ends.now)) (d.count_up.ensures ∙ ap numbers d.requires.numbers_len.1)
 
 pub sort-requires : goal.sort-requires
 sort-requires c =
     record {
       ends_value = c.requires.ends_value;
-      list_value = rw (c.list_places.ensures, c.requires.numbers_len.1) (numbers_within c.args.bytes.now c.args.ends.now);
-      list_in_bounds = omega (arith, c.list_places.auto.list, c.requires.numbers_len);
+      list_value = rw (c.count_up.ensures, c.requires.numbers_len.1) (numbers_within c.args.bytes.now c.args.ends.now);
+      list_in_bounds = omega (arith, c.count_up.auto.list, c.requires.numbers_len);
     }
 
 pub write_strings-requires : goal.write_strings-requires

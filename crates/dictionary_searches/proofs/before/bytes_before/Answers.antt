@@ -1,5 +1,4 @@
 -- `bytes_before` meets its contract. The invariant: the strings stand as their rests do.
-use Prim.Native.Nat.{◌-◌}
 use mathlib.Core.Path.{refl, ◌∙◌}
 use native.Mathlib.Omega.{arith}
 use Rattle.dictionaries.proofs.Searching.{from_less, from_more, from_same, from_longer, from_shorter, from_none}

@@ -23,25 +23,31 @@ second r = r.args.ys.now
 
 said : (r : Read) → Tells 4 0 (first r) (second r)
 said r =
-    let long = r.if-shorter-lt4.false in
-    let least = r.shorter.ensures in
-    tells 4 0 (first r) (second r) (omega (arith, long, least.0)) (omega (arith, long, least.1))
+    let long = r.if-min-lt4.false in
+    let least = r.min.ensures in
+    tells 4 0 (first r) (second r) (omega (arith, long, least)) (omega (arith, long, least))
     (λ i. omega (arith, r.type_inv.xs i))
     (λ i. omega (arith, r.type_inv.ys i))
 
 pub first_four-first-requires : goal.first_four-first-requires
-first_four-first-requires c = omega (arith, c.if-shorter-lt4.false, c.shorter.ensures.0)
+first_four-first-requires c = omega (arith, c.if-min-lt4.false, c.min.ensures)
 
 pub first_four-second-requires : goal.first_four-second-requires
-first_four-second-requires c = omega (arith, c.if-shorter-lt4.false, c.shorter.ensures.1)
+first_four-second-requires c = omega (arith, c.if-min-lt4.false, c.min.ensures)
 
 pub returns-then-first-second : goal.returns-then-first-second
 returns-then-first-second c =
-    told_before (first (goal.at.returns-then-first-second c).After-first_four-second) (second (goal.at.returns-then-first-second c).After-first_four-second) ((said (goal.at.returns-then-first-second c).After-first_four-second).if_less (omega (arith, c.first_four-first.ensures, c.first_four-second.ensures, c.if-first-second.true)))
+    told_before (first (goal.at.returns-then-first-second c).After-first_four-second)
+    (second (goal.at.returns-then-first-second c).After-first_four-second)
+    ((said (goal.at.returns-then-first-second c).After-first_four-second).if_less
+    (omega (arith, c.first_four-first.ensures, c.first_four-second.ensures, c.if-first-second.true)))
 
 pub returns-then-second-first : goal.returns-then-second-first
 returns-then-second-first c =
-    told_before (first (goal.at.returns-then-second-first c).After-first_four-second) (second (goal.at.returns-then-second-first c).After-first_four-second) ((said (goal.at.returns-then-second-first c).After-first_four-second).if_more (omega (arith, c.first_four-first.ensures, c.first_four-second.ensures, c.if-second-first.true)))
+    told_before (first (goal.at.returns-then-second-first c).After-first_four-second)
+    (second (goal.at.returns-then-second-first c).After-first_four-second)
+    ((said (goal.at.returns-then-second-first c).After-first_four-second).if_more
+    (omega (arith, c.first_four-first.ensures, c.first_four-second.ensures, c.if-second-first.true)))
 
 pub returns : goal.returns
 returns c =
@@ -53,4 +59,7 @@ returns c =
       c.if-second-first.false,
     )) in
     c.bytes_before-2.ensures
-    ∙ (ap₂ string_before (rest_of (first (goal.at.returns c).After-first_four-second) 4) (rest_of (second (goal.at.returns c).After-first_four-second) 4) ∙ told_same (first (goal.at.returns c).After-first_four-second) (second (goal.at.returns c).After-first_four-second) (drop 4 (first (goal.at.returns c).After-first_four-second)) (drop 4 (second (goal.at.returns c).After-first_four-second)) same)
+    ∙ (ap₂ string_before (rest_of (first (goal.at.returns c).After-first_four-second) 4)
+    (rest_of (second (goal.at.returns c).After-first_four-second) 4) ∙
+    told_same (first (goal.at.returns c).After-first_four-second) (second (goal.at.returns c).After-first_four-second)
+    (drop 4 (first (goal.at.returns c).After-first_four-second)) (drop 4 (second (goal.at.returns c).After-first_four-second)) same)

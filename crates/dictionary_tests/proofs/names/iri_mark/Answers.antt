@@ -1,8 +1,8 @@
 -- `iri_mark` meets its contract: one mark after the other.
 use mathlib.Core.Path.{◌∙◌, ap}
 use mathlib.Core.Bool.{cond}
-use lib.Dec.{eqb}
-use Rattle.dictionary_tests.proofs.Marks.{mark_says}
+use lib.Dec.{eqb, leb}
+use Rattle.dictionary_tests.proofs.Marks.{low_byte, mark_says}
 use Rattle.dictionary_tests.proofs.names.iri_mark.Goals as goal
 
 pub returns : goal.returns
@@ -17,5 +17,5 @@ returns c =
     ∙ ap (λ x. cond (eqb b 0x60) 1 x) (c.marked-first_brace.ensures
     ∙ ap (λ x. cond (eqb b 0x7B) 1 x) (c.marked-bar.ensures
     ∙ ap (λ x. cond (eqb b 0x7C) 1 x) (c.marked-brace.ensures
-    ∙ ap (λ x. cond (eqb b 0x7D) 1 x) c.low_mark-low.ensures)))))))))
+    ∙ ap (λ x. cond (eqb b 0x7D) 1 x) (c.from-low.ensures ∙ low_byte (leb b 0x20)))))))))))
     ∙ mark_says b

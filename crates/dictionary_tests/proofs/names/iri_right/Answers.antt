@@ -1,40 +1,22 @@
--- `iri_right` meets its contract. The invariant: all bytes pass exactly where the rest does.
-use Prim.Native.Nat.{◌-◌}
+-- `iri_right` meets its contract.
+use Rattle.std.proofs.Common.{rules, tests}
+use Rattle.std.proofs.lemmas.Iterator.{YieldsList-from_slice}
+use Rattle.std.proofs.lemmas.Iterator.Search.{all_from_yields_List}
 use native.Mathlib.Omega.{arith}
-use mathlib.Core.Path.{refl, sym, ap, ◌∙◌}
-use mathlib.Core.Bool.{◌&&◌}
+use mathlib.Core.Path.{◌≡◌, sym, ◌∙◌}
+use mathlib.Core.Bool.{true}
 use lib.Dec.{ltb}
 use lib.ListN.{length}
-use borrow.Author.Tests.{lt-ltb, le-ltb, not-true, not-false}
+use borrow.Author.Tests.{lt-ltb, eqb-false}
 use Rattle.dictionaries.specs.Checking.{iri_character}
-use Rattle.dictionary_tests.proofs.Walking.{all_step, all_stop, all_end, and-false}
+use Rattle.dictionary_tests.proofs.Walking.{all_listed}
 use Rattle.dictionary_tests.proofs.names.iri_right.Goals as goal
 
-pub returns-then-s-eq0 : goal.returns-then-s-eq0
-returns-then-s-eq0 c =
-    let t = c.args.s.now in
-    let n = c.if-s-eq0.true in
-    rw (le-ltb 0 (length t) (omega arith))
-
-pub loop-i-init : goal.loop-i-init
-loop-i-init c = (omega arith, refl)
-
-pub returns-then-not-iri_byte : goal.returns-then-not-iri_byte
-returns-then-not-iri_byte c =
-    let t = c.args.s.now in
-    let b = not-true _ c.if-not-iri_byte.true-raw in
-    sym (ap (λ b. ltb 0 (length t) && b)
-    (c.loop-i.invariant.1 ∙ all_stop iri_character t 0 c.loop-i.i (omega arith) (sym c.iri_byte.ensures ∙ b)) ∙ and-false (ltb 0 (length t)))
-
-pub loop-i-preserved : goal.loop-i-preserved
-loop-i-preserved c =
-    let t = c.args.s.now in
-    let b = not-false _ c.if-not-iri_byte.false-raw in
-    (omega arith, c.loop-i.invariant.1 ∙ all_step iri_character t 0 c.loop-i.i (omega arith) (sym c.iri_byte.ensures ∙ b))
-
-pub returns : goal.returns
-returns c =
-    let t = c.args.s.now in
-    let n = c.if-s-eq0.false in
-    sym (ap (λ b. ltb 0 (length t) && b) (c.loop-i.invariant.1 ∙ all_end iri_character t 0 c.loop-i.i (omega arith))
-    ∙ rw (lt-ltb 0 (length t) (omega arith)) refl)
+pub returns-then-not-is_empty : goal.returns-then-not-is_empty
+returns-then-not-is_empty c =
+    let s = c.args.s.now in
+    let some = eqb-false (length s) 0 (sym c.is_empty.ensures ∙ c.if-not-is_empty.true) in
+    let first : ltb 0 (length s) ≡ true = lt-ltb 0 (length s) (omega arith) in
+    rw first
+    (all_from_yields_List iri_character _ _ _ c.all.ensures.ran (YieldsList-from_slice s cc) (λ x b q k. search (rules, tests))
+    ∙ all_listed iri_character s)

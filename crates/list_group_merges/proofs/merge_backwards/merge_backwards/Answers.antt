@@ -4,8 +4,8 @@ use native.Mathlib.Omega.{arith}
 use mathlib.Core.Path.{◌≡◌, refl, sym, ◌∙◌}
 use lib.ListN.{length, drop}
 use mathlib.Core.List.{◌++◌}
-use Rattle.lists.specs.declared.Comes.{Comes}
-use Rattle.lists.specs.declared.Comes.TheVariants.{Before, Same, After}
+use Rattle.std.specs.declared.cmp.Ordering.{Ordering}
+use Rattle.std.specs.declared.cmp.Ordering.TheVariants.{Less, Equal, Greater}
 use Rattle.list_group_merges.proofs.WalkSteps.{old_left, new_left}
 use Rattle.list_group_merges.proofs.HalfMerges.{half_start, half_below, half_first, half_room, half_new, half_old, half_puts}
 use Rattle.list_group_merges.specs.MergingBackwards.{merged_records}
@@ -17,17 +17,17 @@ use Rattle.list_group_merges.proofs.merge_backwards.merge_backwards.Goals.{After
 abbrev Placed : Type 0
 Placed = After-put_record
 
-abbrev side : Placed → Comes
+abbrev side : Placed → Ordering
 side p = p.pick-side.result
 
-new_there : (p : Placed) (s : Comes) → side p ≡ s → p.args.g + 8 ≤ p.loop-y.y
+new_there : (p : Placed) (s : Ordering) → side p ≡ s → p.args.g + 8 ≤ p.loop-y.y
 new_there p s told = half_new p.loop-y.invariant (omega arith) s (sym p.pick-side.ensures ∙ told)
 
-old_there : (p : Placed) (s : Comes) → side p ≡ s → (s ≡ Before → ⊥) → p.args.g + 8 ≤ p.loop-y.x
+old_there : (p : Placed) (s : Ordering) → side p ≡ s → (s ≡ Less → ⊥) → p.args.g + 8 ≤ p.loop-y.x
 old_there p s told other = half_old p.loop-y.invariant (omega arith) s (sym p.pick-side.ensures ∙ told) other
 
 -- the invariant of the next turn, by the side
-goes_on_fact : (p : Placed) (s : Comes) → side p ≡ s →
+goes_on_fact : (p : Placed) (s : Ordering) → side p ≡ s →
     let a = p.args in
     HalfMerged a.g a.kept.now a.list.now
     (merged_records a.g a.kept.now a.list.now (a.used / (a.g + 8)) (length a.list.now / (a.g + 8)) ++ drop a.words a.kept.now)
@@ -56,37 +56,38 @@ put_record-requires c =
     (c.requires.0, half_puts i (omega arith) c.pick-side.result (sym c.pick-side.ensures))
 
 pub overflow_sub-y : goal.overflow_sub-y
-overflow_sub-y c = new_there (goal.at.overflow_sub-y c).After-put_record Before c.in-Before.is
+overflow_sub-y c = new_there (goal.at.overflow_sub-y c).After-put_record Less c.in-Less.is
 
-pub loop-y-smaller-in-Before : goal.loop-y-smaller-in-Before
-loop-y-smaller-in-Before c = omega (arith, new_there (goal.at.loop-y-smaller-in-Before c).After-put_record Before c.in-Before.is)
+pub loop-y-smaller-in-Less : goal.loop-y-smaller-in-Less
+loop-y-smaller-in-Less c = omega (arith, new_there (goal.at.loop-y-smaller-in-Less c).After-put_record Less c.in-Less.is)
 
-pub loop-y-preserved-in-Before : goal.loop-y-preserved-in-Before
-loop-y-preserved-in-Before c = goes_on_fact (goal.at.loop-y-preserved-in-Before c).After-put_record Before c.in-Before.is
+pub loop-y-preserved-in-Less : goal.loop-y-preserved-in-Less
+loop-y-preserved-in-Less c = goes_on_fact (goal.at.loop-y-preserved-in-Less c).After-put_record Less c.in-Less.is
 
 pub overflow_sub-x : goal.overflow_sub-x
-overflow_sub-x c = old_there (goal.at.overflow_sub-x c).After-put_record After c.in-After.is (λ p. let z : ◌≡◌ {A = ℕ} 0 1 = cc in omega arith)
+overflow_sub-x c = old_there (goal.at.overflow_sub-x c).After-put_record Greater c.in-Greater.is (λ p. let z : ◌≡◌ {A = ℕ} 0 1 = cc in omega arith)
 
-pub loop-y-smaller-in-After : goal.loop-y-smaller-in-After
-loop-y-smaller-in-After c = omega (
+pub loop-y-smaller-in-Greater : goal.loop-y-smaller-in-Greater
+loop-y-smaller-in-Greater c = omega (
   arith,
-  old_there (goal.at.loop-y-smaller-in-After c).After-put_record After c.in-After.is (λ p. let z : ◌≡◌ {A = ℕ} 0 1 = cc in omega arith),
+  old_there (goal.at.loop-y-smaller-in-Greater c).After-put_record Greater c.in-Greater.is (λ p. let z : ◌≡◌ {A = ℕ} 0 1 = cc in omega arith),
 )
 
-pub loop-y-preserved-in-After : goal.loop-y-preserved-in-After
-loop-y-preserved-in-After c = goes_on_fact (goal.at.loop-y-preserved-in-After c).After-put_record After c.in-After.is
+pub loop-y-preserved-in-Greater : goal.loop-y-preserved-in-Greater
+loop-y-preserved-in-Greater c = goes_on_fact (goal.at.loop-y-preserved-in-Greater c).After-put_record Greater c.in-Greater.is
 
-pub overflow_sub-x-in-Same : goal.overflow_sub-x-in-Same
-overflow_sub-x-in-Same c = old_there (goal.at.overflow_sub-x-in-Same c).After-put_record Same c.in-Same.is (λ p. let z : ◌≡◌ {A = ℕ} 0 1 = cc in omega arith)
+pub overflow_sub-x-in-Equal : goal.overflow_sub-x-in-Equal
+overflow_sub-x-in-Equal c =
+    old_there (goal.at.overflow_sub-x-in-Equal c).After-put_record Equal c.in-Equal.is (λ p. let z : ◌≡◌ {A = ℕ} 0 1 = cc in omega arith)
 
-pub overflow_sub-y-in-Same : goal.overflow_sub-y-in-Same
-overflow_sub-y-in-Same c = new_there (goal.at.overflow_sub-y-in-Same c).After-put_record Same c.in-Same.is
+pub overflow_sub-y-in-Equal : goal.overflow_sub-y-in-Equal
+overflow_sub-y-in-Equal c = new_there (goal.at.overflow_sub-y-in-Equal c).After-put_record Equal c.in-Equal.is
 
 pub loop-y-smaller : goal.loop-y-smaller
-loop-y-smaller c = omega (arith, new_there (goal.at.loop-y-smaller c).After-put_record Same c.in-Same.is)
+loop-y-smaller c = omega (arith, new_there (goal.at.loop-y-smaller c).After-put_record Equal c.in-Equal.is)
 
 pub loop-y-preserved : goal.loop-y-preserved
-loop-y-preserved c = goes_on_fact (goal.at.loop-y-preserved c).After-put_record Same c.in-Same.is
+loop-y-preserved c = goes_on_fact (goal.at.loop-y-preserved c).After-put_record Equal c.in-Equal.is
 
 pub shape_of-kept : goal.shape_of-kept
 shape_of-kept c = c.loop-y.invariant.size

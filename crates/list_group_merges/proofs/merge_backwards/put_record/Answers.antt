@@ -15,11 +15,11 @@ copy_in-requires c =
 pub overflow_sub-x : goal.overflow_sub-x
 overflow_sub-x c =
     (same_old c.args.g c.args.kept.now c.args.x c.args.list.now c.args.y c.args.to c.args.side c.requires.1
-    c.in-Same.is).0
+    c.in-Equal.is).0
 
 pub merge_record-requires : goal.merge_record-requires
 merge_record-requires c =
-    let e = c.in-Same.is in (
+    let e = c.in-Equal.is in (
       c.requires.0,
       (same_old c.args.g c.args.kept.now c.args.x c.args.list.now c.args.y c.args.to c.args.side c.requires.1
           e).1,
@@ -30,29 +30,29 @@ merge_record-requires c =
           c.requires.1 e,
     )
 
-pub overflow_sub-x-in-After : goal.overflow_sub-x-in-After
-overflow_sub-x-in-After c =
+pub overflow_sub-x-in-Greater : goal.overflow_sub-x-in-Greater
+overflow_sub-x-in-Greater c =
     (after_old c.args.g c.args.kept.now c.args.x c.args.list.now c.args.y c.args.to c.args.side c.requires.1
-    c.in-After.is).0
+    c.in-Greater.is).0
 
 pub move_record-requires : goal.move_record-requires
 move_record-requires c = (
   (after_old c.args.g c.args.kept.now c.args.x c.args.list.now c.args.y c.args.to c.args.side c.requires.1
-      c.in-After.is).1,
+      c.in-Greater.is).1,
   c.requires.1.room,
 )
 
-pub returns-in-Before : goal.returns-in-Before
-returns-in-Before c =
+pub returns-in-Less : goal.returns-in-Less
+returns-in-Less c =
     new_put c.args.g c.args.kept.now c.args.x c.args.list.now c.args.y c.args.to c.args.side c.requires.1
-    c.in-Before.is c.copy_in.new.buf c.copy_in.ensures
+    c.in-Less.is c.copy_in.new.buf c.copy_in.ensures
 
-pub returns-in-Same : goal.returns-in-Same
-returns-in-Same c =
+pub returns-in-Equal : goal.returns-in-Equal
+returns-in-Equal c =
     joined_put c.args.g c.args.kept.now c.args.x c.args.list.now c.args.y c.args.to c.args.side c.requires.1
-    c.in-Same.is c.merge_record.new.kept c.merge_record.ensures
+    c.in-Equal.is c.merge_record.new.kept c.merge_record.ensures
 
-pub returns-in-After : goal.returns-in-After
-returns-in-After c =
+pub returns-in-Greater : goal.returns-in-Greater
+returns-in-Greater c =
     old_put c.args.g c.args.kept.now c.args.x c.args.list.now c.args.y c.args.to c.args.side c.requires.1
-    c.in-After.is c.move_record.new.kept c.move_record.ensures
+    c.in-Greater.is c.move_record.new.kept c.move_record.ensures

@@ -4,7 +4,7 @@ use native.Mathlib.Omega.{arith}
 use native.Mathlib.Nat.{div-le_self}
 use mathlib.Core.Path.{◌≡◌, refl, sym, ◌∙◌}
 use borrow.Author.Tests.{not-true, not-false}
-use Rattle.lists.specs.declared.Comes.TheVariants.{Before, Same, After}
+use Rattle.std.specs.declared.cmp.Ordering.TheVariants.{Less, Equal, Greater}
 use Rattle.list_group_merges.proofs.Unions.{counted_start, counted_first, counted_new, counted_old}
 use Rattle.list_group_merges.proofs.Unions.{counted_next, counted_over, counted_end}
 use Rattle.list_group_merges.proofs.merge_backwards.union_of.Goals as goal
@@ -24,59 +24,59 @@ pick-requires c =
 pub overflow_sub-y : goal.overflow_sub-y
 overflow_sub-y c =
     let i = c.loop-y.invariant in
-    let e = sym c.pick.ensures ∙ c.in-Before.is in
-    counted_new i (omega arith) Before e
+    let e = sym c.pick.ensures ∙ c.in-Less.is in
+    counted_new i (omega arith) Less e
 
-pub loop-y-smaller-in-Before : goal.loop-y-smaller-in-Before
-loop-y-smaller-in-Before c =
+pub loop-y-smaller-in-Less : goal.loop-y-smaller-in-Less
+loop-y-smaller-in-Less c =
     let i = c.loop-y.invariant in
-    let e = sym c.pick.ensures ∙ c.in-Before.is in
-    let h = counted_new i (omega arith) Before e in
+    let e = sym c.pick.ensures ∙ c.in-Less.is in
+    let h = counted_new i (omega arith) Less e in
     omega arith
 
-pub loop-y-preserved-in-Before : goal.loop-y-preserved-in-Before
-loop-y-preserved-in-Before c =
+pub loop-y-preserved-in-Less : goal.loop-y-preserved-in-Less
+loop-y-preserved-in-Less c =
     let i = c.loop-y.invariant in
-    let e = sym c.pick.ensures ∙ c.in-Before.is in
-    counted_next i (omega arith) Before e (λ p. absurd (let z : ◌≡◌ {A = ℕ} 0 1 = cc in omega arith))
+    let e = sym c.pick.ensures ∙ c.in-Less.is in
+    counted_next i (omega arith) Less e (λ p. absurd (let z : ◌≡◌ {A = ℕ} 0 1 = cc in omega arith))
 
 pub overflow_sub-x : goal.overflow_sub-x
 overflow_sub-x c =
     let i = c.loop-y.invariant in
-    let e = sym c.pick.ensures ∙ c.in-After.is in
-    counted_old i (omega arith) After e (λ p. let z : ◌≡◌ {A = ℕ} 0 1 = cc in omega arith)
+    let e = sym c.pick.ensures ∙ c.in-Greater.is in
+    counted_old i (omega arith) Greater e (λ p. let z : ◌≡◌ {A = ℕ} 0 1 = cc in omega arith)
 
-pub loop-y-smaller-in-After : goal.loop-y-smaller-in-After
-loop-y-smaller-in-After c =
+pub loop-y-smaller-in-Greater : goal.loop-y-smaller-in-Greater
+loop-y-smaller-in-Greater c =
     let i = c.loop-y.invariant in
-    let e = sym c.pick.ensures ∙ c.in-After.is in
-    let h = counted_old i (omega arith) After e (λ p. let z : ◌≡◌ {A = ℕ} 0 1 = cc in omega arith) in
+    let e = sym c.pick.ensures ∙ c.in-Greater.is in
+    let h = counted_old i (omega arith) Greater e (λ p. let z : ◌≡◌ {A = ℕ} 0 1 = cc in omega arith) in
     omega arith
 
-pub loop-y-preserved-in-After : goal.loop-y-preserved-in-After
-loop-y-preserved-in-After c =
+pub loop-y-preserved-in-Greater : goal.loop-y-preserved-in-Greater
+loop-y-preserved-in-Greater c =
     let i = c.loop-y.invariant in
-    let e = sym c.pick.ensures ∙ c.in-After.is in
-    counted_next i (omega arith) After e (λ p. absurd (let z : ◌≡◌ {A = ℕ} 0 1 = cc in omega arith))
+    let e = sym c.pick.ensures ∙ c.in-Greater.is in
+    counted_next i (omega arith) Greater e (λ p. absurd (let z : ◌≡◌ {A = ℕ} 0 1 = cc in omega arith))
 
-pub overflow_sub-x-in-Same : goal.overflow_sub-x-in-Same
-overflow_sub-x-in-Same c =
+pub overflow_sub-x-in-Equal : goal.overflow_sub-x-in-Equal
+overflow_sub-x-in-Equal c =
     let i = c.loop-y.invariant in
-    let e = sym c.pick.ensures ∙ c.in-Same.is in
-    counted_old i (omega arith) Same e (λ p. let z : ◌≡◌ {A = ℕ} 0 1 = cc in omega arith)
+    let e = sym c.pick.ensures ∙ c.in-Equal.is in
+    counted_old i (omega arith) Equal e (λ p. let z : ◌≡◌ {A = ℕ} 0 1 = cc in omega arith)
 
-pub overflow_sub-y-in-Same : goal.overflow_sub-y-in-Same
-overflow_sub-y-in-Same c =
+pub overflow_sub-y-in-Equal : goal.overflow_sub-y-in-Equal
+overflow_sub-y-in-Equal c =
     let i = c.loop-y.invariant in
-    let e = sym c.pick.ensures ∙ c.in-Same.is in
-    counted_new i (omega arith) Same e
+    let e = sym c.pick.ensures ∙ c.in-Equal.is in
+    counted_new i (omega arith) Equal e
 
 pub join_fits-requires : goal.join_fits-requires
 join_fits-requires c =
     let i = c.loop-y.invariant in
-    let e = sym c.pick.ensures ∙ c.in-Same.is in
-    let hx = counted_old i (omega arith) Same e (λ p. let z : ◌≡◌ {A = ℕ} 0 1 = cc in omega arith) in
-    let hy = counted_new i (omega arith) Same e in
+    let e = sym c.pick.ensures ∙ c.in-Equal.is in
+    let hx = counted_old i (omega arith) Equal e (λ p. let z : ◌≡◌ {A = ℕ} 0 1 = cc in omega arith) in
+    let hy = counted_new i (omega arith) Equal e in
     let lx = i.x_in in
     let ly = i.y_in in
     (c.requires.0, omega arith, omega arith)
@@ -84,23 +84,23 @@ join_fits-requires c =
 pub returns-then-not-join_fits : goal.returns-then-not-join_fits
 returns-then-not-join_fits c =
     let i = c.loop-y.invariant in
-    let e = sym c.pick.ensures ∙ c.in-Same.is in
+    let e = sym c.pick.ensures ∙ c.in-Equal.is in
     let v = sym c.join_fits.ensures ∙ not-true c.join_fits.result c.if-not-join_fits.true-raw in
     sym (counted_over i (omega arith) e v)
 
 pub loop-y-smaller : goal.loop-y-smaller
 loop-y-smaller c =
     let i = c.loop-y.invariant in
-    let e = sym c.pick.ensures ∙ c.in-Same.is in
-    let h = counted_new i (omega arith) Same e in
+    let e = sym c.pick.ensures ∙ c.in-Equal.is in
+    let h = counted_new i (omega arith) Equal e in
     omega arith
 
 pub loop-y-preserved : goal.loop-y-preserved
 loop-y-preserved c =
     let i = c.loop-y.invariant in
-    let e = sym c.pick.ensures ∙ c.in-Same.is in
+    let e = sym c.pick.ensures ∙ c.in-Equal.is in
     let v = sym c.join_fits.ensures ∙ not-false c.join_fits.result c.if-not-join_fits.false-raw in
-    counted_next i (omega arith) Same e (λ p. v)
+    counted_next i (omega arith) Equal e (λ p. v)
 
 pub overflow_add-result : goal.overflow_add-result
 overflow_add-result c =

@@ -16,26 +16,26 @@ pub overflow_sub-before : goal.overflow_sub-before
 overflow_sub-before c =
     not_first c.args.at (c.args.g + 8) c.requires.2 c.if-at-eq0.false
 
-pub returns-in-Before : goal.returns-in-Before
-returns-in-Before c =
+pub returns-in-Less : goal.returns-in-Less
+returns-in-Less c =
     let f = c.args.at - (c.args.g + 8) in
     is_before keys_first (take (f + c.args.g - f) (drop f c.args.list.now))
     (take (c.args.at + c.args.g - c.args.at) (drop c.args.at c.args.list.now)) c.by_group.result
-    c.by_group.ensures c.in-Before.is
+    c.by_group.ensures c.in-Less.is
     ∙ follows_lent c.args.g c.args.list.now c.args.at c.if-at-eq0.false
 
-pub returns-in-Same : goal.returns-in-Same
-returns-in-Same c =
+pub returns-in-Equal : goal.returns-in-Equal
+returns-in-Equal c =
     let f = c.args.at - (c.args.g + 8) in
     is_same keys_first (take (f + c.args.g - f) (drop f c.args.list.now))
     (take (c.args.at + c.args.g - c.args.at) (drop c.args.at c.args.list.now)) c.by_group.result
-    c.by_group.ensures c.in-Same.is
+    c.by_group.ensures c.in-Equal.is
     ∙ follows_lent c.args.g c.args.list.now c.args.at c.if-at-eq0.false
 
-pub returns-in-After : goal.returns-in-After
-returns-in-After c =
+pub returns-in-Greater : goal.returns-in-Greater
+returns-in-Greater c =
     let f = c.args.at - (c.args.g + 8) in
     is_after keys_first (take (f + c.args.g - f) (drop f c.args.list.now))
     (take (c.args.at + c.args.g - c.args.at) (drop c.args.at c.args.list.now)) c.by_group.result
-    c.by_group.ensures c.in-After.is
+    c.by_group.ensures c.in-Greater.is
     ∙ follows_lent c.args.g c.args.list.now c.args.at c.if-at-eq0.false

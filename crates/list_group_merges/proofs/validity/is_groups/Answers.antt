@@ -1,5 +1,4 @@
 -- `is_groups` meets its contract: the records passed are right and ascend.
-use Prim.Native.Nat.{◌-◌}
 use native.Mathlib.Omega.{arith}
 use mathlib.Core.Path.{sym, ◌∙◌}
 use mathlib.Core.Bool.{true, false}

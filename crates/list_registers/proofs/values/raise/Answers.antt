@@ -15,4 +15,4 @@ returns c =
     let p : c.picked_by-at.result ≡ picked_by (hash_of x) = c.picked_by-at.ensures ∙ ap picked_by c.hash_of-hash.ensures in
     let r : c.rank_in.result ≡ rank_in (hash_of x) = c.rank_in.ensures ∙ ap rank_in c.hash_of-hash.ensures in
     let l : picked_by (hash_of x) < register_count = omega (arith, p) in
-    ap (set out c.picked_by-at.result) c.greater-g.ensures ∙ ap₂ (λ i q. set out i (max (get_or out i 0) q)) p r ∙ raised out x c.requires l
+    ap (set out c.picked_by-at.result) c.max.ensures ∙ ap₂ (λ i q. set out i (max (get_or out i 0) q)) p r ∙ raised out x c.requires l

@@ -1,7 +1,7 @@
 -- `no_threshold` meets its contract: only no threshold is right.
 use Prim.Native.Nat.{ℕ}
 use native.Mathlib.Omega.{arith}
-use mathlib.Core.Path.{◌≡◌, refl}
+use mathlib.Core.Path.{◌≡◌, refl, ◌∙◌}
 use mathlib.Core.List.{List, [], ◌∷◌}
 use lib.Dec.{eqb}
 use lib.ListN.{length}
@@ -27,4 +27,8 @@ no_registers_threshold v [] = refl
 no_registers_threshold v (w ∷ ws) = ne_eqb (length (w ∷ ws)) 0 (λ e. omega (arith, e))
 
 pub returns : goal.returns
-returns c = record { rows = λ vs. no_rows_threshold vs c.args.threshold.now; groups = λ vs m. no_group_threshold vs m c.args.threshold.now; registers = λ v. no_registers_threshold v c.args.threshold.now }
+returns c = record {
+  rows = λ vs. c.is_empty.ensures ∙ no_rows_threshold vs c.args.threshold.now;
+  groups = λ vs m. c.is_empty.ensures ∙ no_group_threshold vs m c.args.threshold.now;
+  registers = λ v. c.is_empty.ensures ∙ no_registers_threshold v c.args.threshold.now;
+}

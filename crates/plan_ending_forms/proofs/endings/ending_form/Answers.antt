@@ -48,12 +48,20 @@ slice_bounds-rest-start c =
 pub slice_bounds-keys_form-count : goal.slice_bounds-keys_form-count
 slice_bounds-keys_form-count c =
     let p = words (goal.at.slice_bounds-keys_form-count c).After-ending_kind_of in
-    omega (arith, rows_room (take (length p - 1) (drop 1 p)) c.row_width-at.result c.row_width-at.ensures.0 (sym c.rows_form-in-Top.ensures ∙ c.if-rows_form-2.true))
+    omega (
+      arith,
+      rows_room (take (length p - 1) (drop 1 p)) c.row_width-at.result c.row_width-at.ensures.0
+          (sym c.rows_form-in-Top.ensures ∙ c.if-rows_form-2.true),
+    )
 
 pub slice_bounds-keys_form-start : goal.slice_bounds-keys_form-start
 slice_bounds-keys_form-start c =
     let p = words (goal.at.slice_bounds-keys_form-start c).After-ending_kind_of in
-    omega (arith, rows_room (take (length p - 1) (drop 1 p)) c.row_width-at.result c.row_width-at.ensures.0 (sym c.rows_form-in-Top.ensures ∙ c.if-rows_form-2.true))
+    omega (
+      arith,
+      rows_room (take (length p - 1) (drop 1 p)) c.row_width-at.result c.row_width-at.ensures.0
+          (sym c.rows_form-in-Top.ensures ∙ c.if-rows_form-2.true),
+    )
 
 pub returns-then-rows_form-2 : goal.returns-then-rows_form-2
 returns-then-rows_form-2 c =
@@ -74,7 +82,7 @@ returns-then-p-wide c =
       ← c.low.ensures,
       ← c.wide.ensures,
       eq-eqb _ _ c.if-p-wide.true,
-    ) c.all_wanted.ensures
+    ) c.all_variables.ensures
 
 pub returns-then-p-eq-REGISTERS_WORDS : goal.returns-then-p-eq-REGISTERS_WORDS
 returns-then-p-eq-REGISTERS_WORDS c =
@@ -82,17 +90,25 @@ returns-then-p-eq-REGISTERS_WORDS c =
     rw (
       form_registers p c.ending_kind_of.result (kind_is (goal.at.returns-then-p-eq-REGISTERS_WORDS c).After-ending_kind_of) c.in-Registers.is,
       eq-eqb _ _ c.if-p-eq-REGISTERS_WORDS.true,
-    ) c.all_wanted-then-p-eq-REGISTERS_WORDS.ensures
+    ) c.all_variables-then-p-eq-REGISTERS_WORDS.ensures
 
 pub returns-else-rows_form : goal.returns-else-rows_form
 returns-else-rows_form c =
     let p = words (goal.at.returns-else-rows_form c).After-ending_kind_of in
-    rw (form_rows p c.ending_kind_of.result (kind_is (goal.at.returns-else-rows_form c).After-ending_kind_of) c.in-Rows.is, ← c.rows_form.ensures, c.if-rows_form.false)
+    rw (
+      form_rows p c.ending_kind_of.result (kind_is (goal.at.returns-else-rows_form c).After-ending_kind_of) c.in-Rows.is,
+      ← c.rows_form.ensures,
+      c.if-rows_form.false,
+    )
 
 pub returns-else-rows_form-2 : goal.returns-else-rows_form-2
 returns-else-rows_form-2 c =
     let p = words (goal.at.returns-else-rows_form-2 c).After-ending_kind_of in
-    rw (form_top p c.ending_kind_of.result (kind_is (goal.at.returns-else-rows_form-2 c).After-ending_kind_of) c.in-Top.is, ← c.rows_form-in-Top.ensures, c.if-rows_form-2.false)
+    rw (
+      form_top p c.ending_kind_of.result (kind_is (goal.at.returns-else-rows_form-2 c).After-ending_kind_of) c.in-Top.is,
+      ← c.rows_form-in-Top.ensures,
+      c.if-rows_form-2.false,
+    )
 
 pub returns-else-p-wide : goal.returns-else-p-wide
 returns-else-p-wide c =
@@ -114,4 +130,5 @@ returns-else-p-eq-REGISTERS_WORDS c =
     )
 
 pub returns-in-Invalid : goal.returns-in-Invalid
-returns-in-Invalid c = sym (form_invalid (words (goal.at.returns-in-Invalid c).After-ending_kind_of) c.ending_kind_of.result (kind_is (goal.at.returns-in-Invalid c).After-ending_kind_of) c.in-Invalid.is)
+returns-in-Invalid c = sym (form_invalid (words (goal.at.returns-in-Invalid c).After-ending_kind_of) c.ending_kind_of.result
+    (kind_is (goal.at.returns-in-Invalid c).After-ending_kind_of) c.in-Invalid.is)

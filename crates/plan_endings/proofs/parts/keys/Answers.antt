@@ -48,7 +48,8 @@ returns-in-Rows c =
 pub returns-in-Group : goal.returns-in-Group
 returns-in-Group c =
     let e = c.args.e.now in
-    sym (ap keys_in (ending_group e c.ending_kind_of.result (c.ending_kind_of.ensures ∙ ap ending_kind_of c.first.ensures) c.in-Group.is (low (get_or e 0 0)) refl))
+    sym (ap keys_in (ending_group e c.ending_kind_of.result (c.ending_kind_of.ensures ∙ ap ending_kind_of c.first.ensures) c.in-Group.is
+    (low (get_or e 0 0)) refl))
 
 pub returns-in-Registers : goal.returns-in-Registers
 returns-in-Registers c =

@@ -70,7 +70,8 @@ returns-in-Rows c =
 pub returns-in-Top : goal.returns-in-Top
 returns-in-Top c =
     let e = c.args.e.now in
-    c.row_variables-in-Top.ensures ∙ sym (ap variables_in (ending_top e c.ending_kind_of.result (c.ending_kind_of.ensures ∙ ap ending_kind_of c.first.ensures) c.in-Top.is))
+    c.row_variables-in-Top.ensures ∙
+    sym (ap variables_in (ending_top e c.ending_kind_of.result (c.ending_kind_of.ensures ∙ ap ending_kind_of c.first.ensures) c.in-Top.is))
 
 pub returns-in-Group : goal.returns-in-Group
 returns-in-Group c =

@@ -2,7 +2,7 @@
 use mathlib.Core.Path.{sym, ◌∙◌}
 use native.Mathlib.Omega.{arith}
 use Rattle.plans.specs.Conditions.{read_condition, most_depth}
-use Rattle.plans.proofs.Trees.{bad_words, reads_words}
+use Rattle.plans.proofs.Trees.{unread_words, tree_words_read}
 use Rattle.plans.proofs.BranchRead.{branch_in_lem, branch_room, lent_condition, words_in_lem}
 use Rattle.plan_parts.proofs.branches.branch_words.Goals as goal
 
@@ -26,25 +26,25 @@ overflow_add-result c =
       arith,
       (branch_in_lem p pre).fit,
       words_in_lem p pre c.pattern_count.result c.pattern_count.ensures.0,
-      reads_words _ (read_condition most_depth (lent_condition c.pattern_count.result p)) _ _ _ (sym c.condition.ensures ∙ c.in-Reads.is),
+      tree_words_read _ (read_condition most_depth (lent_condition c.pattern_count.result p)) _ (sym c.condition.ensures ∙ c.in-Some.is),
     )
 
-pub returns-in-Bad : goal.returns-in-Bad
-returns-in-Bad c =
+pub returns-in-None : goal.returns-in-None
+returns-in-None c =
     let p = c.args.p.now in
     let pre = c.requires in
     omega (
       arith,
       words_in_lem p pre c.pattern_count.result c.pattern_count.ensures.0,
-      bad_words _ (read_condition most_depth (lent_condition c.pattern_count.result p)) (sym c.condition.ensures ∙ c.in-Bad.is),
+      unread_words _ (read_condition most_depth (lent_condition c.pattern_count.result p)) (sym c.condition.ensures ∙ c.in-None.is),
     )
 
-pub returns-in-Reads : goal.returns-in-Reads
-returns-in-Reads c =
+pub returns-in-Some : goal.returns-in-Some
+returns-in-Some c =
     let p = c.args.p.now in
     let pre = c.requires in
     omega (
       arith,
       words_in_lem p pre c.pattern_count.result c.pattern_count.ensures.0,
-      reads_words _ (read_condition most_depth (lent_condition c.pattern_count.result p)) _ _ _ (sym c.condition.ensures ∙ c.in-Reads.is),
+      tree_words_read _ (read_condition most_depth (lent_condition c.pattern_count.result p)) _ (sym c.condition.ensures ∙ c.in-Some.is),
     )

@@ -55,7 +55,9 @@ returns c =
     let n = length-append keys totals in
     let z = rw (last_two k g (omega (arith, pre))) at c.put_terms.ensures in
     rw (fields_of_lem k g)
-    (placed_then (keys ++ totals) ends a.at c.put_totals-after_totals.result c.put_terms.result a.line.now c.put_totals-after_totals.new.line c.put_terms.new.line (omega arith)
-    (placed_then keys totals a.at c.put_terms-after_keys.result c.put_totals-after_totals.result a.line.now c.put_terms-after_keys.new.line c.put_totals-after_totals.new.line (omega arith)
+    (placed_then (keys ++ totals) ends a.at c.put_totals-after_totals.result c.put_terms.result a.line.now c.put_totals-after_totals.new.line
+    c.put_terms.new.line (omega arith)
+    (placed_then keys totals a.at c.put_terms-after_keys.result c.put_totals-after_totals.result a.line.now c.put_terms-after_keys.new.line
+    c.put_totals-after_totals.new.line (omega arith)
     c.put_terms-after_keys.ensures c.put_totals-after_totals.ensures)
     z)

@@ -43,7 +43,9 @@ returns c =
     let z = integer_field (sum_in (pair_at g (a.keys + 4))) in
     let e = three_length x y z in
     let n = length-append x y in
-    placed_then (x ++ y) z a.at c.put_total-after_numbers.result c.put_group_sum.result a.line.now c.put_total-after_numbers.new.line c.put_group_sum.new.line (omega arith)
-    (placed_then x y a.at c.put_total-after_rows.result c.put_total-after_numbers.result a.line.now c.put_total-after_rows.new.line c.put_total-after_numbers.new.line (omega arith)
+    placed_then (x ++ y) z a.at c.put_total-after_numbers.result c.put_group_sum.result a.line.now c.put_total-after_numbers.new.line
+    c.put_group_sum.new.line (omega arith)
+    (placed_then x y a.at c.put_total-after_rows.result c.put_total-after_numbers.result a.line.now c.put_total-after_rows.new.line
+    c.put_total-after_numbers.new.line (omega arith)
     c.put_total-after_rows.ensures c.put_total-after_numbers.ensures)
     c.put_group_sum.ensures

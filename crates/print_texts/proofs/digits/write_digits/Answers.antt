@@ -1,5 +1,4 @@
 -- `write_digits` meets its contract: with the digits of what is left in front, the line is as it should be.
-use Prim.Native.Nat.{◌-◌}
 use native.Mathlib.Omega.{arith}
 use mathlib.Core.Path.{refl, ◌∙◌}
 use lib.ListN.{length-set}

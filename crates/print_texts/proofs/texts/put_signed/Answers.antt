@@ -39,5 +39,6 @@ returns c =
     let t = high_text a.half a.bits m (omega arith) (omega arith) refl in
     let e = ap length t in
     rw t
-    (placed_then (dash ∷ []) (decimal m) a.at c.put_byte-next.result c.put_decimal-2.result a.line.now c.put_byte-next.new.line c.put_decimal-2.new.line (omega arith)
+    (placed_then (dash ∷ []) (decimal m) a.at c.put_byte-next.result c.put_decimal-2.result a.line.now c.put_byte-next.new.line
+    c.put_decimal-2.new.line (omega arith)
     c.put_byte-next.ensures c.put_decimal-2.ensures)

@@ -23,7 +23,8 @@ returns-then-number-ne0 c =
     let e = join_number v a.plan.now a.state.now
     ((a.seen.lined && a.seen.rested) && (not (ltb a.seen.place a.seen.waiting) && not (ltb a.seen.found a.seen.resting)))
     (room_by a.seen.room a.seen.spare a.given a.kept 1) c.first_of-number.result c.query_number.result c.lists_number-late.result
-    c.first_of-number.ensures c.query_number.ensures (c.lists_number-late.ensures ∙ (λ i. number_of (first_failing (top_up_tests_by (c.join_right.ensures i) (g i))))) in
+    c.first_of-number.ensures c.query_number.ensures
+    (c.lists_number-late.ensures ∙ (λ i. number_of (first_failing (top_up_tests_by (c.join_right.ensures i) (g i))))) in
     λ line aside is.
     subst (λ (d : Queueing). Decides (lent_as line a.given aside a.kept) d (join_queue_of v (lent_as line a.given aside a.kept) j))
     (sym c.refused.ensures)
@@ -37,7 +38,8 @@ entry_of-requires c =
     let entries = (a.seen.lined && a.seen.rested) && (not (ltb a.seen.place a.seen.waiting) && not (ltb a.seen.found a.seen.resting)) in
     let e = join_number v a.plan.now a.state.now entries
     (room_by a.seen.room a.seen.spare a.given a.kept 1) c.first_of-number.result c.query_number.result c.lists_number-late.result
-    c.first_of-number.ensures c.query_number.ensures (c.lists_number-late.ensures ∙ (λ i. number_of (first_failing (top_up_tests_by (c.join_right.ensures i) (g i))))) in
+    c.first_of-number.ensures c.query_number.ensures
+    (c.lists_number-late.ensures ∙ (λ i. number_of (first_failing (top_up_tests_by (c.join_right.ensures i) (g i))))) in
     joined_short v a.plan.now a.state.now entries a.seen a.given a.kept (sym e ∙ c.if-number-ne0.false)
 
 pub admitted-requires : goal.admitted-requires
@@ -48,7 +50,8 @@ admitted-requires c =
     let entries = (a.seen.lined && a.seen.rested) && (not (ltb a.seen.place a.seen.waiting) && not (ltb a.seen.found a.seen.resting)) in
     let e = join_number v a.plan.now a.state.now entries
     (room_by a.seen.room a.seen.spare a.given a.kept 1) c.first_of-number.result c.query_number.result c.lists_number-late.result
-    c.first_of-number.ensures c.query_number.ensures (c.lists_number-late.ensures ∙ (λ i. number_of (first_failing (top_up_tests_by (c.join_right.ensures i) (g i))))) in
+    c.first_of-number.ensures c.query_number.ensures
+    (c.lists_number-late.ensures ∙ (λ i. number_of (first_failing (top_up_tests_by (c.join_right.ensures i) (g i))))) in
     let r = joined_room v a.plan.now a.state.now entries a.seen a.given a.kept (sym e ∙ c.if-number-ne0.false) in
     let h = r.entries in omega arith
 
@@ -61,7 +64,8 @@ returns c =
     let e = join_number v a.plan.now a.state.now
     ((a.seen.lined && a.seen.rested) && (not (ltb a.seen.place a.seen.waiting) && not (ltb a.seen.found a.seen.resting)))
     (room_by a.seen.room a.seen.spare a.given a.kept 1) c.first_of-number.result c.query_number.result c.lists_number-late.result
-    c.first_of-number.ensures c.query_number.ensures (c.lists_number-late.ensures ∙ (λ i. number_of (first_failing (top_up_tests_by (c.join_right.ensures i) (g i))))) in
+    c.first_of-number.ensures c.query_number.ensures
+    (c.lists_number-late.ensures ∙ (λ i. number_of (first_failing (top_up_tests_by (c.join_right.ensures i) (g i))))) in
     λ line aside is.
     subst (λ (d : Queueing). Decides (lent_as line a.given aside a.kept) d (join_queue_of v (lent_as line a.given aside a.kept) j))
     (sym (c.admitted.ensures ∙ ap (λ (x : Entry). admitted_by x a.given a.kept) c.entry_of.ensures))

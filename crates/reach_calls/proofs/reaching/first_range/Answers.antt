@@ -14,4 +14,5 @@ pub returns : goal.returns
 returns c = let t = tables_of c.args.rows.now c.args.pos.now c.args.osp.now in
     let x = section_of c.args.rows.now c.args.pos.now c.args.osp.now c.args.year in
     let p = r.first_prefix x (branch_at (plan_of c.args.plan.now) c.args.branch).terms _ c.branch_terms.ensures
-    c.level_of-f.result c.level_of-f.ensures in record { first_value = c.level_range.ensures.first_value ∙ ap (range_start t) p; end_value = c.level_range.ensures.end_value ∙ ap (range_end t) p }
+    c.level_of-f.result c.level_of-f.ensures in
+    record { first_value = c.level_range.ensures.first_value ∙ ap (range_start t) p; end_value = c.level_range.ensures.end_value ∙ ap (range_end t) p }

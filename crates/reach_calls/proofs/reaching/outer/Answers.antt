@@ -7,7 +7,7 @@ returns-then-c-eq0 c =
     let a = c.args.c in
     r.outer_last a.upper a.level a.place.0 c.if-c-eq0.true
 
-pub returns : goal.returns
-returns c =
+pub returns-else-c-eq0 : goal.returns-else-c-eq0
+returns-else-c-eq0 c =
     let a = c.args.c in
     r.outer_place a.upper a.level a.place.0 c.if-c-eq0.false

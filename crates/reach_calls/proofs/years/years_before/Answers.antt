@@ -1,8 +1,9 @@
 -- `years_before` meets its contract: row by row, those that begin an earlier year are counted.
-use Prim.Native.Nat.{ℕ, ◌+◌, ◌-◌, ◌/◌}
-use mathlib.Core.Path.{◌≡◌, ◌∙◌, ap, ap₂}
+use Prim.Native.Nat.{ℕ, ◌+◌, ◌/◌}
+use Rattle.std.proofs.Common.{add-zero}
+use mathlib.Core.Path.{◌≡◌, ◌∙◌, sym, ap}
 use mathlib.Core.List.{[]}
-use mathlib.Core.Bool.{Bool, ◌&&◌}
+use mathlib.Core.Bool.{Bool, cond, ◌&&◌}
 use native.Mathlib.Omega.{arith}
 use lib.Dec.{ltb}
 use lib.ListN.{length}
@@ -12,25 +13,31 @@ use Rattle.tables.specs.Years.{year_at}
 use Rattle.reach.specs.Reach.{begins_year}
 use Rattle.reach_calls.proofs.Cases as r
 use Rattle.reach_calls.proofs.years.years_before.Goals as goal
+use Rattle.reach_calls.proofs.years.years_before.Goals.{Joined-begins_before, then-begins_before, else-begins_before}
 
 pub loop-row-init : goal.loop-row-init
 loop-row-init c = (omega arith, omega arith, r.none_counted _)
 
-pub overflow_add-begun : goal.overflow_add-begun
-overflow_add-begun c =
-    let t = tables_of c.args.rows.now [] [] in
-    let row = c.loop-row.row in
-    omega (arith, r.at_most_one (begins_year t row && ltb (year_at t row) c.args.year), c.begun_at-begun.ensures, c.requires)
+-- a row counts one if it begins an earlier year
+counts : (l : Joined-begins_before) → let t = tables_of l.args.rows.now [] [] in let row = l.loop-row.row in
+    l.if-begins_before.begun ≡ l.loop-row.begun + cond (begins_year t row && ltb (year_at t row) l.args.year) 1 0
+counts l =
+    elim l.if-begins_before.branch [
+      | then-begins_before w ↦ w.begun-is ∙ ap (λ b. l.loop-row.begun + cond b 1 0) (sym w.if-begins_before.true ∙ l.begins_before.ensures)
+      | else-begins_before w ↦
+          w.begun-is ∙ sym (add-zero l.loop-row.begun) ∙ ap (λ b. l.loop-row.begun + cond b 1 0) (sym w.if-begins_before.false ∙ l.begins_before.ensures)
+    ]
 
 pub loop-row-preserved : goal.loop-row-preserved
 loop-row-preserved c =
-    let s = c.args in
-    let t = tables_of s.rows.now [] [] in
+    let t = tables_of c.args.rows.now [] [] in
     let row = c.loop-row.row in
-    let inv = c.loop-row.invariant in (
+    let inv = c.loop-row.invariant in
+    let n = counts (goal.at.loop-row-preserved c).Joined-begins_before in (
       omega arith,
-      omega (arith, r.at_most_one (begins_year t row && ltb (year_at t row) s.year), c.begun_at-begun.ensures, inv.1),
-      ap₂ ◌+◌ inv.2 c.begun_at-begun.ensures ∙ r.one_more_fact (λ n. begins_year t n && ltb (year_at t n) s.year) row,
+      omega (arith, r.at_most_one (begins_year t row && ltb (year_at t row) c.args.year), n, inv.1),
+      n ∙ ap (λ k. k + cond (begins_year t row && ltb (year_at t row) c.args.year) 1 0) inv.2
+          ∙ r.one_more_fact (λ n. begins_year t n && ltb (year_at t n) c.args.year) row,
     )
 
 pub returns : goal.returns

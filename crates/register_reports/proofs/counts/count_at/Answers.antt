@@ -1,30 +1,18 @@
--- `count_at` meets its contract: what is counted, and what is left to count.
-use Prim.Native.Nat.{◌-◌}
-use native.Mathlib.Omega.{arith}
-use Rattle.register_reports.proofs.Counting.{count_end, count_counts, count_skips}
+-- `count_at` meets its contract.
+use Rattle.std.proofs.Common.{ℕ, ◌≡◌, ◌+◌, ◌∙◌, Bool, true, false, cond, eqb, refl, sym, arith, rules, count_by}
+use Rattle.std.proofs.lemmas.List.Recursion.{is_count_by}
+use Rattle.registers.specs.Registers.{count_at}
 use Rattle.register_reports.proofs.counts.count_at.Goals as goal
-use Rattle.register_reports.proofs.counts.count_at.Goals.{At-loop-i}
 
-abbrev Loop : Type 0
-Loop = At-loop-i
-
-pub loop-i-init : goal.loop-i-init
-loop-i-init c = (omega arith, omega arith, omega arith)
-
-pub loop-i-preserved-then-list-i : goal.loop-i-preserved-then-list-i
-loop-i-preserved-then-list-i c =
-    let a = c.args in
-    let e = count_counts a.value a.list.now c.loop-i.i (omega arith) c.if-list-i.true in
-    (omega arith, omega arith, omega (arith, c.loop-i.invariant.2, e))
-
-pub loop-i-preserved : goal.loop-i-preserved
-loop-i-preserved c =
-    let a = c.args in
-    let e = count_skips a.value a.list.now c.loop-i.i (omega arith) c.if-list-i.false in
-    (omega arith, omega arith, omega (arith, c.loop-i.invariant.2, e))
+-- one more where a test passes
+counted_next : (b : Bool) (n : ℕ) → cond b 1 0 + n ≡ cond b (1 + n) n
+counted_next true n = refl
+counted_next false n = omega arith
 
 pub returns : goal.returns
+unfolding count_at
 returns c =
-    let a = c.args in
-    let e = count_end a.value a.list.now c.loop-i.i (omega arith) in
-    omega (arith, c.loop-i.invariant.2, e)
+    let xs = c.args.list.now in
+    let v = c.args.value in
+    let n : c.count.result ≡ count_by (λ x. eqb x v) xs = search rules in
+    n ∙ sym (is_count_by (count_at v) (λ x. eqb x v) refl (λ x ys. counted_next (eqb x v) (count_at v ys)) xs)

@@ -1,7 +1,7 @@
 -- `state_loading::load_behind` meets its contract.
 use Prim.Native.Nat.{ℕ}
-use mathlib.Core.Path.{◌≡◌, sym, ap, ◌∙◌}
-use mathlib.Core.Bool.{true}
+use mathlib.Core.Path.{◌≡◌, refl, sym, ap, ◌∙◌}
+use mathlib.Core.Bool.{true, false}
 use mathlib.Core.List.{List}
 use native.Mathlib.Omega.{arith}
 use lib.ListN.{length, get_or, length-drop}
@@ -41,7 +41,8 @@ bounds-state-0 c = let p = placed (asked (goal.at.bounds-state-0 c).Start) (word
 
 pub branch_part-part-requires : goal.branch_part-part-requires
 branch_part-part-requires c =
-    let p = placed (asked (goal.at.branch_part-part-requires c).Start) (words (goal.at.branch_part-part-requires c).Start) (shape (goal.at.branch_part-part-requires c).After-shared_slice_known-6-1) in
+    let p = placed (asked (goal.at.branch_part-part-requires c).Start) (words (goal.at.branch_part-part-requires c).Start)
+    (shape (goal.at.branch_part-part-requires c).After-shared_slice_known-6-1) in
     (c.requires.plan_value, omega (arith, p.branch, c.branch.ensures))
 
 pub overflow_sub-plan : goal.overflow_sub-plan
@@ -50,39 +51,55 @@ overflow_sub-plan c =
 
 pub cursor_in-from-requires : goal.cursor_in-from-requires
 cursor_in-from-requires c =
-    whole c.args.plan.now (words (goal.at.cursor_in-from-requires c).Start) c.requires.plan_value (shape (goal.at.cursor_in-from-requires c).After-shared_slice_known-6-1)
+    whole c.args.plan.now (words (goal.at.cursor_in-from-requires c).Start) c.requires.plan_value
+    (shape (goal.at.cursor_in-from-requires c).After-shared_slice_known-6-1)
 
 pub terms-terms-requires : goal.terms-terms-requires
 terms-terms-requires c = given_read _ _ c.branch_part-part.ensures.branch
 
-pub places_right-walk-requires : goal.places_right-walk-requires
-places_right-walk-requires c = record { right = c.requires.right; inside = level_there c.args.plan.now (words (goal.at.places_right-walk-requires c).Start) c.requires.plan_value (shape (goal.at.places_right-walk-requires c).After-shared_slice_known-6-1) c.cursor_in-from.result c.cursor_in-from.ensures.0 c.cursor_in-from.ensures.2 _ (terms_are (goal.at.places_right-walk-requires c).After-terms-terms) }
+pub places_right-requires : goal.places_right-requires
+places_right-requires c = record {
+  right = c.requires.right;
+  inside =
+      level_there c.args.plan.now (words (goal.at.places_right-requires c).Start) c.requires.plan_value
+      (shape (goal.at.places_right-requires c).After-shared_slice_known-6-1) c.cursor_in-from.result c.cursor_in-from.ensures.0
+      c.cursor_in-from.ensures.2 _ (terms_are (goal.at.places_right-requires c).After-terms-terms);
+}
 
 pub level_of-requires : goal.level_of-requires
 level_of-requires c =
-    (level_there c.args.plan.now (words (goal.at.level_of-requires c).Start) c.requires.plan_value (shape (goal.at.level_of-requires c).After-shared_slice_known-6-1) c.cursor_in-from.result c.cursor_in-from.ensures.0 c.cursor_in-from.ensures.2 _ (terms_are (goal.at.level_of-requires c).After-terms-terms)).0
+    (level_there c.args.plan.now (words (goal.at.level_of-requires c).Start) c.requires.plan_value
+    (shape (goal.at.level_of-requires c).After-shared_slice_known-6-1) c.cursor_in-from.result c.cursor_in-from.ensures.0
+    c.cursor_in-from.ensures.2 _ (terms_are (goal.at.level_of-requires c).After-terms-terms)).0
 
-pub returns-then-walk : goal.returns-then-walk
-returns-then-walk c = let passes = c.if-walk.true in
-    let ws = words (goal.at.returns-then-walk c).Start in
+pub returns-in-Some : goal.returns-in-Some
+returns-in-Some c =
+    let ws = words (goal.at.returns-in-Some c).Start in
     let plan = c.args.plan.now in
     let from = c.cursor_in-from.result in
-    let k = c.places_right-walk.ensures.ends passes in record {
-      refused_value = sym (loads plan ws c.requires.plan_value (shape (goal.at.returns-then-walk c).After-shared_slice_known-6-1) from c.cursor_in-from.ensures.0 c.cursor_in-from.ensures.2 _ (terms_are (goal.at.returns-then-walk c).After-terms-terms) (lent (goal.at.returns-then-walk c).Start) _ c.places_right-walk.ensures.right_value passes);
+    let right = sym c.in-Some.ensures.right_value in
+    let bound = c.in-Some.ensures.bound_after refl in
+    let k = c.in-Some.ensures.ends in
+    let shaped = shape (goal.at.returns-in-Some c).After-shared_slice_known-6-1 in
+    let named = terms_are (goal.at.returns-in-Some c).After-terms-terms in record {
+      refused_value = sym (loads plan ws c.requires.plan_value shaped from c.cursor_in-from.ensures.0 c.cursor_in-from.ensures.2 _ named
+          (lent (goal.at.returns-in-Some c).Start) true (sym right) refl);
       from_value = λ z. (
         c.cursor_in-from.ensures.0,
-        loads_held plan ws c.requires.plan_value (shape (goal.at.returns-then-walk c).After-shared_slice_known-6-1) from c.cursor_in-from.ensures.0 c.cursor_in-from.ensures.2 _ (terms_are (goal.at.returns-then-walk c).After-terms-terms) (lent (goal.at.returns-then-walk c).Start) _ c.places_right-walk.ensures.right_value
-            passes (begins plan c.branch_part-part.result.now c.branch.result _ (branch_start c.branch.result plan) from.at c.branch_part-part.ensures.start c.branch_part-part.ensures.branch
-            c.branch.ensures c.cursor_in-from.ensures.1) c.cursor_in-from.ensures.3 _ (c.places_right-walk.ensures.bound_after passes) _ c.level_of.ensures _ _,
+        loads_held plan ws c.requires.plan_value shaped from c.cursor_in-from.ensures.0 c.cursor_in-from.ensures.2 _ named
+            (lent (goal.at.returns-in-Some c).Start) true (sym right) refl
+            (begins plan c.branch_part-part.result.now c.branch.result _ (branch_start c.branch.result plan) from.at c.branch_part-part.ensures.start
+            c.branch_part-part.ensures.branch c.branch.ensures c.cursor_in-from.ensures.1) c.cursor_in-from.ensures.3 _ bound _ c.level_of.ensures _ _,
       );
-      ends = λ z. loads_ends plan ws c.requires.plan_value (shape (goal.at.returns-then-walk c).After-shared_slice_known-6-1) from c.cursor_in-from.ensures.0 c.cursor_in-from.ensures.2 _ (terms_are (goal.at.returns-then-walk c).After-terms-terms) (lent (goal.at.returns-then-walk c).Start) _ (c.places_right-walk.ensures.bound_after passes)
-          c.level_of.result _ _ k.0 k.1 k.2;
+      ends = λ z. loads_ends plan ws c.requires.plan_value shaped from c.cursor_in-from.ensures.0 c.cursor_in-from.ensures.2 _ named
+          (lent (goal.at.returns-in-Some c).Start) _ bound c.level_of.result _ _ k.0 k.1 k.2;
     }
 
-pub returns : goal.returns
-returns c = record {
-  refused_value = c.refused.ensures ∙ sym (loads_not c.args.plan.now (words (goal.at.returns c).Start) c.requires.plan_value (shape (goal.at.returns c).After-shared_slice_known-6-1) c.cursor_in-from.result c.cursor_in-from.ensures.0 c.cursor_in-from.ensures.2 _
-      (terms_are (goal.at.returns c).After-terms-terms) (lent (goal.at.returns c).Start) _ c.places_right-walk.ensures.right_value c.if-walk.false);
+pub returns-in-None : goal.returns-in-None
+returns-in-None c = record {
+  refused_value = c.refused.ensures ∙ sym (loads_not c.args.plan.now (words (goal.at.returns-in-None c).Start) c.requires.plan_value
+      (shape (goal.at.returns-in-None c).After-shared_slice_known-6-1) c.cursor_in-from.result c.cursor_in-from.ensures.0 c.cursor_in-from.ensures.2 _
+      (terms_are (goal.at.returns-in-None c).After-terms-terms) (lent (goal.at.returns-in-None c).Start) false c.in-None.ensures.right_value refl);
   from_value = λ z. absurd (omega (arith, z, c.refused.ensures));
   ends = λ z. absurd (omega (arith, z, c.refused.ensures));
 }

@@ -1,4 +1,3 @@
-use Prim.Native.Nat.{◌-◌, ◌≤◌}
 use mathlib.Core.Path.{◌≡◌}
 use lib.ListN.{length, get_or}
 use Rattle.sequences.specs.Sequences.{over}
@@ -7,7 +6,4 @@ use Rattle.state_saving.proofs.saving.save_behind.Given as goal
 
 abbrev pub invariant-loop-i : goal.invariant-loop-i
 invariant-loop-i l =
-    (l.i ≤ l.level) × (length l.state ≡ length l.initial.state) × (l.state ≡ over (words_above (get_or l.initial.state 0 0) l.upper l.i) l.initial.state)
-
-abbrev pub decreases-loop-i : goal.decreases-loop-i
-decreases-loop-i l = l.level - l.i
+    (length l.state ≡ length l.initial.state) × (l.state ≡ over (words_above (get_or l.initial.state 0 0) l.upper l.i) l.initial.state)

@@ -10,13 +10,21 @@ pub returns-then-number-ne-ACCEPTED : goal.returns-then-number-ne-ACCEPTED
 returns-then-number-ne-ACCEPTED c = let i = turn_input c.args.rows.now c.args.pos.now c.args.osp.now c.args.survey c.args.plan.now c.args.state.now
     c.args.given c.args.quantum c.args.threshold.now c.args.output.now in
     let shown = turn_told i
-    (refuses i c.prepare-loaded.result.refused (turn_refuses i c.prepare-loaded.result.refused c.prepare-loaded.ensures.refused_value c.if-number-ne-ACCEPTED.true)) in
+    (refuses i c.prepare-loaded.result.refused
+    (turn_refuses i c.prepare-loaded.result.refused c.prepare-loaded.ensures.refused_value c.if-number-ne-ACCEPTED.true)) in
     record { output_after = shown.0; number = shown.1 }
 
 pub run-requires : goal.run-requires
 run-requires c = let i = turn_input c.args.rows.now c.args.pos.now c.args.osp.now c.args.survey c.args.plan.now c.args.state.now
     c.args.given c.args.quantum c.args.threshold.now c.args.output.now in
-    let a = accepted i (turn_passes i (sym c.prepare-loaded.ensures.refused_value ∙ c.if-number-ne-ACCEPTED.false)) in record { right = a.right; held = (c.prepare-loaded.ensures.from_value c.if-number-ne-ACCEPTED.false).1; ends = c.prepare-loaded.ensures.ends c.if-number-ne-ACCEPTED.false; runnable = runnable i a }
+    let a = accepted i (turn_passes i (sym c.prepare-loaded.ensures.refused_value ∙ c.if-number-ne-ACCEPTED.false)) in
+    record {
+      right = a.right;
+      held = (c.prepare-loaded.ensures.from_value c.if-number-ne-ACCEPTED.false).1;
+      ends =
+          c.prepare-loaded.ensures.ends c.if-number-ne-ACCEPTED.false;
+      runnable = runnable i a;
+    }
 
 pub finish-requires : goal.finish-requires
 finish-requires c =

@@ -8,7 +8,13 @@ use Rattle.turn_tests.proofs.testing.prepare.Goals as goal
 
 pub returns-then-number-ne-ACCEPTED : goal.returns-then-number-ne-ACCEPTED
 returns-then-number-ne-ACCEPTED c = let i = turn_input c.args.rows.now c.args.pos.now c.args.osp.now c.args.survey c.args.plan.now c.args.state.now
-    c.args.given c.args.quantum c.args.threshold.now c.args.output.now in record { refused_value = c.refused.ensures ∙ early_fails i c.check-number.result c.check-number.ensures c.if-number-ne-ACCEPTED.true; from_value = λ z. absurd (c.if-number-ne-ACCEPTED.true (sym c.refused.ensures ∙ z)); ends = λ z. absurd (c.if-number-ne-ACCEPTED.true (sym c.refused.ensures ∙ z)) }
+    c.args.given c.args.quantum c.args.threshold.now c.args.output.now in
+    record {
+      refused_value = c.refused.ensures ∙ early_fails i c.check-number.result c.check-number.ensures c.if-number-ne-ACCEPTED.true;
+      from_value = λ z. absurd (c.if-number-ne-ACCEPTED.true (sym c.refused.ensures ∙ z));
+      ends =
+          λ z. absurd (c.if-number-ne-ACCEPTED.true (sym c.refused.ensures ∙ z));
+    }
 
 pub ending_part-requires : goal.ending_part-requires
 ending_part-requires c =
@@ -17,7 +23,8 @@ ending_part-requires c =
 pub returns-then-size-ne-ACCEPTED : goal.returns-then-size-ne-ACCEPTED
 returns-then-size-ne-ACCEPTED c = let i = turn_input c.args.rows.now c.args.pos.now c.args.osp.now c.args.survey c.args.plan.now c.args.state.now
     c.args.given c.args.quantum c.args.threshold.now c.args.output.now in record {
-      refused_value = c.refused-then-size-ne-ACCEPTED.ensures ∙ size_fails i (sym c.check-number.ensures ∙ c.if-number-ne-ACCEPTED.false) (ending_at c.ending_part.result.now)
+      refused_value = c.refused-then-size-ne-ACCEPTED.ensures ∙
+          size_fails i (sym c.check-number.ensures ∙ c.if-number-ne-ACCEPTED.false) (ending_at c.ending_part.result.now)
           c.ending_part.ensures.1 c.sizes-size.result c.sizes-size.ensures c.if-size-ne-ACCEPTED.true;
       from_value = λ h. absurd (c.if-size-ne-ACCEPTED.true (sym c.refused-then-size-ne-ACCEPTED.ensures ∙ h));
       ends = λ h. absurd (c.if-size-ne-ACCEPTED.true (sym c.refused-then-size-ne-ACCEPTED.ensures ∙ h));
@@ -25,7 +32,8 @@ returns-then-size-ne-ACCEPTED c = let i = turn_input c.args.rows.now c.args.pos.
 
 pub load-requires : goal.load-requires
 load-requires c = let z = sym c.check-number.ensures ∙ c.if-number-ne-ACCEPTED.false in
-    let t = tables_of c.args.rows.now c.args.pos.now c.args.osp.now in record { right = early_right t c.args.plan.now z; plan_value = early_planned t c.args.plan.now z }
+    let t = tables_of c.args.rows.now c.args.pos.now c.args.osp.now in
+    record { right = early_right t c.args.plan.now z; plan_value = early_planned t c.args.plan.now z }
 
 pub returns : goal.returns
 returns c = let i = turn_input c.args.rows.now c.args.pos.now c.args.osp.now c.args.survey c.args.plan.now c.args.state.now

@@ -47,11 +47,23 @@ dropped : (k : Counted) → upload_count ((k.args.upload.now)) - k.count_kept-ke
 dropped k = dropped_is ((k.args.upload.now)) k.count_kept-kept.result (kept_is k)
 
 pub judge-right-requires : goal.judge-right-requires
-judge-right-requires c = record { fits = record { few = few (goal.at.judge-right-requires c).Start; listed = omega (arith, few (goal.at.judge-right-requires c).Start, c.requires.list_len.0); judged = omega (arith, few (goal.at.judge-right-requires c).Start, c.requires.list_len.1) }; list_in_bounds = omega (arith, c.requires.list_len.0, c.requires.list_len.2) }
+judge-right-requires c = record {
+  fits = record {
+    few = few (goal.at.judge-right-requires c).Start;
+    listed =
+        omega (arith, few (goal.at.judge-right-requires c).Start, c.requires.list_len.0);
+    judged =
+        omega (arith, few (goal.at.judge-right-requires c).Start, c.requires.list_len.1);
+  };
+  list_in_bounds =
+      omega (arith, c.requires.list_len.0, c.requires.list_len.2);
+}
 
 pub count_kept-kept-requires : goal.count_kept-kept-requires
-count_kept-kept-requires c =
-    (omega (arith, few (goal.at.count_kept-kept-requires c).Start, c.requires.list_len.1, c.judge-right.auto.spare), omega (arith, few (goal.at.count_kept-kept-requires c).Start))
+count_kept-kept-requires c = (
+  omega (arith, few (goal.at.count_kept-kept-requires c).Start, c.requires.list_len.1, c.judge-right.auto.spare),
+  omega (arith, few (goal.at.count_kept-kept-requires c).Start),
+)
 
 pub overflow_sub-count : goal.overflow_sub-count
 overflow_sub-count c = omega (arith, kept_is c, kept_most (upload (goal.at.overflow_sub-count c).Start))
@@ -63,7 +75,9 @@ has_room-requires c =
 
 pub returns-then-not-has_room : goal.returns-then-not-has_room
 returns-then-not-has_room c =
-    no_room (lent (goal.at.returns-then-not-has_room c).Start) c.requires.upload_value c.count_kept-kept.result (upload_count (upload (goal.at.returns-then-not-has_room c).Start) - c.count_kept-kept.result) (kept_is (goal.at.returns-then-not-has_room c).After-count_kept-kept) (dropped (goal.at.returns-then-not-has_room c).After-count_kept-kept)
+    no_room (lent (goal.at.returns-then-not-has_room c).Start) c.requires.upload_value c.count_kept-kept.result
+    (upload_count (upload (goal.at.returns-then-not-has_room c).Start) - c.count_kept-kept.result)
+    (kept_is (goal.at.returns-then-not-has_room c).After-count_kept-kept) (dropped (goal.at.returns-then-not-has_room c).After-count_kept-kept)
     (sym c.has_room.ensures ∙ not-true c.has_room.result c.if-not-has_room.true-raw)
 
 -- ---- where there is room
@@ -95,14 +109,34 @@ write_tables-end-requires c = let f = fits (goal.at.write_tables-end-requires c)
 }
 
 pub write_report-told-requires : goal.write_report-told-requires
-write_report-told-requires c = record { count_in_bounds = (omega (arith, few (goal.at.write_report-told-requires c).Start, c.requires.list_len.1, c.judge-right.auto.spare), omega (arith, few (goal.at.write_report-told-requires c).Start)); count_in_bounds_2 = omega (arith, ap length (report_words_lem (upload (goal.at.write_report-told-requires c).Start) (fates (goal.at.write_report-told-requires c).After-count_kept-kept) (fates_right (goal.at.write_report-told-requires c).After-count_kept-kept)), report_length (upload (goal.at.write_report-told-requires c).Start), dropped (goal.at.write_report-told-requires c).After-count_kept-kept, (fits (goal.at.write_report-told-requires c).Else-not-has_room).for_report) }
+write_report-told-requires c =
+    record {
+      count_in_bounds = (
+        omega (arith, few (goal.at.write_report-told-requires c).Start, c.requires.list_len.1, c.judge-right.auto.spare),
+        omega (arith, few (goal.at.write_report-told-requires c).Start),
+      );
+      count_in_bounds_2 =
+          omega (
+            arith,
+            ap length (report_words_lem (upload (goal.at.write_report-told-requires c).Start)
+                (fates (goal.at.write_report-told-requires c).After-count_kept-kept)
+                (fates_right (goal.at.write_report-told-requires c).After-count_kept-kept)),
+            report_length (upload (goal.at.write_report-told-requires c).Start),
+            dropped (goal.at.write_report-told-requires c).After-count_kept-kept,
+            (fits (goal.at.write_report-told-requires c).Else-not-has_room).for_report,
+          );
+    }
 
 pub returns : goal.returns
 returns c =
     let up = upload (goal.at.returns c).Start in
     let n = kept_is (goal.at.returns c).After-count_kept-kept in
     let report = report_words_lem up (fates (goal.at.returns c).After-count_kept-kept) (fates_right (goal.at.returns c).After-count_kept-kept) in
-    same_result (lent (goal.at.returns c).Start) c.write_tables-end.result c.count_kept-kept.result c.write_report-told.result c.write_tables-end.new.rows c.write_tables-end.new.pos
-    c.write_tables-end.new.osp c.write_report-told.new.report (c.write_tables-end.ensures.value ∙ ap (λ m. m * column_count) n) n (c.write_report-told.ensures.value ∙ ap length report)
-    c.write_tables-end.ensures.rows_after c.write_tables-end.ensures.pos_after c.write_tables-end.ensures.osp_after (c.write_report-told.ensures.report_after ∙ ap (λ ws. over ws c.args.report.now) report)
-    ∙ served (lent (goal.at.returns c).Start) c.requires.upload_value c.count_kept-kept.result (upload_count up - c.count_kept-kept.result) n (dropped (goal.at.returns c).After-count_kept-kept) (has (goal.at.returns c).Else-not-has_room)
+    same_result (lent (goal.at.returns c).Start) c.write_tables-end.result c.count_kept-kept.result c.write_report-told.result
+    c.write_tables-end.new.rows c.write_tables-end.new.pos
+    c.write_tables-end.new.osp c.write_report-told.new.report (c.write_tables-end.ensures.value ∙ ap (λ m. m * column_count) n) n
+    (c.write_report-told.ensures.value ∙ ap length report)
+    c.write_tables-end.ensures.rows_after c.write_tables-end.ensures.pos_after c.write_tables-end.ensures.osp_after
+    (c.write_report-told.ensures.report_after ∙ ap (λ ws. over ws c.args.report.now) report)
+    ∙ served (lent (goal.at.returns c).Start) c.requires.upload_value c.count_kept-kept.result (upload_count up - c.count_kept-kept.result) n
+    (dropped (goal.at.returns c).After-count_kept-kept) (has (goal.at.returns c).Else-not-has_room)

@@ -45,18 +45,21 @@ abbrev flags : Marks → List ℕ
 flags m = m.flag_members.new.flags
 
 -- as many are counted as are visible
-counted : (m : Marks) → m.mark-seen.result ≡ seen_in ((view_input m.args.rows.now m.args.pos.now m.args.osp.now m.args.grant.now m.args.membership m.args.view_rows.now m.args.view_pos.now m.args.view_osp.now))
+counted : (m : Marks) → m.mark-seen.result ≡ seen_in
+    ((view_input m.args.rows.now m.args.pos.now m.args.osp.now m.args.grant.now m.args.membership m.args.view_rows.now m.args.view_pos.now m.args.view_osp.now))
 counted m =
     m.mark-seen.ensures.value
     ∙ number_visible m.args.rows.now m.args.grant.now m.args.membership (flags m) m.flag_members.ensures
     (row_count ((tables_of m.args.rows.now m.args.pos.now m.args.osp.now)))
 
 are_marked : (m : Marks) →
-    marks m ≡ over (marks_of (visible m.args.rows.now m.args.grant.now m.args.membership) (row_count ((tables_of m.args.rows.now m.args.pos.now m.args.osp.now)))) m.args.marks.now
+    marks m ≡ over (marks_of (visible m.args.rows.now m.args.grant.now m.args.membership)
+    (row_count ((tables_of m.args.rows.now m.args.pos.now m.args.osp.now)))) m.args.marks.now
 are_marked m =
     m.mark-seen.ensures.marks_after
     ∙ ap (λ ws. over ws m.args.marks.now)
-    (marks_visible m.args.rows.now m.args.grant.now m.args.membership (flags m) m.flag_members.ensures (row_count ((tables_of m.args.rows.now m.args.pos.now m.args.osp.now))))
+    (marks_visible m.args.rows.now m.args.grant.now m.args.membership (flags m) m.flag_members.ensures
+    (row_count ((tables_of m.args.rows.now m.args.pos.now m.args.osp.now))))
 
 seen_few : (m : Marks) → m.mark-seen.result ≤ most_rows
 seen_few m =
@@ -64,23 +67,33 @@ seen_few m =
     omega (arith, counted m, m.requires.right.sized.few)
 
 -- what the marks show
-rows_are : (m : Marks) → shown_words m.args.rows.now (marks m) ≡ (view_in ((view_input m.args.rows.now m.args.pos.now m.args.osp.now m.args.grant.now m.args.membership m.args.view_rows.now m.args.view_pos.now m.args.view_osp.now))).rows
+rows_are : (m : Marks) → shown_words m.args.rows.now (marks m) ≡
+    (view_in ((view_input m.args.rows.now m.args.pos.now m.args.osp.now m.args.grant.now m.args.membership m.args.view_rows.now m.args.view_pos.now
+    m.args.view_osp.now))).rows
 rows_are m =
-    shown_rows ((tables_of m.args.rows.now m.args.pos.now m.args.osp.now)) m.requires.right m.args.grant.now m.args.membership m.args.marks.now (marks m) (are_marked m)
+    shown_rows ((tables_of m.args.rows.now m.args.pos.now m.args.osp.now)) m.requires.right m.args.grant.now m.args.membership m.args.marks.now
+    (marks m) (are_marked m)
 
-pos_are : (m : Marks) → shown_numbers (marks m) m.args.pos.now ≡ (view_in ((view_input m.args.rows.now m.args.pos.now m.args.osp.now m.args.grant.now m.args.membership m.args.view_rows.now m.args.view_pos.now m.args.view_osp.now))).pos
+pos_are : (m : Marks) → shown_numbers (marks m) m.args.pos.now ≡
+    (view_in ((view_input m.args.rows.now m.args.pos.now m.args.osp.now m.args.grant.now m.args.membership m.args.view_rows.now m.args.view_pos.now
+    m.args.view_osp.now))).pos
 pos_are m =
-    shown_pos ((tables_of m.args.rows.now m.args.pos.now m.args.osp.now)) m.requires.right m.args.grant.now m.args.membership m.args.marks.now (marks m) (are_marked m)
+    shown_pos ((tables_of m.args.rows.now m.args.pos.now m.args.osp.now)) m.requires.right m.args.grant.now m.args.membership m.args.marks.now
+    (marks m) (are_marked m)
 
-osp_are : (m : Marks) → shown_numbers (marks m) m.args.osp.now ≡ (view_in ((view_input m.args.rows.now m.args.pos.now m.args.osp.now m.args.grant.now m.args.membership m.args.view_rows.now m.args.view_pos.now m.args.view_osp.now))).osp
+osp_are : (m : Marks) → shown_numbers (marks m) m.args.osp.now ≡
+    (view_in ((view_input m.args.rows.now m.args.pos.now m.args.osp.now m.args.grant.now m.args.membership m.args.view_rows.now m.args.view_pos.now
+    m.args.view_osp.now))).osp
 osp_are m =
-    shown_osp ((tables_of m.args.rows.now m.args.pos.now m.args.osp.now)) m.requires.right m.args.grant.now m.args.membership m.args.marks.now (marks m) (are_marked m)
+    shown_osp ((tables_of m.args.rows.now m.args.pos.now m.args.osp.now)) m.requires.right m.args.grant.now m.args.membership m.args.marks.now
+    (marks m) (are_marked m)
 
 -- as many are shown as are counted
 shown_is : (m : Marks) → m.mark-seen.result ≡ passed_before (shown_by (marks m)) (row_count ((tables_of m.args.rows.now m.args.pos.now m.args.osp.now)))
 shown_is m =
     counted m
-    ∙ sym (shown_count ((tables_of m.args.rows.now m.args.pos.now m.args.osp.now)) m.requires.right m.args.grant.now m.args.membership m.args.marks.now (marks m) (are_marked m))
+    ∙ sym (shown_count ((tables_of m.args.rows.now m.args.pos.now m.args.osp.now)) m.requires.right m.args.grant.now m.args.membership
+    m.args.marks.now (marks m) (are_marked m))
 
 -- there is a mark for each row
 marks_there : (m : Marks) → row_count ((tables_of m.args.rows.now m.args.pos.now m.args.osp.now)) ≤ length (marks m)
@@ -95,27 +108,59 @@ fits : (e : Else-not-has_room) → let a = e.args in
 fits e = room_parts _ _ _ _ (has e)
 
 pub flag_members-requires : goal.flag_members-requires
-flag_members-requires c = record { right = c.requires.right; grant_value = right_ascends c.args.grant.now c.requires.grant_value; unflagged = c.requires.unflagged }
+flag_members-requires c = record
+    { right = c.requires.right; grant_value = right_ascends c.args.grant.now c.requires.grant_value; unflagged = c.requires.unflagged }
 
 pub mark-seen-requires : goal.mark-seen-requires
-mark-seen-requires c = record { rows_right = rows_right (tables (goal.at.mark-seen-requires c).Start) c.requires.right; grant_value = right_ascends c.args.grant.now c.requires.grant_value; column_count_in_bounds = (c.flag_members.ensures.long, omega (arith, c.requires.right.sized.few, c.requires.marks_len)) }
+mark-seen-requires c = record {
+  rows_right = rows_right (tables (goal.at.mark-seen-requires c).Start) c.requires.right;
+  grant_value =
+      right_ascends c.args.grant.now c.requires.grant_value;
+  column_count_in_bounds =
+      (c.flag_members.ensures.long, omega (arith, c.requires.right.sized.few, c.requires.marks_len));
+}
 
 pub has_room-requires : goal.has_room-requires
 has_room-requires c = seen_few (goal.at.has_room-requires c).After-mark-seen
 
 pub returns-then-not-has_room : goal.returns-then-not-has_room
 returns-then-not-has_room c =
-    no_room (lent (goal.at.returns-then-not-has_room c).Start) (accepted (tables (goal.at.returns-then-not-has_room c).Start) c.requires.right) c.requires.grant_value c.mark-seen.result (counted (goal.at.returns-then-not-has_room c).After-mark-seen)
+    no_room (lent (goal.at.returns-then-not-has_room c).Start)
+    (accepted (tables (goal.at.returns-then-not-has_room c).Start) c.requires.right) c.requires.grant_value c.mark-seen.result
+    (counted (goal.at.returns-then-not-has_room c).After-mark-seen)
     (sym c.has_room.ensures ∙ not-true c.has_room.result c.if-not-has_room.true-raw)
 
 pub write_rows-requires : goal.write_rows-requires
-write_rows-requires c = record { column_count_len_bound = (c.requires.right.sized.few, marks_there (goal.at.write_rows-requires c).After-mark-seen); seen_value = (shown_is (goal.at.write_rows-requires c).After-mark-seen, (fits (goal.at.write_rows-requires c).Else-not-has_room).for_rows) }
+write_rows-requires c = record {
+  column_count_len_bound = (c.requires.right.sized.few, marks_there (goal.at.write_rows-requires c).After-mark-seen);
+  seen_value =
+      (shown_is (goal.at.write_rows-requires c).After-mark-seen, (fits (goal.at.write_rows-requires c).Else-not-has_room).for_rows);
+}
 
 pub write_numbers-requires : goal.write_numbers-requires
-write_numbers-requires c = record { list_value = pos_named (tables (goal.at.write_numbers-requires c).Start) c.requires.right (length (marks (goal.at.write_numbers-requires c).After-mark-seen)) (marks_there (goal.at.write_numbers-requires c).After-mark-seen); seen_value = (counted (goal.at.write_numbers-requires c).After-mark-seen ∙ sym (ap length (pos_are (goal.at.write_numbers-requires c).After-mark-seen) ∙ (view_counts (lent (goal.at.write_numbers-requires c).Start)).pos), (fits (goal.at.write_numbers-requires c).Else-not-has_room).for_pos, seen_few (goal.at.write_numbers-requires c).After-mark-seen) }
+write_numbers-requires c = record {
+  list_value = pos_named (tables (goal.at.write_numbers-requires c).Start) c.requires.right
+      (length (marks (goal.at.write_numbers-requires c).After-mark-seen)) (marks_there (goal.at.write_numbers-requires c).After-mark-seen);
+  seen_value = (
+    counted (goal.at.write_numbers-requires c).After-mark-seen ∙
+        sym (ap length (pos_are (goal.at.write_numbers-requires c).After-mark-seen) ∙ (view_counts (lent (goal.at.write_numbers-requires c).Start)).pos),
+    (fits (goal.at.write_numbers-requires c).Else-not-has_room).for_pos,
+    seen_few (goal.at.write_numbers-requires c).After-mark-seen,
+  );
+}
 
 pub write_numbers-requires-2 : goal.write_numbers-requires-2
-write_numbers-requires-2 c = record { list_value = osp_named (tables (goal.at.write_numbers-requires-2 c).Start) c.requires.right (length (marks (goal.at.write_numbers-requires-2 c).After-mark-seen)) (marks_there (goal.at.write_numbers-requires-2 c).After-mark-seen); seen_value = (counted (goal.at.write_numbers-requires-2 c).After-mark-seen ∙ sym (ap length (osp_are (goal.at.write_numbers-requires-2 c).After-mark-seen) ∙ (view_counts (lent (goal.at.write_numbers-requires-2 c).Start)).osp), (fits (goal.at.write_numbers-requires-2 c).Else-not-has_room).for_osp, seen_few (goal.at.write_numbers-requires-2 c).After-mark-seen) }
+write_numbers-requires-2 c = record {
+  list_value = osp_named (tables (goal.at.write_numbers-requires-2 c).Start) c.requires.right
+      (length (marks (goal.at.write_numbers-requires-2 c).After-mark-seen)) (marks_there (goal.at.write_numbers-requires-2 c).After-mark-seen);
+  seen_value = (
+    counted (goal.at.write_numbers-requires-2 c).After-mark-seen ∙
+        sym (ap length (osp_are (goal.at.write_numbers-requires-2 c).After-mark-seen) ∙
+        (view_counts (lent (goal.at.write_numbers-requires-2 c).Start)).osp),
+    (fits (goal.at.write_numbers-requires-2 c).Else-not-has_room).for_osp,
+    seen_few (goal.at.write_numbers-requires-2 c).After-mark-seen,
+  );
+}
 
 pub overflow_mul-result : goal.overflow_mul-result
 overflow_mul-result c =
@@ -123,9 +168,12 @@ overflow_mul-result c =
 
 pub returns : goal.returns
 returns c =
-    same_result (view_in (lent (goal.at.returns c).Start)) (lent (goal.at.returns c).Start).buffers (seen_in (lent (goal.at.returns c).Start)) (view_counts (lent (goal.at.returns c).Start)) _ _
-    c.write_rows.new.view c.write_numbers.new.view c.write_numbers-2.new.view (ap (λ n. n * column_count) (counted (goal.at.returns c).After-mark-seen)) (counted (goal.at.returns c).After-mark-seen)
+    same_result (view_in (lent (goal.at.returns c).Start)) (lent (goal.at.returns c).Start).buffers (seen_in (lent (goal.at.returns c).Start))
+    (view_counts (lent (goal.at.returns c).Start)) _ _
+    c.write_rows.new.view c.write_numbers.new.view c.write_numbers-2.new.view
+    (ap (λ n. n * column_count) (counted (goal.at.returns c).After-mark-seen)) (counted (goal.at.returns c).After-mark-seen)
     (c.write_rows.ensures ∙ ap (λ ws. over ws c.args.view_rows.now) (rows_are (goal.at.returns c).After-mark-seen))
     (c.write_numbers.ensures ∙ ap (λ ws. over ws c.args.view_pos.now) (pos_are (goal.at.returns c).After-mark-seen))
     (c.write_numbers-2.ensures ∙ ap (λ ws. over ws c.args.view_osp.now) (osp_are (goal.at.returns c).After-mark-seen))
-    ∙ served (lent (goal.at.returns c).Start) (accepted (tables (goal.at.returns c).Start) c.requires.right) c.requires.grant_value c.mark-seen.result (counted (goal.at.returns c).After-mark-seen) (has (goal.at.returns c).Else-not-has_room)
+    ∙ served (lent (goal.at.returns c).Start) (accepted (tables (goal.at.returns c).Start) c.requires.right) c.requires.grant_value c.mark-seen.result
+    (counted (goal.at.returns c).After-mark-seen) (has (goal.at.returns c).Else-not-has_room)

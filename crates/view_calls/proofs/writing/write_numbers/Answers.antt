@@ -1,5 +1,5 @@
 -- `write_numbers` meets its contract. The invariant: the numbers of the places before `place` that are not hidden are written.
-use Prim.Native.Nat.{ℕ, ◌+◌, ◌-◌, ◌<◌}
+use Prim.Native.Nat.{ℕ, ◌+◌, ◌<◌}
 use mathlib.Core.Path.{◌≡◌, refl, sym, ap, ◌∙◌}
 use mathlib.Core.List.{List, [], ◌∷◌, ◌++◌}
 use native.Mathlib.Omega.{arith}
@@ -75,21 +75,30 @@ loop-used-preserved c =
     let used = c.loop-used.used in
     let place = c.loop-used.place in
     let h = left (goal.at.loop-used-preserved c).At-loop-used (omega arith) in
-    let u : c.one_more-used.result ≡ cond (shown_by (marks (goal.at.loop-used-preserved c).At-loop-used) (row (goal.at.loop-used-preserved c).At-loop-used)) (used + 1) used =
-    c.one_more-used.ensures ∙ ap (λ r. cond (ltb (get_or (marks (goal.at.loop-used-preserved c).At-loop-used) r 0) hidden_mark) (used + 1) used) c.wide.ensures in (
+    let u : c.one_more-used.result ≡ cond
+    (shown_by (marks (goal.at.loop-used-preserved c).At-loop-used) (row (goal.at.loop-used-preserved c).At-loop-used)) (used + 1) used =
+    c.one_more-used.ensures ∙ ap (λ r. cond (ltb (get_or (marks (goal.at.loop-used-preserved c).At-loop-used) r 0) hidden_mark) (used + 1) used)
+    c.wide.ensures in (
       omega (arith, h),
       (simp length-set) ∙ c.loop-used.invariant.1,
-      u ∙ used_next (marks (goal.at.loop-used-preserved c).At-loop-used) (list (goal.at.loop-used-preserved c).At-loop-used) place h used c.loop-used.invariant.2,
+      u ∙ used_next (marks (goal.at.loop-used-preserved c).At-loop-used)
+          (list (goal.at.loop-used-preserved c).At-loop-used) place h used c.loop-used.invariant.2,
       ap₂ (λ n r. take n (set c.loop-used.view used (get_or (marks (goal.at.loop-used-preserved c).At-loop-used) r 0))) u c.wide.ensures
-          ∙ front_next (marks (goal.at.loop-used-preserved c).At-loop-used) (list (goal.at.loop-used-preserved c).At-loop-used) place h c.loop-used.view used (omega (arith, c.requires.seen_value.1, c.loop-used.invariant.1)) c.loop-used.invariant.3,
-      drop-set-lt c.args.seen c.loop-used.view used (get_or (marks (goal.at.loop-used-preserved c).At-loop-used) c.wide.result 0) (omega arith) ∙ c.loop-used.invariant.4,
+          ∙ front_next (marks (goal.at.loop-used-preserved c).At-loop-used)
+          (list (goal.at.loop-used-preserved c).At-loop-used) place h c.loop-used.view used
+          (omega (arith, c.requires.seen_value.1, c.loop-used.invariant.1)) c.loop-used.invariant.3,
+      drop-set-lt c.args.seen c.loop-used.view used (get_or (marks (goal.at.loop-used-preserved c).At-loop-used) c.wide.result 0) (omega arith) ∙
+          c.loop-used.invariant.4,
     )
 
 pub returns : goal.returns
 returns c =
-    let p = written_part (shown_by (marks (goal.at.returns c).At-loop-used)) (λ r. get_or (marks (goal.at.returns c).At-loop-used) r 0 ∷ []) c.loop-used.place (list (goal.at.returns c).At-loop-used) in
+    let p = written_part (shown_by (marks (goal.at.returns c).At-loop-used))
+    (λ r. get_or (marks (goal.at.returns c).At-loop-used) r 0 ∷ []) c.loop-used.place (list (goal.at.returns c).At-loop-used) in
     let n : c.args.seen ≡ c.loop-used.used = omega (arith, p, c.loop-used.invariant.2, c.requires.seen_value.0) in
-    let e = part_all (shown_by (marks (goal.at.returns c).At-loop-used)) (λ r. get_or (marks (goal.at.returns c).At-loop-used) r 0 ∷ []) c.loop-used.place (list (goal.at.returns c).At-loop-used) (omega (arith, n, c.loop-used.invariant.2, c.requires.seen_value.0)) in
+    let e = part_all (shown_by (marks (goal.at.returns c).At-loop-used))
+    (λ r. get_or (marks (goal.at.returns c).At-loop-used) r 0 ∷ []) c.loop-used.place (list (goal.at.returns c).At-loop-used)
+    (omega (arith, n, c.loop-used.invariant.2, c.requires.seen_value.0)) in
     sym (take-append-drop c.args.seen c.loop-used.view)
     ∙ ap₂ ◌++◌ (ap (λ k. take k c.loop-used.view) n ∙ c.loop-used.invariant.3 ∙ e)
     (c.loop-used.invariant.4 ∙ ap (λ k. drop k c.args.view.now) c.requires.seen_value.0)

@@ -1,5 +1,5 @@
 -- `write_rows` meets its contract. The invariant: the rows before `row` that are not hidden are written.
-use Prim.Native.Nat.{ℕ, ◌+◌, ◌-◌, ◌*◌, ◌/◌, ◌≤◌, ◌<◌}
+use Prim.Native.Nat.{ℕ, ◌+◌, ◌*◌, ◌/◌, ◌≤◌, ◌<◌}
 use mathlib.Core.Path.{◌≡◌, refl, sym, ap, ◌∙◌, subst}
 use mathlib.Core.List.{List, ◌++◌}
 use native.Mathlib.Omega.{arith}
@@ -64,7 +64,13 @@ loop-used-init c =
 
 pub offset_bounds-marks-wide : goal.offset_bounds-marks-wide
 offset_bounds-marks-wide c =
-    omega (arith, c.wide.ensures, left (goal.at.offset_bounds-marks-wide c).At-loop-used (omega arith), c.requires.column_count_len_bound.0, c.requires.column_count_len_bound.1)
+    omega (
+      arith,
+      c.wide.ensures,
+      left (goal.at.offset_bounds-marks-wide c).At-loop-used (omega arith),
+      c.requires.column_count_len_bound.0,
+      c.requires.column_count_len_bound.1,
+    )
 
 pub bounds-marks-wide : goal.bounds-marks-wide
 bounds-marks-wide c =
@@ -78,7 +84,12 @@ overflow_mul-used c = omega (arith, few (goal.at.overflow_mul-used c).At-loop-us
 
 pub put_row-requires : goal.put_row-requires
 put_row-requires c =
-    omega (arith, room (goal.at.put_row-requires c).At-loop-used (omega arith), ap length c.row_words-words.ensures, fields_length Spo (rows (goal.at.put_row-requires c).At-loop-used) c.loop-used.row)
+    omega (
+      arith,
+      room (goal.at.put_row-requires c).At-loop-used (omega arith),
+      ap length c.row_words-words.ensures,
+      fields_length Spo (rows (goal.at.put_row-requires c).At-loop-used) c.loop-used.row,
+    )
 
 pub one_more-used-requires : goal.one_more-used-requires
 one_more-used-requires c = omega (arith, few (goal.at.one_more-used-requires c).At-loop-used)
@@ -100,13 +111,16 @@ loop-used-preserved c =
     let r = room (goal.at.loop-used-preserved c).At-loop-used (omega arith) in
     let fits : used * column_count + length x ≤ length c.loop-used.view = omega (arith, wide, r) in
     let u : c.one_more-used.result ≡ cond (shown_by (marks (goal.at.loop-used-preserved c).At-loop-used) row) (used + 1) used =
-    c.one_more-used.ensures ∙ ap (λ n. cond (ltb (get_or (marks (goal.at.loop-used-preserved c).At-loop-used) n 0) hidden_mark) (used + 1) used) c.wide.ensures in (
+    c.one_more-used.ensures ∙ ap (λ n. cond (ltb (get_or (marks (goal.at.loop-used-preserved c).At-loop-used) n 0) hidden_mark) (used + 1) used)
+    c.wide.ensures in (
       omega (arith, h),
       ap length c.put_row.ensures ∙ length-paste c.loop-used.view (used * column_count) x (length x) fits (omega arith) ∙ c.loop-used.invariant.1,
-      u ∙ ap (λ k. cond (shown_by (marks (goal.at.loop-used-preserved c).At-loop-used) row) (k + 1) k) c.loop-used.invariant.2 ∙ number_next (shown_by (marks (goal.at.loop-used-preserved c).At-loop-used)) row,
+      u ∙ ap (λ k. cond (shown_by (marks (goal.at.loop-used-preserved c).At-loop-used) row) (k + 1) k) c.loop-used.invariant.2 ∙
+          number_next (shown_by (marks (goal.at.loop-used-preserved c).At-loop-used)) row,
       subst (λ k. k ≤ seen) (sym u) (more_most (shown_by (marks (goal.at.loop-used-preserved c).At-loop-used) row) used seen (omega arith)),
       ap₂ (λ k v. take (k * column_count) v) u c.put_row.ensures
-          ∙ front_row (rows (goal.at.loop-used-preserved c).At-loop-used) (marks (goal.at.loop-used-preserved c).At-loop-used) c.loop-used.view x used row c.row_words-words.ensures r c.loop-used.invariant.4,
+          ∙ front_row (rows (goal.at.loop-used-preserved c).At-loop-used)
+          (marks (goal.at.loop-used-preserved c).At-loop-used) c.loop-used.view x used row c.row_words-words.ensures r c.loop-used.invariant.4,
       ap (drop (seen * column_count)) c.put_row.ensures
           ∙ put_rest c.loop-used.view x (used * column_count) fits (seen * column_count) (omega (arith, wide))
           ∙ c.loop-used.invariant.5,
@@ -115,9 +129,12 @@ loop-used-preserved c =
 pub returns : goal.returns
 returns c =
     let n : c.args.seen ≡ c.loop-used.used = omega (arith, c.loop-used.invariant.3) in
-    let e = words_all (rows (goal.at.returns c).At-loop-used) (marks (goal.at.returns c).At-loop-used) c.loop-used.row c.loop-used.invariant.0 (sym c.loop-used.invariant.2 ∙ sym n ∙ c.requires.seen_value.0) in
+    let e = words_all (rows (goal.at.returns c).At-loop-used) (marks (goal.at.returns c).At-loop-used) c.loop-used.row c.loop-used.invariant.0
+    (sym c.loop-used.invariant.2 ∙ sym n ∙ c.requires.seen_value.0) in
     let d : c.args.seen * column_count ≡ length (shown_words (rows (goal.at.returns c).At-loop-used) (marks (goal.at.returns c).At-loop-used)) =
-    ap (λ k. k * column_count) c.requires.seen_value.0 ∙ sym (words_length (rows (goal.at.returns c).At-loop-used) (marks (goal.at.returns c).At-loop-used) (length (rows (goal.at.returns c).At-loop-used) / column_count)) in
+    ap (λ k. k * column_count) c.requires.seen_value.0 ∙
+    sym (words_length (rows (goal.at.returns c).At-loop-used) (marks (goal.at.returns c).At-loop-used)
+    (length (rows (goal.at.returns c).At-loop-used) / column_count)) in
     sym (take-append-drop (c.args.seen * column_count) c.loop-used.view)
     ∙ ap₂ ◌++◌ (ap (λ k. take (k * column_count) c.loop-used.view) n ∙ c.loop-used.invariant.4 ∙ e)
     (c.loop-used.invariant.5 ∙ ap (λ k. drop k c.args.view.now) d)
