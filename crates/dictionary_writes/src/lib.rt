@@ -8,6 +8,7 @@ ghost use Rattle.dictionary_numberings.specs.Numbering.{strings_once, bytes_once
 ghost use Rattle.dictionary_numberings.specs.Sorted.{sorted_places};
 
 use dictionary_searches::{is_before, string};
+use words::copy_in;
 
 // How much was written.
 #[derive(Clone, Copy)]
@@ -24,13 +25,16 @@ fn is_last(bytes: &[u8], ends: &[u32], places: &[u32], k: usize) -> bool
     ensures { result ≡ eqb (k + 1) (length places.now)
         || place_before bytes.now ends.now (get_or places.now k 0) (get_or places.now (k + 1) 0) }
 {
-    k + 1 == places.len()
-        || is_before(
+    if k + 1 == places.len() {
+        true
+    } else {
+        is_before(
             bytes,
             ends,
             words::wide(places[k]),
             words::wide(places[k + 1]),
         )
+    }
 }
 
 // Writes the strings that are cut off `bytes` at `ends`, by their sorted `places`: each once to `out` and its end to `cuts`, and to `numbers` the number
@@ -62,9 +66,8 @@ pub fn write_strings(
             continue;
         }
         let s = string(bytes, ends, place);
-        let end = filled + s.len();
-        out[filled..end].copy_from_slice(s);
-        filled = end;
+        copy_in(out, filled, s);
+        filled += s.len();
         cuts[count] = filled as u32;
         count += 1;
     }

@@ -49,26 +49,28 @@ pub fn walk(rows: &[u32], pos: &[u32], osp: &[u32], alike: bool) -> u32
     let own = &rows[..end];
     let by_predicate = &pos[..count];
     let by_object = &osp[..count];
-    for turn in 0..ORDERS {
+    let mut right: u32 = 0;
+    'orders: for turn in 0..ORDERS {
         let order = order_at(turn);
         let mut last = match read(own, by_predicate, by_object, order, Place(0), alike) {
             Some(keys) => keys,
-            None => return turn,
+            None => break 'orders,
         };
         for place in 1..short {
             let next = match read(own, by_predicate, by_object, order, Place(place), alike) {
                 Some(keys) => keys,
-                None => return turn,
+                None => break 'orders,
             };
             let mut before = false;
             for column in (0..KEYS).rev() {
                 before = before_from(key_at(last, column), key_at(next, column), before);
             }
             if !before {
-                return turn;
+                break 'orders;
             }
             last = next;
         }
+        right += 1;
     }
-    ORDERS
+    right
 }

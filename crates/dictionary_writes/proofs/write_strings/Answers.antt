@@ -1,14 +1,12 @@
 -- `write_strings` meets its contract. The invariant: what is written and the strings still to come, each once, make the whole; and the places passed have
 -- their numbers.
-use Prim.Native.Nat.{ℕ, ◌+◌, ◌-◌, ◌≤◌, ◌<◌}
+use Prim.Native.Nat.{ℕ, ◌+◌, ◌≤◌, ◌<◌}
 use native.Mathlib.Omega.{arith}
-use mathlib.Core.Path.{◌≡◌, refl, sym, ap, subst, subst⁻¹, ◌∙◌}
+use mathlib.Core.Path.{◌≡◌, sym, ap, subst, subst⁻¹, ◌∙◌}
 use mathlib.Core.Bool.{Bool, true, false, ◌||◌}
 use mathlib.Core.List.{List, [], ◌∷◌, flatten}
 use lib.Dec.{eqb}
-use lib.ListN.{length, get_or, set, drop, length-drop, length-map}
-use Rattle.std.proofs.lemmas.List.{length-take-le}
-use Rattle.std.proofs.lemmas.Slice.{put_mid-paste}
+use lib.ListN.{length, get_or, set, drop, length-map}
 use borrow.Author.Tests.{ltb-true}
 use Rattle.sequences.specs.Sequences.{all, over}
 use Rattle.sequences.proofs.Elements.{all_at_lem}
@@ -125,17 +123,11 @@ pub string-s-requires-clause-n_in_bounds : goal.string-s-requires-clause-n_in_bo
 string-s-requires-clause-n_in_bounds c =
     within c.args.bytes.now c.args.ends.now c.args.places.now c.loop-k.k c.requires.places_value c.loop-k-test.true c.wide-place.result c.wide-place.ensures
 
-pub copy_from_slice-requires : goal.copy_from_slice-requires
-copy_from_slice-requires c =
-    let h = fits (goal.at.copy_from_slice-requires c).After-string-s in
-    let z : c.loop-k.filled + length c.string-s.result.now - c.loop-k.filled ≡ length c.string-s.result.now = omega arith in
-    rw z (length-take-le (length c.string-s.result.now) (drop c.loop-k.filled c.loop-k.out) (omega (arith, length-drop c.loop-k.filled c.loop-k.out)))
+pub copy_in-requires : goal.copy_in-requires
+copy_in-requires c = omega (arith, fits (goal.at.copy_in-requires c).After-string-s)
 
-pub slice_bounds-copy_from_slice-end : goal.slice_bounds-copy_from_slice-end
-slice_bounds-copy_from_slice-end c = omega (arith, fits (goal.at.slice_bounds-copy_from_slice-end c).After-string-s)
-
-pub overflow_add-end : goal.overflow_add-end
-overflow_add-end c = omega (arith, small (goal.at.overflow_add-end c).After-string-s (λ i. omega (arith, c.type_inv.ends i)))
+pub overflow_add-filled : goal.overflow_add-filled
+overflow_add-filled c = omega (arith, small (goal.at.overflow_add-filled c).After-string-s (λ i. omega (arith, c.type_inv.ends i)))
 
 pub overflow_cast-cuts : goal.overflow_cast-cuts
 overflow_cast-cuts c = omega (arith, small (goal.at.overflow_cast-cuts c).After-string-s (λ i. omega (arith, c.type_inv.ends i)))
@@ -152,8 +144,7 @@ loop-k-preserved c =
     let w = within a.bytes.now a.ends.now a.places.now l.k c.requires.places_value c.loop-k-test.true c.wide-place.result c.wide-place.ensures in (
       subst⁻¹
           (λ o. StringsWritten (whole z) (rest z) a.out.now o a.cuts.now (set l.cuts l.count (l.filled + length s)) (l.filled + length s) (l.count + 1))
-          (put_mid-paste l.filled (l.filled + length s - l.filled) l.out c.copy_from_slice.new.self s (length s) c.copy_from_slice.ensures.after
-          (omega arith) refl)
+          c.copy_in.ensures
           (written_step (whole z) (rest z) a.out.now l.out a.cuts.now l.cuts l.filled l.count s (waits z) (bytes_room z) (ends_room z)),
       numbers_kept a.bytes.now a.ends.now a.numbers.now l.numbers l.count l.k c.wide-place.result l.invariant.1
           (listed a.bytes.now a.ends.now a.places.now l.k c.requires.places_value c.loop-k-test.true)

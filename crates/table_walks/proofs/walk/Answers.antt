@@ -72,7 +72,7 @@ pub returns-in-None : goal.returns-in-None
 returns-in-None c =
     let t = tables_of c.args.rows.now c.args.pos.now c.args.osp.now in
     let o = c.order_at-order.result in
-    stops t c.requires.sized c.args.alike c.loop-turn.turn o c.loop-turn.invariant (omega arith) c.order_at-order.ensures
+    c.orders.invariant.1 ∙ stops t c.requires.sized c.args.alike c.orders.turn o c.orders.invariant.0 (omega arith) c.order_at-order.ensures
     (unnamed_fault c.args.alike (cut_all t) o 0 (some_rows t c.requires.sized c.requires.nonzero)
     (read_none c.args.alike (cut_all t) o 0 c.in-None.ensures))
 
@@ -89,7 +89,7 @@ returns-in-None-read c =
     let o = c.order_at-order.result in
     let p = c.loop-place.place in
     let h : p < length c.args.pos.now = c.loop-place-test.true in
-    stops t c.requires.sized c.args.alike c.loop-turn.turn o c.loop-turn.invariant (omega arith) c.order_at-order.ensures
+    c.orders.invariant.1 ∙ stops t c.requires.sized c.args.alike c.orders.turn o c.orders.invariant.0 (omega arith) c.order_at-order.ensures
     (unnamed_fault c.args.alike (cut_all t) o p (omega (arith, all_places t c.requires.sized))
     (read_none c.args.alike (cut_all t) o p c.in-None-read.ensures))
 
@@ -115,7 +115,7 @@ returns-then-not-before c =
     let p = c.loop-place.place in
     let h : p < length c.args.pos.now = c.loop-place-test.true in
     let s = all_say (goal.at.returns-then-not-before c).At-loop-column (omega arith) in
-    stops t c.requires.sized c.args.alike c.loop-turn.turn o c.loop-turn.invariant (omega arith) c.order_at-order.ensures
+    c.orders.invariant.1 ∙ stops t c.requires.sized c.args.alike c.orders.turn o c.orders.invariant.0 (omega arith) c.order_at-order.ensures
     (descent_fault c.args.alike (cut_all t) o p (omega arith) (omega (arith, all_places t c.requires.sized))
     (rows_say n false (sym s ∙ c.if-not-before.true)))
 
@@ -132,9 +132,8 @@ loop-place-preserved c =
       upto_next c.args.alike t o p (omega arith) c.loop-place.invariant.1 row (rows_say n true (sym s ∙ c.if-not-before.false)),
     )
 
-pub returns : goal.returns
-returns c =
+pub returns-after-orders : goal.returns-after-orders
+returns-after-orders c =
     let t = tables_of c.args.rows.now c.args.pos.now c.args.osp.now in
-    let e : 3 ≡ c.loop-turn.turn = omega arith in
-    e ∙ sym (orders_all c.args.alike (cut_all t) c.loop-turn.turn c.loop-turn.invariant (omega arith))
+    c.orders.invariant.1 ∙ sym (orders_all c.args.alike (cut_all t) c.orders.turn c.orders.invariant.0 (omega arith))
     ∙ ap (right_orders c.args.alike) (cut_all_none t c.requires.sized)

@@ -15,6 +15,6 @@ invariant-loop-place l =
     let t = tables_of l.own l.by_predicate l.by_object in
     (l.last ≡ keys_at l.alike l.order t (l.place - 1)) × (right_upto l.alike t l.order l.place ≡ true)
 
--- the orders before `turn` are right
-abbrev pub invariant-loop-turn : goal.invariant-loop-turn
-invariant-loop-turn l = RightBefore l.alike (tables_of l.own l.by_predicate l.by_object) l.turn
+-- the orders before `turn` are right, and counted
+abbrev pub invariant-orders : goal.invariant-orders
+invariant-orders l = RightBefore l.alike (tables_of l.own l.by_predicate l.by_object) l.turn × (l.right ≡ l.turn)
