@@ -8,7 +8,8 @@
 //!   - crates are modules here: `crate::` and the names of the crates that a crate may use become paths to modules, all public;
 //!   - `std::` becomes a path to src/standard.rs, which has what the engine takes of Rattle's standard library, or to
 //!     src/bin/turns/standard.rs, which has what the printer takes; so do the names that stand in Rattle without a `use` and not in Rust.
-//!     `str::` becomes a path to Rust's module of that name;
+//!     `str::` becomes a path to Rust's module of that name. So does the method `copy_within` of a slice, so that the library takes no
+//!     `memmove` from outside;
 //!   - a function that is exported for C takes slices there, which rustc passes otherwise than Rattle does. Here it is a plain
 //!     function, and exports.rs gets one of the same name that takes addresses and lengths;
 //!   - rustc leaves calls in a step where Rattle leaves none, and a struct that is handed to a call is in memory. So the functions of some
@@ -130,14 +131,15 @@ fn quoted(text: &str, quote: char) -> Option<usize> {
     None
 }
 
-/// Whether the marks of a struct or enum are none, or one list of derives.
-fn is_derive(mark: &str) -> bool {
-    mark.is_empty() || (mark.starts_with("#[derive(") && mark.find(']') == Some(mark.len() - 1))
-}
-
 /// Whether the marks of a struct or enum derive a trait.
 fn derives(mark: &str, name: &str) -> bool {
     mark.split(|c| !is_word(c)).any(|word| word == name)
+}
+
+/// Whether the marks of a struct or enum are one list of derives, with Clone and Copy: what one that derives neither is moved by is not known here.
+fn is_copied(mark: &str) -> bool {
+    let is_one_list = mark.starts_with("#[derive(") && mark.find(']') == Some(mark.len() - 1);
+    is_one_list && derives(mark, "Clone") && derives(mark, "Copy")
 }
 
 /// The kind and the bytes of the token that `text` begins with; none where it does not end, or is not known.
@@ -277,13 +279,13 @@ impl<'a> Source<'a> {
                 head + 2
             }
             ("", "const" | "type", ..) => self.find(head, &[";"]),
-            (mark, "struct" | "enum", name, _) if mark.starts_with("#[repr(C)]") && is_derive(&mark["#[repr(C)]".len()..]) => {
+            (mark, "struct" | "enum", name, _) if mark.strip_prefix("#[repr(C)]").map_or(false, is_copied) => {
                 self.for_c.insert(name);
                 let more: Vec<_> = ["Debug", "PartialEq", "Eq"].into_iter().filter(|&one| !derives(mark, one)).collect();
                 self.put(first, format!("#[derive({})] {}", more.join(", "), self.text(first)));
                 self.find(head, &[";", "}"])
             }
-            (mark, "struct" | "enum", ..) if is_derive(mark) => {
+            (mark, "struct" | "enum", ..) if mark.is_empty() || is_copied(mark) => {
                 if self.text(head) == "struct" && self.name() == PACKED {
                     self.put(first, format!("#[repr(packed)] {}", self.text(first)));
                 }
@@ -353,6 +355,9 @@ impl<'a> Source<'a> {
             if PRELUDE.contains(&head) {
                 self.put(at, format!("crate::standard::{head}"));
             }
+            if head == "copy_within" {
+                self.move_within(at);
+            }
             if self.text(at + 1) != "::" || self.text(at + 2) == "<" {
                 continue;
             }
@@ -369,6 +374,18 @@ impl<'a> Source<'a> {
                 None => self.stop(at, &format!("{head} is no module of this file and no crate that {own} may use")),
             }
         }
+    }
+
+    /// Puts the function of src/standard.rs where a slice's method `copy_within` is called, of a slice that has a name.
+    fn move_within(&mut self, method: usize) {
+        let (slice, dot, open) = (self.text(method.saturating_sub(2)), self.text(method.saturating_sub(1)), self.text(method + 1));
+        if dot != "." || open != "(" || !slice.chars().all(is_word) || matches!(self.text(method.saturating_sub(3)), "." | "::") {
+            self.stop(method, "a `copy_within` of a form not known here");
+        }
+        self.put(method - 2, "crate::standard::copy_within".to_string());
+        self.put(method - 1, String::new());
+        self.put(method, String::new());
+        self.put(method + 1, format!("({slice}, "));
     }
 
     /// The file as Rust, line by line.
