@@ -13,7 +13,16 @@ pub const COMPARISON_WORDS: usize = 3;
 fn is_bound(word: u32, terms: &[u32]) -> bool
     ensures { result ≡ bound_in terms.now word }
 {
-    !Term(word).is_variable() || terms.contains(&word)
+    if !Term(word).is_variable() {
+        return true;
+    }
+    // no `contains`: it would be a call for each word
+    for term in terms {
+        if *term == word {
+            return true;
+        }
+    }
+    false
 }
 
 // The comparison that `p` starts with: its word and two terms.

@@ -1,12 +1,27 @@
--- The registers of an empty list, and how many have each value.
-use Prim.Native.Nat.{ℕ, zero, suc}
+-- Counts from a place of a list on: with the next word, and at the end.
+use Prim.Native.Nat.{ℕ, zero, suc, ◌+◌, ◌≤◌, ◌<◌}
 use native.Mathlib.Omega.{arith}
+use native.Mathlib.Numerals.{add-one}
 use mathlib.Core.Path.{◌≡◌, refl, sym}
+use mathlib.Core.Bool.{cond}
 use mathlib.Core.List.{List, [], ◌∷◌}
-use lib.ListN.{length, replicate}
+use lib.Dec.{eqb}
+use lib.ListN.{length, get_or, drop, drop_of_length-le, replicate}
+use lib.Seq.{drop-cons}
 use borrow.Author.Tests.{ne_eqb}
 use Rattle.registers.specs.Registers.{register_count, registers_in, count_at}
 
+module _ (v : ℕ) (xs : List ℕ) (i : ℕ) where
+  pub count_end : length xs ≤ i → count_at v (drop i xs) ≡ 0
+  unfolding count_at
+  count_end h = rw (drop_of_length-le xs h)
+
+  module _ (h : i < length xs) where
+    pub count_step : count_at v (drop i xs) ≡ cond (eqb (get_or xs i 0) v) 1 0 + count_at v (drop (i + 1) xs)
+    unfolding count_at
+    count_step = rw (add-one, drop-cons xs i 0)
+
+-- ---- of an empty list
 pub no_registers : (ws : List ℕ) → length ws ≡ 0 → registers_in ws ≡ registers_in []
 no_registers [] h = refl
 no_registers (w ∷ ws) h = absurd (omega arith)

@@ -14,7 +14,12 @@ fn count_at(list: &[u32], value: u32) -> u32
     requires { length list.now ≤ register_count }
     ensures { result ≡ count_at value list.now }
 {
-    list.iter().filter(|register| **register == value).count() as u32
+    let mut count: u32 = 0;
+    // no `filter` with `count`: a report then takes seven times the instructions
+    for register in list {
+        count += u32::from(*register == value);
+    }
+    count
 }
 
 // How many registers of an empty list are `value`: all are 0.

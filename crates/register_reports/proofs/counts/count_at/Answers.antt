@@ -1,18 +1,31 @@
--- `count_at` meets its contract.
-use Rattle.std.proofs.Common.{ℕ, ◌≡◌, ◌+◌, ◌∙◌, Bool, true, false, cond, eqb, refl, sym, arith, rules, count_by}
-use Rattle.std.proofs.lemmas.List.Recursion.{is_count_by}
-use Rattle.registers.specs.Registers.{count_at}
+-- `count_at` meets its contract: what is counted, and what is left to count.
+use Prim.Native.Nat.{ℕ, ◌+◌, ◌≤◌}
+use native.Mathlib.Omega.{arith}
+use mathlib.Core.Path.{◌≡◌, ap, ◌∙◌}
+use mathlib.Core.Bool.{Bool, true, false, cond}
+use lib.Dec.{eqb}
+use lib.ListN.{get_or}
+use Rattle.std.specs.Int.{from_bool}
+use Rattle.register_reports.proofs.Counting.{count_end, count_step}
 use Rattle.register_reports.proofs.counts.count_at.Goals as goal
 
 -- one more where a test passes
-counted_next : (b : Bool) (n : ℕ) → cond b 1 0 + n ≡ cond b (1 + n) n
-counted_next true n = refl
-counted_next false n = omega arith
+counted_on : (b : Bool) (n i all rest : ℕ) → n ≤ i → all ≡ n + (cond b 1 0 + rest) → (n + from_bool b ≤ i + 1) × (all ≡ n + from_bool b + rest)
+counted_on true n i all rest h e = (omega arith, omega arith)
+counted_on false n i all rest h e = (omega arith, omega arith)
+
+pub loop-register-init : goal.loop-register-init
+loop-register-init c = (omega arith, omega arith)
+
+pub loop-register-preserved : goal.loop-register-preserved
+loop-register-preserved c =
+    let a = c.args in
+    let l = c.loop-register in
+    let e = l.invariant.1 ∙ ap (λ n. l.count + n) (count_step a.value a.list.now l.register-index c.loop-register-test.true) in
+    rw c.from-count.ensures (counted_on (eqb (get_or a.list.now l.register-index 0) a.value) l.count l.register-index _ _ l.invariant.0 e)
 
 pub returns : goal.returns
-unfolding count_at
 returns c =
-    let xs = c.args.list.now in
-    let v = c.args.value in
-    let n : c.count.result ≡ count_by (λ x. eqb x v) xs = search rules in
-    n ∙ sym (is_count_by (count_at v) (λ x. eqb x v) refl (λ x ys. counted_next (eqb x v) (count_at v ys)) xs)
+    let a = c.args in
+    let e = count_end a.value a.list.now c.loop-register.register-index (omega arith) in
+    omega (arith, c.loop-register.invariant.1, e)
