@@ -16,7 +16,7 @@ TACTICS = re.compile(r'^ *#!?\[tactic\((.*?)\)\]$', re.M | re.S)
 PATH = re.compile(r'\w+(?:::\w+)+')
 CLAUSE = re.compile(r'^ *(?:requires|ensures) (?:\w+ )?(?=\{)', re.M)
 # the pages that say what names were
-HISTORY = ('docs/PORT.md', 'docs/DESIGN-PASS.md')
+HISTORY = ('docs/PORT.md', 'docs/DESIGN-PASS.md', 'docs/LOOK-BACK.md')
 # what is written of the proof of a function, in a folder with its name
 PROOFS = ('/Invariants.antt', '/Answers.antt', '/Proof.antt')
 
