@@ -136,7 +136,7 @@ fn derives(mark: &str, name: &str) -> bool {
     mark.split(|c| !is_word(c)).any(|word| word == name)
 }
 
-/// Whether the marks of a struct or enum are one list of derives, with Clone and Copy: what one that derives neither is moved by is not known here.
+/// Whether the marks of a struct or enum are one list of derives, with Clone and Copy among them. Nothing else is derived in the source.
 fn is_copied(mark: &str) -> bool {
     let is_one_list = mark.starts_with("#[derive(") && mark.find(']') == Some(mark.len() - 1);
     is_one_list && derives(mark, "Clone") && derives(mark, "Copy")

@@ -12,7 +12,7 @@ pub mod num {
 }
 
 /// Items of a slice moved, as `copy_within` moves them, without `memmove`: it would be one more function that a program without C's library has to bring.
-/// They go in parts that do not overlap where they go.
+/// They are moved part by part, and no part overlaps the place that it goes to.
 pub fn copy_within<T: Copy>(buf: &mut [T], moved: core::ops::Range<usize>, to: usize) {
     let (mut start, mut end) = (moved.start, moved.end);
     let apart = start.abs_diff(to);
